@@ -1,4 +1,5 @@
-//! What shuts the open leaves, where a network costs no more than any of them, or where they are refuted.
+//! What shuts the open leaves, where a network costs no more than any of them, or where they are
+//! refuted.
 ghost use Rattle.std.specs.Prelude.{◌≡◌, ◌<◌, ℕ, false, None, length, IfOk, Option, option_copied};
 ghost use Rattle.pns_rules.specs.Shape.{shape_of};
 ghost use Rattle.pns_rules.specs.Ends.{IsSound, IsReduced};
@@ -12,7 +13,7 @@ ghost use Rattle.abb_search.specs.Closing.{AreBeaten, IsShutBy, AreShutBy, IsInR
 
 use crate::growing::{Growing, StoppedLeaf, node_at, reaches};
 use branch_tree::{Multipliers, Network};
-use node_evaluation::{Bound, Evaluator, PastStop, Proof, Ready, Worth, Workspace};
+use node_evaluation::{Bound, Evaluator, PastStop, Proof, Ready, Workspace, Worth};
 use pgraph::Site;
 use search_tree::{Shut, copy_multipliers, copy_scaled};
 use std::alloc::{AllocError, Global};
@@ -23,7 +24,7 @@ use unit_sets::Node;
 pub enum Closing {
     /// What shuts each open leaf, by its number.
     Proved(Vec<Option<Shut>>),
-    /// A number is past the range at an open leaf of which it is settled what it is worth.
+    /// A number overflows at an open leaf of which it is settled what it is worth.
     Stopped(StoppedLeaf),
 }
 
@@ -32,7 +33,7 @@ pub enum Closing {
 enum Shutting {
     /// This shuts it, or nothing, where it is no open leaf.
     By(Option<Shut>),
-    /// A number is past the range there.
+    /// A number overflows there.
     Stopped(PastStop),
 }
 
@@ -46,8 +47,8 @@ fn is_in_range(proof: &Proof)
     }
 }
 
-/// What proves that a node is worth no less than the network's cost: the multipliers at hand where they reach it, else what the
-/// evaluator proves.
+/// What proves that a node is worth no less than the network's cost: the multipliers at hand where
+/// they reach it, else what the evaluator proves.
 fn proof_for<E: Evaluator>(
     workspace: &mut Workspace<E>,
     site: &Site<'_>,
@@ -138,7 +139,8 @@ fn shut_at<E: Evaluator>(
     }
 }
 
-/// What shuts each open leaf; or the first of them at which a number is past the range. `Err` comes for want of memory alone.
+/// What shuts each open leaf; or the first of them at which a number overflows. `Err` comes when
+/// memory is refused.
 pub fn close_all<E: Evaluator>(
     workspace: &mut Workspace<E>,
     site: &Site<'_>,
@@ -209,8 +211,8 @@ fn refute(alloc: Global, ys: Option<&Multipliers>) -> Result<Option<Shut>, Alloc
     }
 }
 
-/// What shuts the open leaves that are refuted, by their numbers. It takes memory only where there are some; `Err` comes for want of it
-/// alone.
+/// What shuts the open leaves that are refuted, by their numbers. It takes memory only where there
+/// are some; `Err` comes when it is refused.
 pub fn shut_refuted(alloc: Global, growing: &Growing) -> Result<Vec<Option<Shut>>, AllocError>
     requires { growing.now.nodes ≡ length growing.now.pool.payloads }
     ensures { IfOk result (λ proofs. RefutedShut growing.now proofs.items) }

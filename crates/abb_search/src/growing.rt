@@ -23,7 +23,8 @@ use branch_choice::Choice;
 use branch_tree::{End, Network};
 use mixed_numbers::Mixed;
 use node_evaluation::{
-    Evaluator, Interval, PastStop, Ready, StoppedAt, Worth, cheaper, look_at_children, Workspace};
+    Evaluator, Interval, PastStop, Ready, StoppedAt, Workspace, Worth, cheaper, look_at_children,
+};
 use node_pool::Pool;
 use pgraph::Site;
 use search_tree::{Cell, branch};
@@ -31,15 +32,15 @@ use slab::Slab;
 use std::alloc::{AllocError, Global};
 use unit_sets::Node;
 
-/// An open leaf at which a number is past the range.
+/// An open leaf at which a number overflows.
 #[derive(Drop)]
 pub struct StoppedLeaf {
     pub leaf: u32,
     pub stop: PastStop,
 }
 
-/// A search: where it starts, how many nodes it may take, its nodes, what is at hand for each that is an open leaf, the cheapest
-/// network that it found, and the leaf that stops it.
+/// A search: where it starts, how many nodes it may take, its nodes, what is at hand for each that
+/// is an open leaf, the cheapest network that it found, and the leaf that stops it.
 #[derive(Drop)]
 pub struct Growing {
     pub start: Node,
@@ -130,7 +131,7 @@ pub(crate) fn key_at(pool: &Pool<Cell>, leaf: u32) -> usize
     pool.payload(leaf).key
 }
 
-/// The interval that a least cost lies in, where it is settled that this is past the range.
+/// The interval that a least cost lies in, where it is settled that this overflows.
 fn interval_in(worth: &Worth) -> Option<&Interval>
     ensures { option_copied result ≡ interval_in worth.now }
 {
@@ -140,7 +141,8 @@ fn interval_in(worth: &Worth) -> Option<&Interval>
     }
 }
 
-/// The interval that the least cost of an open leaf lies in, where it is settled that this is past the range.
+/// The interval that the least cost of an open leaf lies in, where it is settled that this
+/// overflows.
 fn interval_at(growing: &Growing, leaf: u32) -> Option<&Interval>
     requires { leaf < length growing.now.pool.payloads }
     ensures { option_copied result ≡ interval_of (ready_at growing.now leaf) }
@@ -149,7 +151,8 @@ fn interval_at(growing: &Growing, leaf: u32) -> Option<&Interval>
     interval_in(&ready.worth)
 }
 
-/// What some relaxed flows of an open leaf cost at most, where it is settled what it is worth: its value, or what the interval reaches.
+/// What some relaxed flows of an open leaf cost at most, where it is settled what it is worth: its
+/// value, or what the interval reaches.
 pub fn reached_at(growing: &Growing, leaf: u32) -> Mixed
     requires { leaf < length growing.now.pool.payloads }
     ensures { IsReachedAt growing.now leaf result }
@@ -162,8 +165,8 @@ pub fn reached_at(growing: &Growing, leaf: u32) -> Mixed
     }
 }
 
-/// Whether the open leaf of least value, where it is settled what it is worth, has relaxed flows that cost at most any other open leaf's
-/// value: it has, but where its least cost is past the range.
+/// Whether the open leaf of least value, where it is settled what it is worth, has relaxed flows
+/// that cost at most any other open leaf's value: it has, but where its least cost overflows.
 pub fn leads(growing: &Growing, leaf: u32) -> bool
     requires { first growing.now.pool.leaves ≡ Some leaf }
     ensures least { result ≡ true → IsLeastLeaf growing.now leaf }
@@ -180,7 +183,7 @@ pub fn leads(growing: &Growing, leaf: u32) -> bool
     }
 }
 
-/// Where the path of a leaf stops, where its least cost is past the range.
+/// Where the path of a leaf stops, where its least cost overflows.
 fn stop_in(leaf: u32, interval: Option<Interval>) -> Option<StoppedLeaf>
     ensures { result ≡ interval_stop leaf interval }
 {
@@ -193,7 +196,8 @@ fn stop_in(leaf: u32, interval: Option<Interval>) -> Option<StoppedLeaf>
     }
 }
 
-/// Takes out where the path of an open leaf stops, where its least cost is past the range. What is at hand for it is then gone.
+/// Takes out where the path of an open leaf stops, where its least cost overflows. What is at hand
+/// for it is then gone.
 pub fn take_stop(growing: &mut Growing, leaf: u32) -> Option<StoppedLeaf>
     requires { leaf < length growing.old.pool.payloads }
     ensures stop { result ≡ interval_stop leaf (interval_of (ready_at growing.old leaf)) }
@@ -240,8 +244,8 @@ pub fn node_at(pool: &Pool<Cell>, leaf: u32) -> Node
     pool.payload(leaf).node
 }
 
-/// Branches an open leaf. The answer is the network that was found at each child, where `all` are asked for. After `Err`, which comes
-/// for want of memory alone, the tree is as before.
+/// Branches an open leaf. The answer is the network that was found at each child, where `all` are
+/// asked for. After `Err`, which comes when memory is refused, the tree is as before.
 pub fn branch_leaf<E: Evaluator>(
     workspace: &mut Workspace<E>,
     site: &Site<'_>,

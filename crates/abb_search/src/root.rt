@@ -12,7 +12,7 @@ use crate::growing::{Growing, StoppedLeaf};
 use crate::hand::place;
 use branch_tree::{Network, Steps};
 use mixed_numbers::Mixed;
-use node_evaluation::{Evaluator, PastStop, cheaper, look, open_cell, Workspace};
+use node_evaluation::{Evaluator, PastStop, Workspace, cheaper, look, open_cell};
 use node_pool::Pool;
 use pgraph::Site;
 use search_tree::{Cell, Fresh};
@@ -92,7 +92,8 @@ fn root_stop(stop: Option<PastStop>) -> Option<StoppedLeaf>
     }
 }
 
-/// The root after the steps that are possible there. `best` is the network that is to be undercut, if there is one.
+/// The root after the steps that are possible there. `best` is the network that is to be undercut,
+/// if there is one.
 pub fn look_at_root<E: Evaluator>(
     workspace: &mut Workspace<E>,
     site: &Site<'_>,
@@ -109,11 +110,7 @@ pub fn look_at_root<E: Evaluator>(
     ensures makers { workspace.new.makers.makers ≡ workspace.old.makers.makers }
 {
     let node = copy_of(&start);
-    let looked = look(
-        workspace, site,
-        UnitSet::empty(),
-        node,
-    )?;
+    let looked = look(workspace, site, UnitSet::empty(), node)?;
     let mut ready = Slab::new(workspace.alloc);
     ready.reserve(1)?;
     let fresh = Fresh {

@@ -1,4 +1,5 @@
-//! Rounds, which settle what open leaves are worth until it stands which leaf is branched next, or how the search ends.
+//! Rounds, which settle what open leaves are worth until it stands which leaf is branched next, or
+//! how the search ends.
 ghost use Rattle.std.specs.Prelude.{◌≡◌, ◌↔◌, ◌<◌, ◌+◌, IsTrue, IfOk, option_copied, length};
 ghost use Rattle.link_lists.specs.Lists.{first};
 ghost use Rattle.pns_rules.specs.Shape.{shape_of};
@@ -33,14 +34,14 @@ pub enum Goal<'a> {
 pub enum Ending {
     /// This shuts each leaf that is open, by its number.
     Whole(Vec<Option<Shut>>),
-    /// The leaf would be branched next, into too many children. It is settled what each open leaf is
-    /// worth, and this shuts those that are refuted, by their numbers.
+    /// The leaf would be branched next, into too many children. It is settled what each open leaf
+    /// is worth, and this shuts those that are refuted, by their numbers.
     Spent {
         leaf: u32,
         options: u128,
         refuted: Vec<Option<Shut>>,
     },
-    /// A number is past the range at an open leaf.
+    /// A number overflows at an open leaf.
     Past(StoppedLeaf),
 }
 
@@ -49,8 +50,8 @@ pub enum Ending {
 pub enum Next {
     /// Branches this leaf.
     Branch(u32),
-    /// Stops at this leaf, whose least cost is past the range, and which may be dearer than another
-    /// one or what is to be undercut.
+    /// Stops at this leaf, whose least cost overflows, and which may be dearer than another one or
+    /// what is to be undercut.
     Stop(u32),
     /// Ends the search.
     End(Ending),
@@ -93,7 +94,7 @@ impl<'a> Goal<'a> {
     }
 }
 
-/// The search ends at a leaf where a number is past the range as it is settled.
+/// The search ends at a leaf where a number overflows as it is settled.
 fn ends_at(stopped: Option<StoppedLeaf>) -> Option<Next>
     ensures { result ≡ ends_at stopped }
 {
@@ -159,9 +160,7 @@ fn branch_least<E: Evaluator>(
     let choice = choice_at(growing, leaf);
     let options = choice.options();
     if is_over(options, growing.nodes, growing.budget) {
-        return spend(
-            workspace, site, growing, goal, leaf, options,
-        );
+        return spend(workspace, site, growing, goal, leaf, options);
     }
     Ok(Some(Next::Branch(leaf)))
 }
@@ -192,9 +191,9 @@ fn close<E: Evaluator>(
     Ok(Some(closing))
 }
 
-/// Ends the search where all open leaves are shut. A leaf that can't be, since a number is past the
-/// range there, is branched where it has relaxed flows that cost just as much as what is to be
-/// undercut, and else the search ends there.
+/// Ends the search where all open leaves are shut. A leaf that can't be, since a number overflows
+/// there, is branched where it has relaxed flows that cost just as much as what is to be undercut,
+/// and else the search ends there.
 fn after_closing<E: Evaluator>(
     workspace: &mut Workspace<E>,
     site: &Site<'_>,
@@ -224,8 +223,8 @@ fn after_closing<E: Evaluator>(
 }
 
 /// Branches the leaf of least value, of which it is settled what it is worth; or the search stops
-/// there, since its least cost is past the range, and it may be dearer than another one or what is to
-/// be undercut. Where it may be dearer than the leaf behind it, it is settled first what that is
+/// there, since its least cost overflows, and it may be dearer than another one or what is to be
+/// undercut. Where it may be dearer than the leaf behind it, it is settled first what that is
 /// worth.
 fn take_least<E: Evaluator>(
     workspace: &mut Workspace<E>,
@@ -260,8 +259,7 @@ fn take_least<E: Evaluator>(
 /// Takes a round at the leaf of least value: it is settled what that is worth, or it stands what
 /// comes next. Where the network that is to be undercut costs no more than that value, all open
 /// leaves are shut. No leaf stops the search but that of least value, where it may not be branched
-/// since its least cost is past the range, or one at which a number is past the range as it is
-/// settled or shut.
+/// since its least cost overflows, or one at which a number overflows as it is settled or shut.
 fn round<E: Evaluator>(
     workspace: &mut Workspace<E>,
     site: &Site<'_>,
@@ -292,7 +290,7 @@ fn round<E: Evaluator>(
 }
 
 /// Takes rounds until it stands what comes next. Each round but the last leaves fewer leaves of
-/// which it is not settled what they are worth. `Err` comes for want of memory alone.
+/// which it is not settled what they are worth. `Err` comes when memory is refused.
 pub fn next_leaf<E: Evaluator>(
     workspace: &mut Workspace<E>,
     site: &Site<'_>,

@@ -38,8 +38,9 @@ fn run<E: Evaluator>(workspace: &mut Workspace<E>, site: &Site<'_>, root: Growin
     }
 }
 
-/// Searches the structures of the family of a node for one whose flows are cheapest, or cheaper than those of the network `best`,
-/// where one is handed in: then what is found is that network or a cheaper one.
+/// Searches the structures of the family of a node for one whose flows are cheapest, or cheaper
+/// than those of the network `best`, where one is handed in: then what is found is that network or
+/// a cheaper one.
 pub fn search_with<E: Evaluator>(
     workspace: &mut Workspace<E>,
     site: &Site<'_>,

@@ -1,4 +1,5 @@
-//! What open leaves are worth is settled: when a leaf is to be branched, and before a search ends whose budget is spent.
+//! What open leaves are worth is settled: when a leaf is to be branched, and before a search ends
+//! whose budget is spent.
 ghost use Rattle.std.specs.Prelude.{◌≡◌, ◌<◌, true, IfOk, IfSome, IfNone, Option, length};
 ghost use Rattle.pns_rules.specs.Shape.{shape_of};
 ghost use Rattle.pgraph.specs.View.{node_of};
@@ -13,7 +14,7 @@ ghost use Rattle.abb_search.specs.Settling.{is_waiting, AreSettled, SettleHolds,
 use crate::closing::hand_at;
 use crate::growing::{Growing, StoppedLeaf, key_at, node_at};
 use crate::hand::put_worth;
-use node_evaluation::{Evaluator, Settling, Worth, settle, Workspace};
+use node_evaluation::{Evaluator, Settling, Workspace, Worth, settle};
 use pgraph::Site;
 use search_tree::copy_multipliers;
 use std::alloc::{AllocError, Global};
@@ -61,7 +62,8 @@ fn is_put_off(growing: &Growing, leaf: u32) -> bool
     }
 }
 
-/// The leaf behind that of least value in the order of the pool's open leaves, where it is not settled what that is worth.
+/// The leaf behind that of least value in the order of the pool's open leaves, where it is not
+/// settled what that is worth.
 pub fn next_waiting(growing: &Growing) -> Option<u32>
     ensures { IfSome result (λ leaf. is_waiting growing.now leaf ≡ true) }
 {
@@ -91,7 +93,8 @@ pub fn first_put_off(growing: &Growing) -> Option<u32>
     None
 }
 
-/// What an open leaf is worth: it is settled now, from what its first look told, or it is refuted already.
+/// What an open leaf is worth: it is settled now, from what its first look told, or it is refuted
+/// already.
 fn settling_at<E: Evaluator>(
     workspace: &mut Workspace<E>,
     site: &Site<'_>,
@@ -121,8 +124,9 @@ fn settling_at<E: Evaluator>(
     }
 }
 
-/// Settles what an open leaf is worth. Its value may rise then, and where it turns out to have no relaxed flows, it leaves the pool, and
-/// its cell stays open. The answer is where a number is past the range there. `Err` comes for want of memory alone.
+/// Settles what an open leaf is worth. Its value may rise then, and where it turns out to have no
+/// relaxed flows, it leaves the pool, and its cell stays open. The answer is where a number
+/// overflows there. `Err` comes when memory is refused.
 pub fn settle_leaf<E: Evaluator>(
     workspace: &mut Workspace<E>,
     site: &Site<'_>,
@@ -163,7 +167,8 @@ pub fn settle_leaf<E: Evaluator>(
     }
 }
 
-/// Settles a node where it is an open leaf of which a lower bound is all that is known, as [`settle_leaf`] does.
+/// Settles a node where it is an open leaf of which a lower bound is all that is known, as
+/// [`settle_leaf`] does.
 fn settle_put_off<E: Evaluator>(
     workspace: &mut Workspace<E>,
     site: &Site<'_>,
@@ -185,8 +190,9 @@ fn settle_put_off<E: Evaluator>(
     }
 }
 
-/// Settles an open leaf, and each one behind it in the order of adding of which a lower bound is all that is known, in one pass. It ends
-/// at the first of them at which a number is past the range, which is the answer. `Err` comes for want of memory alone.
+/// Settles an open leaf, and each one behind it in the order of adding of which a lower bound is
+/// all that is known, in one pass. It ends at the first of them at which a number overflows, which
+/// is the answer. `Err` comes when memory is refused.
 pub fn settle_from<E: Evaluator>(
     workspace: &mut Workspace<E>,
     site: &Site<'_>,

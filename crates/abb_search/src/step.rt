@@ -16,11 +16,11 @@ use crate::growing::{Growing, branch_leaf, choice_at, node_at, stopped_leaf, tak
 use crate::outcome::Found;
 use crate::root::look_at_root;
 use crate::rounds::{Ending, Goal, Next, next_leaf};
-use node_evaluation::{Evaluator, copy_of_network, Workspace};
+use node_evaluation::{Evaluator, Workspace, copy_of_network};
 use pgraph::Site;
 use std::alloc::{AllocError, Global};
 
-/// Branches the leaf that comes next. After `Err`, which comes for want of memory alone, the tree is
+/// Branches the leaf that comes next. After `Err`, which comes when memory is refused, the tree is
 /// as before.
 fn branch_next<E: Evaluator>(
     workspace: &mut Workspace<E>,
@@ -42,14 +42,12 @@ fn branch_next<E: Evaluator>(
     growing.pool.is_pool();
     let choice = choice_at(growing, leaf);
     let node = node_at(&growing.pool, leaf);
-    branch_leaf(
-        workspace, site, growing, leaf, node, choice, false,
-    )?;
+    branch_leaf(workspace, site, growing, leaf, node, choice, false)?;
     Ok(())
 }
 
-/// What is found where the search stops at a leaf, since its least cost is past the range. After
-/// `Err`, which comes for want of memory alone, the tree is as before.
+/// What is found where the search stops at a leaf, since its least cost overflows. After `Err`,
+/// which comes when memory is refused, the tree is as before.
 fn stop_there<E: Evaluator>(
     alloc: Global,
     site: &Site<'_>,
@@ -68,7 +66,7 @@ fn stop_there<E: Evaluator>(
     Ok(past_found(growing.best.take(), stop, placed))
 }
 
-/// What is found where the search ends so. After `Err`, which comes for want of memory alone, the
+/// What is found where the search ends so. After `Err`, which comes when memory is refused, the
 /// tree is as before.
 fn found_by<E: Evaluator>(
     alloc: Global,
@@ -132,7 +130,8 @@ fn go_on<E: Evaluator>(
     }
 }
 
-/// Makes the nodes more, or tells what is found. After `Err`, which comes for want of memory alone, the tree is as before.
+/// Makes the nodes more, or tells what is found. After `Err`, which comes when memory is refused,
+/// the tree is as before.
 pub(crate) fn step<E: Evaluator>(
     workspace: &mut Workspace<E>,
     site: &Site<'_>,
@@ -153,8 +152,8 @@ pub(crate) fn step<E: Evaluator>(
     Ok(past_found(growing.best.take(), growing.stop.take(), placed))
 }
 
-/// Takes a search so far that its nodes are more, or to its end; before the first turn the root is not looked at yet. After `Err`, which
-/// comes for want of memory alone, the tree is as before.
+/// Takes a search so far that its nodes are more, or to its end; before the first turn the root is
+/// not looked at yet. After `Err`, which comes when memory is refused, the tree is as before.
 pub(crate) fn take_turn<E: Evaluator>(
     workspace: &mut Workspace<E>,
     site: &Site<'_>,
@@ -175,7 +174,8 @@ pub(crate) fn take_turn<E: Evaluator>(
         return step(workspace, site, growing);
     }
     let mut root = look_at_root(
-        workspace, site,
+        workspace,
+        site,
         growing.start,
         growing.budget,
         copy_of_network(workspace.alloc, &growing.best)?,

@@ -22,7 +22,8 @@ use std::alloc::{AllocError, Global};
 use std::marker::Model;
 use unit_sets::Node;
 
-/// A search of the structures of the family of a node for one whose flows are cheapest. It always takes an open leaf of least value.
+/// A search of the structures of the family of a node for one whose flows are cheapest. It always
+/// takes an open leaf of least value.
 #[derive(Drop)]
 pub struct SearchWith<'a, E: Evaluator> {
     site: Site<'a>,
@@ -50,7 +51,8 @@ impl<'a, E: Evaluator> Model for SearchWith<'a, E> {
 }
 
 impl<'a, E: Evaluator + Drop> SearchWith<'a, E> {
-    /// A search before its first turn, for a network that is cheaper than `best`, where there is one.
+    /// A search before its first turn, for a network that is cheaper than `best`, where there is
+    /// one.
     pub fn open_with(
         workspace: Workspace<E>,
         site: Site<'a>,
@@ -63,7 +65,7 @@ impl<'a, E: Evaluator + Drop> SearchWith<'a, E> {
         requires sound { IsSound (shape_of site) (node_of start) }
         requires some { 1 ≤ budget }
         requires passes { ClaimPasses true site (claim_with best) }
-        ensures { IfOk result (λ s. s ≡ opened site start budget best) }
+        ensures { IfOk result (λ s. s ≡ opened site.entry start budget best) }
     {
         is_sized(&best);
         let growing = open_root(workspace.alloc, start, budget, best)?;
@@ -76,7 +78,8 @@ impl<'a, E: Evaluator + Drop> SearchWith<'a, E> {
         })
     }
 
-    /// Takes the search so far that its nodes are more, or to its end. It takes all its memory before it changes a node.
+    /// Takes the search so far that its nodes are more, or to its end. It takes all its memory
+    /// before it changes a node.
     pub fn turn(&mut self) -> Turn
         requires { self.old.ended ≡ false }
         ensures { TurnHolds E.past self.old self.new result }
@@ -114,7 +117,8 @@ impl<'a, E: Evaluator + Drop> SearchWith<'a, E> {
         self.ended
     }
 
-    /// The cheapest network that was found or handed in, none only where no leaf of the tree is bounded.
+    /// The cheapest network that was found or handed in, none only where no leaf of the tree is
+    /// bounded.
     pub fn best(&self) -> Option<&Network>
         requires { self.now.ended ≡ false }
         ensures best { option_copied result ≡ self.now.best }

@@ -29,7 +29,8 @@ pub type Search<'a> = SearchWith<'a, FlowEvaluator>;
 /// What such searches work with.
 pub type FlowWorkspace = Workspace<FlowEvaluator>;
 
-/// A workspace over the site, whose evaluator bounds nodes by the simplex method. `Err` comes when memory is refused.
+/// A workspace over the site, whose evaluator bounds nodes by the simplex method. `Err` comes when
+/// memory is refused.
 pub fn workspace_of(alloc: Global, site: &Site<'_>) -> Result<FlowWorkspace, AllocError>
     ensures own { IfOk result (λ w. IsFor site.now w.evaluator) }
     ensures makers { IfOk result (λ w. AreMakersOf (shape_of site.now) w.makers.makers) }
@@ -39,7 +40,8 @@ pub fn workspace_of(alloc: Global, site: &Site<'_>) -> Result<FlowWorkspace, All
 }
 
 impl<'a> SearchWith<'a, FlowEvaluator> {
-    /// A search before its first turn, for a network that is cheaper than `best`, where there is one.
+    /// A search before its first turn, for a network that is cheaper than `best`, where there is
+    /// one.
     fn open_at(
         alloc: Global,
         site: Site<'a>,
@@ -50,13 +52,14 @@ impl<'a> SearchWith<'a, FlowEvaluator> {
         requires sound { IsSound (shape_of site) (node_of start) }
         requires some { 1 ≤ budget }
         requires passes { ClaimPasses true site (claim_with best) }
-        ensures { IfOk result (λ s. s ≡ opened site start budget best) }
+        ensures { IfOk result (λ s. s ≡ opened site.entry start budget best) }
     {
         let workspace = workspace_of(alloc, &site)?;
         SearchWith::open_with(workspace, site, start, budget, best)
     }
 
-    /// A search before its first turn, whose nodes are bounded by the simplex method. The graph is that of the problem.
+    /// A search before its first turn, whose nodes are bounded by the simplex method. The graph is
+    /// that of the problem.
     pub fn open(
         alloc: Global,
         problem: &'a Problem,
@@ -72,8 +75,8 @@ impl<'a> SearchWith<'a, FlowEvaluator> {
         Search::open_at(alloc, Site::of(problem, graph), start, budget, None)
     }
 
-    /// A search before its first turn for a network that is cheaper than the one that is handed in, which passes as a claim. What
-    /// it finds in the end is that network or a cheaper one.
+    /// A search before its first turn for a network that is cheaper than the one that is handed in,
+    /// which passes as a claim. What it finds in the end is that network or a cheaper one.
     pub fn open_against(
         alloc: Global,
         problem: &'a Problem,
@@ -118,7 +121,8 @@ fn search_at(
     }
 }
 
-/// Searches the structures of the family of a node for one whose flows are cheapest: what the turns of a [`Search`] find.
+/// Searches the structures of the family of a node for one whose flows are cheapest: what the turns
+/// of a [`Search`] find.
 pub fn search(alloc: Global, problem: &Problem, graph: &Graph, start: Node, budget: u32) -> Found
     requires graph { shape graph.now ≡ shape_of problem.now }
     requires sound { IsSound (shape_of problem.now) (node_of start) }
@@ -128,8 +132,9 @@ pub fn search(alloc: Global, problem: &Problem, graph: &Graph, start: Node, budg
     search_at(alloc, &Site::of(problem, graph), start, budget, None)
 }
 
-/// Searches the structures of the family of a node for one whose flows are cheaper than those of the network that is handed in, which
-/// passes as a claim: what the turns of a [`Search`] find that is opened against it. What is found is that network or a cheaper one.
+/// Searches the structures of the family of a node for one whose flows are cheaper than those of
+/// the network that is handed in, which passes as a claim: what the turns of a [`Search`] find that
+/// is opened against it. What is found is that network or a cheaper one.
 pub fn search_against(
     alloc: Global,
     problem: &Problem,

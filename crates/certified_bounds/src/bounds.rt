@@ -24,7 +24,8 @@ use std::alloc::{AllocError, Global};
 use std::marker::Model;
 use unit_sets::Node;
 
-/// Values the nodes of a problem by guesses that are judged exactly. Contracts see the common divisors of the problem's numbers.
+/// Values the nodes of a problem by guesses that are judged exactly. Contracts see the common
+/// divisors of the problem's numbers.
 #[derive(Drop)]
 pub struct CertifiedBounds {
     scales: Scales,
@@ -50,8 +51,8 @@ impl CertifiedBounds {
         Ok(CertifiedBounds { scales, proposals })
     }
 
-    /// Goes over to the nodes of another problem with as many units and materials, and takes no new room for them. `Err` comes when
-    /// memory is refused.
+    /// Goes over to the nodes of another problem with as many units and materials, and takes no new
+    /// room for them. `Err` comes when memory is refused.
     pub fn rebind(&mut self, alloc: Global, site: &Site<'_>) -> Result<(), AllocError>
         ensures { OnOk result (AreDivisors (net_of site.now) self.new) }
     {
@@ -62,8 +63,9 @@ impl CertifiedBounds {
         Ok(())
     }
 
-    /// Tells a cost that no relaxed flows of the node undercut, and does not find the least: short multipliers of a guess prove it. It
-    /// takes no memory but for what it hands out, and `Err` comes when that is refused.
+    /// Tells a cost that no relaxed flows of the node undercut, and does not find the least: short
+    /// multipliers of a guess prove it. It takes no memory but for what it hands out, and `Err`
+    /// comes when that is refused.
     pub fn look_first(
         &mut self,
         alloc: Global,
@@ -81,8 +83,8 @@ impl CertifiedBounds {
         }
     }
 
-    /// Tells what the node is worth; `decided` tells whether all is decided there. It takes no memory but for what it hands out, and
-    /// `Err` comes when that is refused.
+    /// Tells what the node is worth; `decided` tells whether all is decided there. It takes no
+    /// memory but for what it hands out, and `Err` comes when that is refused.
     pub fn look(
         &mut self,
         alloc: Global,
@@ -121,8 +123,8 @@ impl CertifiedBounds {
         self.judged(alloc, site, node, decided, proposed)
     }
 
-    /// Tells what a node is worth that a first look bounded: the basis that it guessed is solved. It takes no memory but for what it hands
-    /// out, and `Err` comes when that is refused.
+    /// Tells what a node is worth that a first look bounded: the basis that it guessed is solved.
+    /// It takes no memory but for what it hands out, and `Err` comes when that is refused.
     pub fn settle(
         &mut self,
         alloc: Global,
@@ -182,8 +184,8 @@ impl CertifiedBounds {
         least_value(problem, graph, &self.scales, *node, &guessed)
     }
 
-    /// Two costs between which the least cost of relaxed flows of the node lies, where they are found. It takes no memory but for what it
-    /// hands out, and `Err` comes when that is refused.
+    /// Two costs between which the least cost of relaxed flows of the node lies, where they are
+    /// found. It takes no memory but for what it hands out, and `Err` comes when that is refused.
     pub fn between(
         &mut self,
         alloc: Global,
@@ -201,7 +203,8 @@ impl CertifiedBounds {
         low_to(alloc, site, &node, &mut self.proposals, reached)
     }
 
-    /// What some flows of the node cost: least ones, where their numbers have room, or ones in short numbers.
+    /// What some flows of the node cost: least ones, where their numbers have room, or ones in
+    /// short numbers.
     fn cost_of_flows(&mut self, site: &Site<'_>, node: &Node) -> Option<Mixed>
         requires own { AreDivisors (net_of site.now) self.old }
         requires sound { IsSound (shape_of site.now) (node_of node.now) }
@@ -245,8 +248,9 @@ impl CertifiedBounds {
         cost_of_sizes(problem, graph, &self.scales, *node, sizes, d)
     }
 
-    /// Multipliers that prove that no relaxed flows of the node cost less than the cost over `d`, where they are found. It takes no
-    /// memory but for what it hands out, and `Err` comes when that is refused.
+    /// Multipliers that prove that no relaxed flows of the node cost less than the cost over `d`,
+    /// where they are found. It takes no memory but for what it hands out, and `Err` comes when
+    /// that is refused.
     pub fn prove(
         &mut self,
         alloc: Global,
@@ -267,8 +271,9 @@ impl CertifiedBounds {
         }
     }
 
-    /// The size of each unit that is not left out at the node for which flows were found or guessed last, in rising order and in whole
-    /// millionths. A guide for the choice of a branch: nothing rests on it.
+    /// The size of each unit that is not left out at the node for which flows were found or guessed
+    /// last, in rising order and in whole millionths. A guide for the choice of a branch: nothing
+    /// rests on it.
     pub fn sizes(&self) -> &[i64] {
         self.proposals.whole_sizes()
     }

@@ -30,8 +30,9 @@ use std::marker::Model;
 use structure_flows::{allowed_is_decided, node_of};
 use unit_sets::{Node, UnitSet};
 
-/// Values node after node: by a guess that is judged exactly, and where that tells nothing, by the path of the node's program; and where
-/// that stops, by two costs between which the least cost lies.
+/// Values node after node: by a guess that is judged exactly, and where that tells nothing, by the
+/// path of the node's program; and where that stops, by two costs between which the least cost
+/// lies.
 #[derive(Drop)]
 pub struct FlowEvaluator {
     certified: CertifiedBounds,
@@ -80,8 +81,8 @@ fn evaluate_on(
     }
 }
 
-/// Walks the path of the program of a node that has relaxed flows, and tells what proves that none cost less than what the node is
-/// worth.
+/// Walks the path of the program of a node that has relaxed flows, and tells what proves that none
+/// cost less than what the node is worth.
 fn prove_on(
     alloc: Global,
     site: &Site<'_>,
@@ -133,8 +134,9 @@ impl FlowEvaluator {
         self.units == problem.units().len() && self.materials == problem.materials().len()
     }
 
-    /// The structure of the node's family whose flows are to be tried: one whose free units owe nothing, so that its flows cost what the
-    /// node is worth; and until a network was told, and then at one node in 32, any.
+    /// The structure of the node's family whose flows are to be tried: one whose free units owe
+    /// nothing, so that its flows cost what the node is worth; and until a network was told, and
+    /// then at one node in 32, any.
     fn structure_to_try(&self, site: &Site<'_>, node: &Node) -> Option<UnitSet>
         requires sound { IsSound (shape_of site.now) (node_of node.now) }
         ensures { IfSome result (λ s. InFamily (shape_of site.now) (has node.now.inside) (has node.now.outside) (has s)) }
@@ -198,7 +200,8 @@ impl FlowEvaluator {
         Ok(evaluation_of(told))
     }
 
-    /// What is told of the node without its path and without a guess, at the basis that was noted at its first look, if anything.
+    /// What is told of the node without its path and without a guess, at the basis that was noted
+    /// at its first look, if anything.
     fn certify_noted(
         &mut self,
         alloc: Global,
@@ -216,8 +219,8 @@ impl FlowEvaluator {
         Ok(evaluation_of(told))
     }
 
-    /// What the path of a node tells; where it stops and not all is decided, two costs between which the least cost lies, if they are
-    /// found.
+    /// What the path of a node tells; where it stops and not all is decided, two costs between
+    /// which the least cost lies, if they are found.
     fn with_between(
         &mut self,
         alloc: Global,

@@ -33,9 +33,9 @@ pub struct StoppedAt {
     pub stop: PastStop,
 }
 
-/// The children of a node in the order of their options, with what is at hand for each; the cheapest network that was found among
-/// them; the network that was found at each, where all are asked for; and the first child that stops the search. Those behind it are
-/// not looked at.
+/// The children of a node in the order of their options, with what is at hand for each; the
+/// cheapest network that was found among them; the network that was found at each, where all are
+/// asked for; and the first child that stops the search. Those behind it are not looked at.
 #[derive(Drop)]
 pub struct Children {
     pub nodes: Vec<Fresh>,
@@ -190,7 +190,8 @@ fn with_best(children: Children, at_hand: Option<Network>) -> Children
     children
 }
 
-/// The network at hand at a child, where it is a leaf that stays open. None is asked for where the networks of all leaves are.
+/// The network at hand at a child, where it is a leaf that stays open. None is asked for where the
+/// networks of all leaves are.
 fn network_at_hand<E: Evaluator>(
     workspace: &mut Workspace<E>,
     site: &Site<'_>,

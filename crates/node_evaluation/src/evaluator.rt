@@ -13,14 +13,15 @@ use pgraph::Site;
 use std::alloc::{AllocError, Global};
 use unit_sets::Node;
 
-/// The columns outside a basis, and the place where a number is past the range.
+/// The columns outside a basis, and the place where a number overflows.
 #[derive(Drop)]
 pub struct PastStop {
     pub nonbasic: Columns,
     pub place: Place,
 }
 
-/// What is known of a node whose least cost is past the range: what some relaxed flows of it cost at most, and where its path stops.
+/// What is known of a node whose least cost overflows: what some relaxed flows of it cost at most,
+/// and where its path stops.
 #[derive(Drop)]
 pub struct Interval {
     pub reached: Mixed,
@@ -32,7 +33,8 @@ pub struct Interval {
 pub struct LowerBound {
     pub low: Mixed,
     pub scaled: Scaled,
-    /// Where to begin when the worth of the node is settled, as the evaluator noted it: nothing rests on it.
+    /// Where to begin when the worth of the node is settled, as the evaluator noted it: nothing
+    /// rests on it.
     pub basis: Vec<u16>,
 }
 
@@ -47,8 +49,8 @@ pub enum FirstLook {
     Nothing,
 }
 
-/// The least cost of relaxed flows, or where an interval stands, a cost that none undercut; and multipliers over their scale, which prove
-/// that no relaxed flows cost less than `low`.
+/// The least cost of relaxed flows, or where an interval stands, a cost that none undercut; and
+/// multipliers over their scale, which prove that no relaxed flows cost less than `low`.
 #[derive(Drop)]
 pub struct Bound {
     pub value: Mixed,
@@ -62,11 +64,12 @@ pub struct Bound {
 pub enum Evaluation {
     /// The node has relaxed flows, and is worth this much.
     Least(Bound),
-    /// All is decided at the node, and the network of its units costs just the value, which `low` reaches.
+    /// All is decided at the node, and the network of its units costs just the value, which `low`
+    /// reaches.
     Flows(Bound, Network),
     /// The node has no relaxed flows.
     Refuted(Multipliers),
-    /// A number is past the range.
+    /// A number overflows.
     Stopped(PastStop),
 }
 
@@ -75,11 +78,12 @@ pub enum Evaluation {
 pub enum Proof {
     /// Multipliers over their scale that prove so.
     Scaled(Scaled),
-    /// A number is past the range.
+    /// A number overflows.
     Stopped(PastStop),
 }
 
-/// Tells what the nodes of a problem are worth. `Err` of each call comes when memory is refused, and only then.
+/// Tells what the nodes of a problem are worth. `Err` of each call comes when memory is refused,
+/// and only then.
 pub trait Evaluator {
     ghost past: { PastPlaces };
 
@@ -90,7 +94,8 @@ pub trait Evaluator {
     fn rebind(&mut self, alloc: Global, site: &Site<'_>) -> Result<(), AllocError>
         ensures { OnOk result (values site.now self.new) };
 
-    /// Bounds a node that no step changes any more and at which not all is decided, and does not find what it is worth.
+    /// Bounds a node that no step changes any more and at which not all is decided, and does not
+    /// find what it is worth.
     fn look_first(
         &mut self,
         alloc: Global,
@@ -117,7 +122,8 @@ pub trait Evaluator {
         ensures evaluated { IfOk result (IsEvaluated past site.now (node_of node) false) }
         ensures own { values site.now self.new };
 
-    /// Evaluates a node that no step changes any more; `decided` tells whether all is decided there.
+    /// Evaluates a node that no step changes any more; `decided` tells whether all is decided
+    /// there.
     fn evaluate(
         &mut self,
         alloc: Global,
@@ -132,7 +138,8 @@ pub trait Evaluator {
         ensures evaluated { IfOk result (IsEvaluated past site.now (node_of node) decided) }
         ensures own { values site.now self.new };
 
-    /// Proves that no relaxed flows of a node, which no step changes any more and which has some, cost less than the network.
+    /// Proves that no relaxed flows of a node, which no step changes any more and which has some,
+    /// cost less than the network.
     fn prove(
         &mut self,
         alloc: Global,
@@ -147,8 +154,9 @@ pub trait Evaluator {
         ensures proved { IfOk result (IsProof past site.now (node_of node) (cost_in network.now)) }
         ensures own { values site.now self.new };
 
-    /// A network of the units that are taken in at a node and of others that are not left out there, where one is at hand: it is asked
-    /// for where the node was looked at or evaluated last. `None` says nothing.
+    /// A network of the units that are taken in at a node and of others that are not left out
+    /// there, where one is at hand: it is asked for where the node was looked at or evaluated last.
+    /// `None` says nothing.
     fn network_at_hand(
         &mut self,
         alloc: Global,
@@ -160,7 +168,8 @@ pub trait Evaluator {
         ensures at_hand { IfOk result (λ found. IfSome found (IsAtHand site.now (node_of node))) }
         ensures own { values site.now self.new };
 
-    /// The size of each unit that is not left out at the node looked at or evaluated last, in rising order and in whole millionths,
-    /// where least flows were found or guessed. A guide for the choice of a branch: nothing rests on it.
+    /// The size of each unit that is not left out at the node looked at or evaluated last, in
+    /// rising order and in whole millionths, where least flows were found or guessed. A guide for
+    /// the choice of a branch: nothing rests on it.
     fn sizes(&self) -> &[i64];
 }

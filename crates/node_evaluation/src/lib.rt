@@ -1,10 +1,12 @@
 //! What a search sees where it looks at a node.
 //!
-//! [`look`] takes the steps that are possible at a node, and bounds what they leave. The bound is an [`Evaluator`]'s. A first look tells
-//! a cost that no relaxed flows undercut; what the node is worth is settled by [`settle`] when it is to be branched: the least cost of
-//! relaxed flows, or two costs that it lies between, with multipliers for a lower bound of it, a network, a refutation, or where a number
-//! is past the range. And the evaluator proves that a node's value reaches a cost, where those multipliers do not. A search stands on this
-//! trait alone, so that nodes can be bounded in more than one way.
+//! [`look`] takes the steps that are possible at a node, and bounds what they leave. The bound is
+//! an [`Evaluator`]'s. A first look tells a cost that no relaxed flows undercut; what the node is
+//! worth is settled by [`settle`] when it is to be branched: the least cost of relaxed flows, or
+//! two costs that it lies between, with multipliers for a lower bound of it, a network, a
+//! refutation, or where a number overflows. And the evaluator proves that a node's value reaches a
+//! cost, where those multipliers do not. A search stands on this trait alone, so that nodes can be
+//! bounded in more than one way.
 //!
 //! - `evaluator`: the trait, and what it tells
 //! - `looks`: a look at a node

@@ -25,7 +25,8 @@ use unit_sets::{Node, UnitSet};
 /// What is known of what an open leaf is worth.
 #[derive(Drop)]
 pub enum Worth {
-    /// No relaxed flows cost less. What the node is worth is not settled yet, nor whether it has any.
+    /// No relaxed flows cost less. What the node is worth is not settled yet, nor whether it has
+    /// any.
     AtLeast(LowerBound),
     /// What the node is worth.
     Settled(Bound),
@@ -47,7 +48,7 @@ pub enum Settling {
     Least(Bound),
     /// The node has no relaxed flows.
     Refuted(Multipliers),
-    /// A number is past the range.
+    /// A number overflows.
     Stopped(PastStop),
 }
 
@@ -62,7 +63,7 @@ pub struct Looked {
     pub ready: Option<Ready>,
     /// The network that was found here.
     pub network: Option<Network>,
-    /// Where a number is past the range.
+    /// Where a number overflows.
     pub stop: Option<PastStop>,
 }
 
@@ -166,7 +167,8 @@ fn look_closer<E: Evaluator>(
     }
 }
 
-/// Looks at the node of an open cell at which not all is decided, and evaluates it where the first look tells nothing.
+/// Looks at the node of an open cell at which not all is decided, and evaluates it where the first
+/// look tells nothing.
 fn look_first<E: Evaluator>(
     workspace: &mut Workspace<E>,
     site: &Site<'_>,
@@ -200,7 +202,8 @@ fn look_first<E: Evaluator>(
     }
 }
 
-/// What a node is worth that a first look bounded so, or where a number overflows. `Err` comes when memory is refused.
+/// What a node is worth that a first look bounded so, or where a number overflows. `Err` comes when
+/// memory is refused.
 pub fn settle<E: Evaluator>(
     workspace: &mut Workspace<E>,
     site: &Site<'_>,
@@ -239,7 +242,8 @@ pub fn open_cell(option: UnitSet, steps: Steps, node: Node) -> Cell
     }
 }
 
-/// Takes the steps that are possible at a node, and sees what they leave. `Err` comes when memory is refused.
+/// Takes the steps that are possible at a node, and sees what they leave. `Err` comes when memory
+/// is refused.
 pub fn look<E: Evaluator>(
     workspace: &mut Workspace<E>,
     site: &Site<'_>,

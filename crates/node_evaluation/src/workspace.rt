@@ -8,8 +8,8 @@ use neutral_extension::Makers;
 use pgraph::Site;
 use std::alloc::{AllocError, Global};
 
-/// What a search over one plant works with: whose memory it takes, an evaluator of the plant's nodes, and the makers of each
-/// material. The calls that take it take the plant's site beside it.
+/// What a search over one plant works with: whose memory it takes, an evaluator of the plant's
+/// nodes, and the makers of each material. The calls that take it take the plant's site beside it.
 #[derive(Drop)]
 pub struct Workspace<E: Evaluator> {
     pub alloc: Global,
@@ -32,7 +32,8 @@ impl<E: Evaluator + Drop> Workspace<E> {
         })
     }
 
-    /// Goes over to another plant with the same graph. After `Err` the evaluator values the nodes of no plant.
+    /// Goes over to another plant with the same graph. After `Err` the evaluator values the nodes
+    /// of no plant.
     pub fn rebind(&mut self, site: &Site<'_>) -> Result<(), AllocError>
         ensures own { OnOk result (E.values site.now self.new.evaluator) }
         ensures makers { self.new.makers ≡ self.old.makers }

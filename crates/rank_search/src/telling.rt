@@ -26,7 +26,8 @@ use ranked_tree::Mark;
 use search_tree::Shut;
 use std::alloc::{AllocError, Global};
 
-/// The networks, best first, the tree with the marks of its open leaves in preorder, and the place of one of its nodes.
+/// The networks, best first, the tree with the marks of its open leaves in preorder, and the place
+/// of one of its nodes.
 #[derive(Drop)]
 pub struct Told {
     pub networks: Vec<Network>,
@@ -46,7 +47,8 @@ fn into_networks(alloc: Global, found: FoundNetworks) -> Result<Vec<Network>, Al
         .collect(alloc)
 }
 
-/// At least one network is asked for, and those that stand have numbers. A call tells a proof so, and does nothing.
+/// At least one network is asked for, and those that stand have numbers. A call tells a proof so,
+/// and does nothing.
 fn are_numbered(found: &FoundNetworks)
     ensures asked { 1 ≤ found.now.count }
     ensures few { length found.now.found < 2 ^ 32 }
@@ -91,7 +93,8 @@ fn tell(
     })
 }
 
-/// Tells of a search that is at its end: each leaf that is open is shut by what stands at its number. The place is that of the root.
+/// Tells of a search that is at its end: each leaf that is open is shut by what stands at its
+/// number. The place is that of the root.
 pub fn tell_whole(
     alloc: Global,
     site: &Site<'_>,
@@ -110,8 +113,8 @@ pub fn tell_whole(
     tell(alloc, growing, found, proofs, 0)
 }
 
-/// Tells of a search that stops before its end, and where a leaf stands in its tree that stays open. Others may be shut, each by what
-/// stands at its number.
+/// Tells of a search that stops before its end, and where a leaf stands in its tree that stays
+/// open. Others may be shut, each by what stands at its number.
 pub fn tell_stopped(
     alloc: Global,
     site: &Site<'_>,

@@ -39,14 +39,13 @@ fn branch_next<E: Evaluator>(
     let choice = choice_at(growing, leaf);
     let node = node_at(&growing.pool, leaf);
     let first = growing.nodes;
-    let networks = branch_leaf(
-        workspace, site, growing, leaf, node, choice, true,
-    )?;
+    let networks = branch_leaf(workspace, site, growing, leaf, node, choice, true)?;
     found.add_all(networks, first)?;
     Ok(())
 }
 
-/// Branches an open leaf of least value and adds what is found at its children, or tells how the search ends. No leaf stops it.
+/// Branches an open leaf of least value and adds what is found at its children, or tells how the
+/// search ends. No leaf stops it.
 fn go_on<E: Evaluator>(
     workspace: &mut Workspace<E>,
     site: &Site<'_>,
@@ -74,9 +73,7 @@ fn go_on<E: Evaluator>(
             Ok(Some(Ending::Past(stopped)))
         }
         Next::Branch(leaf) => {
-            branch_next(
-                workspace, site, growing, found, leaf,
-            )?;
+            branch_next(workspace, site, growing, found, leaf)?;
             Ok(None)
         }
     }

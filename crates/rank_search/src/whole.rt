@@ -24,7 +24,8 @@ struct Begun {
     found: FoundNetworks,
 }
 
-/// The root after the steps that are possible there, and the network that was found there, if there is one.
+/// The root after the steps that are possible there, and the network that was found there, if there
+/// is one.
 fn begin<E: Evaluator>(
     workspace: &mut Workspace<E>,
     site: &Site<'_>,
@@ -53,8 +54,8 @@ fn begin<E: Evaluator>(
     Ok(Begun { growing, found })
 }
 
-/// Searches all structures of the site's problem for so many networks whose flows are cheapest, within a budget of nodes. `Err` comes
-/// when memory is refused.
+/// Searches all structures of the site's problem for so many networks whose flows are cheapest,
+/// within a budget of nodes. `Err` comes when memory is refused.
 fn ranked<E: Evaluator>(
     workspace: &mut Workspace<E>,
     site: &Site<'_>,
@@ -74,7 +75,8 @@ fn ranked<E: Evaluator>(
     ranked_by::<E>(workspace.alloc, site, &growing, found, ending)
 }
 
-/// Searches all structures of the site's problem for so many networks whose flows are cheapest, within a budget of nodes.
+/// Searches all structures of the site's problem for so many networks whose flows are cheapest,
+/// within a budget of nodes.
 pub fn rank_with<E: Evaluator>(
     workspace: &mut Workspace<E>,
     site: &Site<'_>,
@@ -105,8 +107,8 @@ fn rank_at(alloc: Global, site: &Site<'_>, count: u32, budget: u32) -> Ranked
     }
 }
 
-/// Searches all structures of the problem for so many networks whose flows are cheapest, within a budget of nodes, each bounded by the
-/// simplex method. The graph is that of the problem.
+/// Searches all structures of the problem for so many networks whose flows are cheapest, within a
+/// budget of nodes, each bounded by the simplex method. The graph is that of the problem.
 pub fn rank(alloc: Global, problem: &Problem, graph: &Graph, count: u32, budget: u32) -> Ranked
     requires graph { shape graph.now ≡ shape_of problem.now }
     requires asked { 1 ≤ count }

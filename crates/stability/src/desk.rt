@@ -1,4 +1,5 @@
-//! The problem of a case with one value after the other in the spot, and what searches over it have in common.
+//! The problem of a case with one value after the other in the spot, and what searches over it have
+//! in common.
 ghost use Rattle.std.specs.Prelude.{◌≡◌, ◌≤◌, IfOk, Some};
 ghost use Rattle.pns_rules.specs.Shape.{shape_of};
 ghost use Rattle.pgraph.specs.Tables.{shape};
@@ -21,7 +22,8 @@ use std::alloc::{AllocError, Global};
 use std::marker::Model;
 use unit_sets::{Node, UnitSet};
 
-/// A copy of a case's problem, of which the spot alone is set from value to value, with what its searches keep.
+/// A copy of a case's problem, of which the spot alone is set from value to value, with what its
+/// searches keep.
 #[derive(Drop)]
 pub(crate) struct Desk {
     problem: Problem,
@@ -37,7 +39,7 @@ impl Model for Desk {
 }
 
 impl Desk {
-    /// A desk with the present value. `Err` comes for want of memory alone.
+    /// A desk with the present value. `Err` comes when memory is refused.
     pub(crate) fn of(case: &Case) -> Result<Desk, AllocError>
         ensures problem { IfOk result (λ d. d.problem ≡ case.now.problem) }
         ensures desk { IfOk result (IsDesk case.now) }
@@ -69,12 +71,7 @@ impl Desk {
     }
 
     /// Searches all structures of the problem for a network that is cheaper than this one.
-    pub(crate) fn search(
-        &mut self,
-        graph: &Graph,
-        budget: u32,
-        network: Network,
-    ) -> Found
+    pub(crate) fn search(&mut self, graph: &Graph, budget: u32, network: Network) -> Found
         requires graph { shape graph.now ≡ shape_of self.old.problem }
         requires own { AreMakersOf (shape graph.now) self.old.makers }
         requires some { 1 ≤ budget }

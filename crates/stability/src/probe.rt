@@ -47,7 +47,8 @@ impl<'a> Case<'a> {
         }
     }
 
-    /// Searches the problem with this value in the spot for a network that is cheaper than that of the case.
+    /// Searches the problem with this value in the spot for a network that is cheaper than that of
+    /// the case.
     fn search(
         &self,
         desk: &mut Desk,

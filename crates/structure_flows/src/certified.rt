@@ -60,7 +60,8 @@ fn told(problem: &Problem, set: UnitSet, certified: Certified) -> Option<Structu
     }
 }
 
-/// What is certified of the flows of the set, if anything. Only a set that is allowed is asked for, since a network that is certified is allowed.
+/// What is certified of the flows of the set, if anything. Only a set that is allowed is asked for,
+/// since a network that is certified is allowed.
 pub(crate) fn certified(
     alloc: Global,
     site: &Site<'_>,

@@ -25,8 +25,8 @@ returns-in-Stopped-clause-shut g c =
 pub leaves-preserved : goal.leaves-preserved
 leaves-preserved g c = record {
   so_far = below_next (ShutsAt c.args.site.now c.args.growing.now (cost_in c.args.network.now)) c.leaves.proofs.items c.push.new.self.items c.in-By.shut c.leaves.leaf c.leaves.invariant.so_far
-    (subst (λ (x : Shutting). IsShutBy g.E.Evaluator.past c.args.site.now c.args.growing.now (cost_in c.args.network.now) c.leaves.leaf x) c.in-By.is c.in_ok-shutting.ensures.shut)
-    c.in_ok-push-in-By.ensures.items;
+      (subst (λ (x : Shutting). IsShutBy g.E.Evaluator.past c.args.site.now c.args.growing.now (cost_in c.args.network.now) c.leaves.leaf x) c.in-By.is c.in_ok-shutting.ensures.shut)
+      c.in_ok-push-in-By.ensures.items;
   own = c.shut_at.ensures.own;
   makers = c.shut_at.ensures.makers ∙ c.leaves.invariant.makers;
 }
