@@ -38,6 +38,25 @@ impl Model for Desk {
     ghost view = { λ d. record { problem = d.problem; makers = d.workspace.makers.makers } };
 }
 
+/// Searches all structures of the site's problem for a network that is cheaper than this one.
+fn search_at(workspace: &mut FlowWorkspace, site: &Site<'_>, budget: u32, network: Network) -> Found
+    requires makers { AreMakersOf (shape_of site.now) workspace.old.makers.makers }
+    requires some { 1 ≤ budget }
+    requires passes { IsFeasible site.now network }
+    ensures found { IsFound site.now first_node budget result }
+    ensures against { IsAgainst (Some network) result }
+    ensures makers { workspace.new.makers.makers ≡ workspace.old.makers.makers }
+{
+    let start = Node {
+        inside: UnitSet::empty(),
+        outside: UnitSet::empty(),
+    };
+    match workspace.rebind(site) {
+        Ok(()) => search_with(workspace, site, start, budget, Some(network)),
+        Err(_) => Found::Memory,
+    }
+}
+
 impl Desk {
     /// A desk with the present value. `Err` comes when memory is refused.
     pub(crate) fn of(case: &Case) -> Result<Desk, AllocError>
@@ -80,14 +99,7 @@ impl Desk {
         ensures against { IsAgainst (Some network) result }
         ensures same { self.new ≡ self.old }
     {
-        let start = Node {
-            inside: UnitSet::empty(),
-            outside: UnitSet::empty(),
-        };
         let site = Site::of(&self.problem, graph);
-        match self.workspace.rebind(&site) {
-            Ok(()) => search_with(&mut self.workspace, &site, start, budget, Some(network)),
-            Err(_) => Found::Memory,
-        }
+        search_at(&mut self.workspace, &site, budget, network)
     }
 }
