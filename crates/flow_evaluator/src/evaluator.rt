@@ -130,7 +130,8 @@ impl FlowEvaluator {
 
     /// Whether there is room for the nodes of the problem.
     fn has_room_for(&self, problem: &Problem) -> bool
-        ensures { IsTrue result → HasRoom self.now.bench (length problem.now.units) (length problem.now.materials) }
+        ensures units { IsTrue result → self.now.units ≡ length problem.now.units }
+        ensures materials { IsTrue result → self.now.materials ≡ length problem.now.materials }
     {
         self.units == problem.units().len() && self.materials == problem.materials().len()
     }
