@@ -1,4 +1,4 @@
-use Rattle.std.proofs.Common.{Some, sym, subst}
+use Rattle.std.proofs.Common.{Some, subst}
 use Rattle.turn_laws.specs.Values.{IsPositive, IsPositiveCost}
 use Rattle.node_evaluation.specs.Evaluated.{cost_in}
 use Rattle.abb_search.specs.Closing.{AreBeaten}

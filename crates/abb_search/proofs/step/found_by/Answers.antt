@@ -8,7 +8,6 @@ use Rattle.abb_search.specs.declared.outcome.Found.{Found}
 use Rattle.abb_search.specs.declared.outcome.Found.TheVariants as founds
 use Rattle.abb_search.specs.declared.growing.Growing.{Growing}
 use Rattle.abb_search.specs.declared.rounds.Ending.{Ending}
-use Rattle.abb_search.specs.declared.rounds.Ending.TheVariants as endings
 use Rattle.abb_search.specs.Found.{found_with}
 use Rattle.abb_search.specs.Rounds.{EndsWith}
 use Rattle.abb_search.specs.Answers.{past_with, IsEnd, StepHolds}
