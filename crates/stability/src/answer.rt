@@ -51,11 +51,13 @@ impl<'a> Case<'a> {
     }
 }
 
-/// The largest interval of allowed values of the spot, round the present one, at which the network with its flows is optimal among
-/// the allowed ones: prices and proportional costs from -10^15 to 10^15 millionths, fixed costs from 0. The network passes as a claim. Each search has the whole budget of nodes. `NotBest` comes with a network of least cost
-/// that is cheaper now; `Spent` and `Past` as a search stops at their value, which is the present one or far away, and `PastCost`
-/// where the network's cost is past the range at a value far away. At a value far away the network is known to be optimal half the
-/// way there.
+/// The largest interval of allowed values of the spot, round the present one, at which the network
+/// with its flows is optimal among the allowed ones: prices and proportional costs from -10^15 to
+/// 10^15 millionths, fixed costs from 0. The network passes as a claim. Each search has the whole
+/// budget of nodes. `NotBest` comes with a network of least cost that is cheaper now; `Spent` and
+/// `Past` as a search stops at their value, which is the present one or far away, and `PastCost`
+/// where the network's cost overflows at a value far away. At a value far away the network is known
+/// to be optimal half the way there.
 pub fn range(
     alloc: Global,
     site: &Site<'_>,

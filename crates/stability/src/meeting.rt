@@ -1,4 +1,5 @@
-//! Where the network costs as much as another one, as a guess: nothing is promised of it, and whoever takes it looks there.
+//! Where the network costs as much as another one, as a guess: nothing is promised of it, and
+//! whoever takes it looks there.
 ghost use Rattle.std.specs.Prelude.{◌≡◌, ◌<◌, ℕ, true};
 ghost use Rattle.number_sets.specs.Sets.{has};
 ghost use Rattle.pns_rules.specs.Shape.{shape_of};

@@ -47,7 +47,8 @@ impl<'a> Case<'a> {
         }
     }
 
-    /// Searches the problem with this value in the spot for a network that is cheaper than that of the case.
+    /// Searches the problem with this value in the spot for a network that is cheaper than that of
+    /// the case.
     fn search(
         &self,
         desk: &mut Desk,
@@ -70,7 +71,7 @@ impl<'a> Case<'a> {
             cost: network.cost(),
             d: network.d(),
         };
-        match desk.search(self.alloc, self.graph, self.budget, network) {
+        match desk.search(self.graph, self.budget, network) {
             Found::Solved { network, tree: _ } => {
                 network.is_sized();
                 if is_cheaper(&much, &network) {

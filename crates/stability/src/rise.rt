@@ -1,4 +1,5 @@
-//! Whether the network's cost rises on a side as little as that of any structure can: then no search is needed there.
+//! Whether the network's cost rises on a side as little as that of any structure can: then no
+//! search is needed there.
 ghost use Rattle.std.specs.Prelude.{◌≡◌, ◌≤◌, ◌<◌, ◌^◌, ◌*ℤ◌, neg_ℤ, true, length, unsigned_abs, IfSome};
 ghost use Rattle.problem_rules.specs.Problem.{unit_at};
 ghost use Rattle.problem_rules.specs.WellFormed.{IsInRange};
@@ -131,7 +132,8 @@ fn least_rise(problem: &Problem, spot: Spot, side: Side) -> i128
 }
 
 impl<'a> Case<'a> {
-    /// What the network costs one step away if its cost rises as little as that of any structure can.
+    /// What the network costs one step away if its cost rises as little as that of any structure
+    /// can.
     fn least_cost(&self, side: Side) -> Option<i128>
         ensures { IfSome result (λ least. least ≡ least_cost self.now side) }
     {

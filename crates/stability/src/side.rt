@@ -28,7 +28,8 @@ pub(crate) struct Bracket {
     beyond: Beyond,
 }
 
-/// How far away the range ends, and the network that is cheaper a step beyond; none at the limit of the values.
+/// How far away the range ends, and the network that is cheaper a step beyond; none at the limit of
+/// the values.
 #[derive(Drop)]
 pub(crate) struct End {
     pub(crate) away: u64,
@@ -57,7 +58,8 @@ fn digits(number: u64) -> u32
     64 - number.leading_zeros()
 }
 
-/// A number between two others: in the middle by their lengths and at most half the greater, where that is above the lesser.
+/// A number between two others: in the middle by their lengths and at most half the greater, where
+/// that is above the lesser.
 fn middle(low: u64, high: u64) -> u64
     requires { low < high }
 {
@@ -104,8 +106,8 @@ impl Bracket {
 }
 
 impl<'a> Case<'a> {
-    /// A guess where to look next: where the lines of the two networks meet; on the way out, where a budget was spent, which costs all of
-    /// it; or, where a number was past the range, between by length.
+    /// A guess where to look next: where the lines of the two networks meet; on the way out, where
+    /// a budget was spent, which costs all of it; or, where a number overflowed, between by length.
     fn guess(&self, desk: &mut Desk, side: Side, bracket: &Bracket) -> u64
         requires desk { IsDesk self.now desk.old }
         requires is_bracket { IsBracket self.now side bracket.now }
@@ -199,8 +201,9 @@ impl<'a> Case<'a> {
         }
     }
 
-    /// The end of the range on this side, where the network is optimal now: where its cost rises as little as any can the range goes to
-    /// the limit of the values, and else the limit is looked at first.
+    /// The end of the range on this side, where the network is optimal now: where its cost rises as
+    /// little as any can the range goes to the limit of the values, and else the limit is looked at
+    /// first.
     pub(crate) fn end(&self, desk: &mut Desk, side: Side) -> Result<End, RangeFault>
         requires desk { IsDesk self.now desk.old }
         requires best { IsBestAt self.now.problem self.now.spot self.now.network (value_at self.now.problem self.now.spot) }
