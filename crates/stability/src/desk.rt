@@ -17,20 +17,22 @@ use abb_search::{FlowWorkspace, Found, search_with, workspace_of};
 use branch_tree::Network;
 use pgraph::{Graph, Site};
 use pns_problem::Problem;
+use progress::{Effort, Watch};
 use stability_laws::{present_stays, valued_is_valid};
 use std::alloc::{AllocError, Global};
 use std::marker::Model;
 use unit_sets::{Node, UnitSet};
 
 /// A copy of a case's problem, of which the spot alone is set from value to value, with what its
-/// searches keep.
+/// searches keep, and who is told how far they are.
 #[derive(Drop)]
-pub(crate) struct Desk {
+pub(crate) struct Desk<W: Watch> {
     problem: Problem,
     workspace: FlowWorkspace,
+    watch: W,
 }
 
-impl Model for Desk {
+impl<W: Watch> Model for Desk<W> {
     ghost use Rattle.stability.specs.Desk as desks;
 
     ghost Value = { desks.Desk };
@@ -38,16 +40,20 @@ impl Model for Desk {
     ghost view = { λ d. record { problem = d.problem; makers = d.workspace.makers.makers } };
 }
 
-impl Desk {
+impl<W: Watch> Desk<W> {
     /// A desk with the present value. `Err` comes when memory is refused.
-    pub(crate) fn of(case: &Case) -> Result<Desk, AllocError>
+    pub(crate) fn of(case: &Case, watch: W) -> Result<Desk<W>, AllocError>
         ensures problem { IfOk result (λ d. d.problem ≡ case.now.problem) }
         ensures desk { IfOk result (IsDesk case.now) }
     {
         present_stays();
         let problem = case.problem.copy(case.alloc)?;
         let workspace = workspace_of(case.alloc, &Site::of(&problem, case.graph))?;
-        Ok(Desk { problem, workspace })
+        Ok(Desk {
+            problem,
+            workspace,
+            watch,
+        })
     }
 
     /// The case's problem with the value that was set last.
@@ -86,7 +92,13 @@ impl Desk {
         };
         let site = Site::of(&self.problem, graph);
         match self.workspace.rebind(&site) {
-            Ok(()) => search_with(&mut self.workspace, &site, start, budget, Some(network)),
+            Ok(()) => {
+                let effort = Effort {
+                    budget,
+                    watch: &mut self.watch,
+                };
+                search_with(&mut self.workspace, &site, start, effort, Some(network))
+            }
             Err(_) => Found::Memory,
         }
     }
