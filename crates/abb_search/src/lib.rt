@@ -20,7 +20,7 @@
 //! - `step`: a turn over the tree
 //! - `turns`: the object over any evaluator
 //! - `runs`: the loop over the turns of a search
-//! - `watching`: how far a search is, for who watches it
+//! - `watching`: how far a search is, for those who watch it
 //! - `whole`: the same over the simplex method
 #![tactic(auto)]
 
@@ -44,5 +44,5 @@ pub use root::look_at_root;
 pub use rounds::{Ending, Goal, Next, next_leaf};
 pub use runs::search_with;
 pub use turns::SearchWith;
-pub use watching::tell_watch;
+pub use watching::report_progress;
 pub use whole::{FlowWorkspace, Search, search, search_against, search_watched, workspace_of};

@@ -14,7 +14,7 @@ use crate::growing::Growing;
 use crate::outcome::Found;
 use crate::root::look_at_root;
 use crate::step::step;
-use crate::watching::tell_watch;
+use crate::watching::report_progress;
 use branch_tree::Network;
 use node_evaluation::{Evaluator, Workspace};
 use pgraph::Site;
@@ -37,7 +37,7 @@ fn run<E: Evaluator, W: Watch>(
 {
     let mut growing = root;
     'turns: loop {
-        tell_watch(watch, site, &growing);
+        report_progress(watch, site, &growing);
         match step(workspace, site, &mut growing) {
             Ok(None) => {}
             Ok(Some(found)) => return found,

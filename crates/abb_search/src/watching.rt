@@ -48,10 +48,10 @@ fn progress_of(site: &Site<'_>, growing: &Growing) -> Progress {
     }
 }
 
-/// Tells the watch how far the search is, where it is to be told. The open leaves are counted for
-/// that alone.
-pub fn tell_watch<W: Watch>(watch: &mut W, site: &Site<'_>, growing: &Growing) {
+/// Reports to the watch how far the search is, if that is due. The open leaves are counted for that
+/// alone.
+pub fn report_progress<W: Watch>(watch: &mut W, site: &Site<'_>, growing: &Growing) {
     if watch.is_due() {
-        watch.tell(&progress_of(site, growing));
+        watch.report(&progress_of(site, growing));
     }
 }

@@ -103,7 +103,7 @@ impl<'a> SearchWith<'a, FlowEvaluator> {
 }
 
 /// Searches the structures of the family of a node as [`search`] does, or as [`search_against`]
-/// where there is a network, and tells a watch how far it is.
+/// if there is a network, and reports how far it is.
 pub fn search_watched<W: Watch>(
     alloc: Global,
     site: &Site<'_>,

@@ -1,4 +1,4 @@
-//! The line that tells how far a search is.
+//! The line that says how far a search is.
 
 use decimals::push_six_digits;
 use progress::Progress;
@@ -45,7 +45,7 @@ fn push_bound(text: &mut String, progress: &Progress, bound: i128) -> Result<(),
     Ok(())
 }
 
-/// How far a search is after so many seconds. What is not known is left out.
+/// The line on a search after so many seconds. What is not known is left out.
 pub(crate) fn line_of(
     alloc: Global,
     progress: &Progress,

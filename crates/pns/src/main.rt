@@ -1,7 +1,7 @@
 //! The program `pns`: its words call the studio over the files of the system, the standard input, the standard output and
 //! the standard error.
 //!
-//! Modules: `watch`, who is told how far a search is; `line`, the line that tells it.
+//! Modules: `watch`, who watches a search; `line`, the line that says how far it is.
 #![tactic(auto)]
 
 mod line;

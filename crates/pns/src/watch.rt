@@ -1,4 +1,4 @@
-//! Who is told how far a search is: whoever reads the standard error.
+//! Who watches a search: those who read the standard error.
 
 use crate::line::line_of;
 use progress::{Progress, Watch};
@@ -17,12 +17,12 @@ const FIRST: u64 = 2;
 /// So many seconds later comes the next one.
 const APART: u64 = 5;
 
-/// Puts a line on an output about each five seconds, or nothing at all.
+/// Prints a line on an output about every five seconds, or nothing at all.
 #[derive(Drop)]
 pub(crate) struct LineWatch<'a, R, P> {
     rt: &'a R,
     output: &'a P,
-    /// When the program began; none where nothing is to be put.
+    /// When the watch began; none if it prints nothing.
     start: Option<Instant>,
     /// So many turns later the clock is asked again.
     turns: u32,
@@ -36,8 +36,8 @@ fn is_quiet<R: Env + Alloc<A = Global>>(rt: &R) -> bool {
 }
 
 impl<'a, R: Clock + Env + Alloc<A = Global>, P: Print> LineWatch<'a, R, P> {
-    /// A watch that begins now. It puts nothing where the environment has `PNS_QUIET`, or where the
-    /// clock cannot be read.
+    /// A watch that begins now. It prints nothing if the environment has `PNS_QUIET`, or if the clock
+    /// cannot be read.
     pub(crate) fn new(rt: &'a R, output: &'a P) -> LineWatch<'a, R, P> {
         let start = if is_quiet(rt) {
             None
@@ -73,14 +73,14 @@ impl<'a, R: Clock + Env + Alloc<A = Global>, P: Print> Watch for LineWatch<'a, R
         }
     }
 
-    // What cannot be put is left out: no search ends for it.
-    fn tell(&mut self, progress: &Progress) {
+    // What cannot be printed is left out: no search ends for it.
+    fn report(&mut self, progress: &Progress) {
         let Some(seconds) = self.seconds() else {
             return;
         };
         self.next = seconds.saturating_add(APART);
         if let Ok(line) = line_of(self.rt.alloc(), progress, seconds) {
-            let _put = self.output.write_all(line.as_bytes());
+            let _printed = self.output.write_all(line.as_bytes());
         }
     }
 }

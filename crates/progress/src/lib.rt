@@ -1,8 +1,8 @@
 //! How far a search is, for those who wait for it.
 //!
-//! A search asks its [`Watch`] once a turn whether it is to tell how far it is. Nothing that is
-//! found depends on it, and no contract speaks of it. [`Effort`] is how many nodes a search may
-//! take, and who is told; [`NoWatch`] stands where nobody is.
+//! A search asks its [`Watch`] once a turn whether it is to report how far it is. Nothing that is
+//! found depends on the answer, and no contract speaks of it. [`Effort`] is how many nodes a search
+//! may take, and who watches it; [`NoWatch`] is nobody.
 #![tactic(auto)]
 
 /// How far a search is. Costs are rounded down, in the unit in which networks keep theirs: 10^-18
@@ -20,13 +20,13 @@ pub struct Progress {
     pub years: u8,
 }
 
-/// Who is told how far a search is.
+/// Who watches a search.
 pub trait Watch: Drop {
-    /// Whether it is to be told now. It is asked once a turn, so the answer has to be cheap.
+    /// Whether a report is due. It is asked once a turn, so the answer has to be cheap.
     fn is_due(&mut self) -> bool;
 
-    /// Takes what is told.
-    fn tell(&mut self, progress: &Progress);
+    /// Takes a report of how far the search is.
+    fn report(&mut self, progress: &Progress);
 }
 
 impl<W: Watch> Watch for &mut W {
@@ -34,12 +34,12 @@ impl<W: Watch> Watch for &mut W {
         (**self).is_due()
     }
 
-    fn tell(&mut self, progress: &Progress) {
-        (**self).tell(progress)
+    fn report(&mut self, progress: &Progress) {
+        (**self).report(progress)
     }
 }
 
-/// Nobody is told.
+/// Nobody watches.
 #[derive(Clone, Copy)]
 pub struct NoWatch;
 
@@ -48,10 +48,10 @@ impl Watch for NoWatch {
         false
     }
 
-    fn tell(&mut self, _progress: &Progress) {}
+    fn report(&mut self, _progress: &Progress) {}
 }
 
-/// How many nodes a search may take, and who is told how far it is.
+/// How many nodes a search may take, and who watches it.
 #[derive(Drop)]
 pub struct Effort<W: Watch> {
     pub budget: u32,

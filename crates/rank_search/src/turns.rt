@@ -8,7 +8,8 @@ ghost use Rattle.rank_search.specs.Turns.{IsRanking, IsRankEnd, IsMore, TurnHold
 
 use crate::found::FoundNetworks;
 use abb_search::{
-    Ending, Goal, Growing, Next, branch_leaf, choice_at, next_leaf, node_at, take_stop, tell_watch,
+    Ending, Goal, Growing, Next, branch_leaf, choice_at, next_leaf, node_at, report_progress,
+    take_stop,
 };
 use node_evaluation::{Evaluator, Workspace};
 use pgraph::Site;
@@ -117,7 +118,7 @@ pub(crate) fn run<E: Evaluator, W: Watch>(
     ensures own { E.values site.now workspace.new.evaluator }
 {
     'turns: loop {
-        tell_watch(watch, site, growing);
+        report_progress(watch, site, growing);
         if let Some(ending) = turn(workspace, site, growing, found)? {
             return Ok(ending);
         }

@@ -97,7 +97,7 @@ pub fn rank_with<E: Evaluator, W: Watch>(
     }
 }
 
-/// Searches as [`rank`] does, and tells a watch how far it is.
+/// Searches as [`rank`] does, and reports how far it is.
 pub fn rank_watched<W: Watch>(
     alloc: Global,
     site: &Site<'_>,

@@ -24,7 +24,7 @@ use std::marker::Model;
 use unit_sets::{Node, UnitSet};
 
 /// A copy of a case's problem, of which the spot alone is set from value to value, with what its
-/// searches keep, and who is told how far they are.
+/// searches keep, and who watches them.
 #[derive(Drop)]
 pub(crate) struct Desk<W: Watch> {
     problem: Problem,

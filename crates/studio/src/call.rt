@@ -164,7 +164,7 @@ fn run<F: Shelf, K: Sink, E: Sink, W: Watch>(
 /// Does what the words say over the shelf's files, and puts the text on the outputs line by line:
 /// an answer on `out`, and on `err` why there is none.
 ///
-/// The watch is told how far a search is; what is put does not depend on it.
+/// To the watch it is reported how far a search is; what is put does not depend on it.
 ///
 /// The clause `ends` says which text is out with which status, and `keeps` and `later` what is left
 /// of the shelf. The others are parts of `ends` in words of their own.
