@@ -1,8 +1,9 @@
 //! Rounds, which settle what open leaves are worth until it stands which leaf is branched next, or
 //! how the search ends.
-ghost use Rattle.std.specs.Prelude.{◌≡◌, ◌↔◌, ◌<◌, ◌+◌, IsTrue, IfOk, option_copied, length};
+ghost use Rattle.std.specs.Prelude.{◌≡◌, ◌↔◌, ◌<◌, ◌+◌, IsTrue, IfOk, Option, option_copied, length};
 ghost use Rattle.link_lists.specs.Lists.{first};
 ghost use Rattle.pns_rules.specs.Shape.{shape_of};
+ghost use Rattle.tree_rules.specs.Claim.{CostOver};
 ghost use Rattle.branch_choice.specs.Choices.{option_count};
 ghost use Rattle.node_evaluation.specs.Looks.{cost_of};
 ghost use Rattle.abb_search.specs.Growing.{IsGrowingFor, IsSame, IsSettledAt, LeafUndercuts, choice_of, ready_at};
@@ -110,16 +111,14 @@ fn spend<E: Evaluator>(
     workspace: &mut Workspace<E>,
     site: &Site<'_>,
     growing: &mut Growing,
-    _goal: &Goal<'_>,
     leaf: u32,
     options: u128,
 ) -> Result<Option<Next>, AllocError>
     requires own { E.values site.now workspace.old.evaluator }
-    requires growing { IsGrowingFor E.past site.now (undercut_of _goal.now growing.old) growing.old }
-    requires next { IsNextLeaf growing.old (undercut_of _goal.now growing.old) leaf }
+    requires growing { (undercut : Option CostOver) × IsGrowingFor E.past site.now undercut growing.old }
     requires options { options ≡ option_count (choice_of (ready_at growing.old leaf)) }
     requires over { growing.old.budget < length growing.old.pool.payloads + options }
-    ensures holds { IfOk result (RoundHolds E.past site.now growing.old growing.new (undercut_of _goal.now growing.old)) }
+    ensures holds { (undercut : Option CostOver) → IsGrowingFor E.past site.now undercut growing.old → IsNextLeaf growing.old undercut leaf → IfOk result (RoundHolds E.past site.now growing.old growing.new undercut) }
     ensures same { IsSame E.past site.now growing.old growing.new }
     ensures own { E.values site.now workspace.new.evaluator }
     ensures makers { workspace.new.makers ≡ workspace.old.makers }
@@ -160,7 +159,7 @@ fn branch_least<E: Evaluator>(
     let choice = choice_at(growing, leaf);
     let options = choice.options();
     if is_over(options, growing.nodes, growing.budget) {
-        return spend(workspace, site, growing, goal, leaf, options);
+        return spend(workspace, site, growing, leaf, options);
     }
     Ok(Some(Next::Branch(leaf)))
 }

@@ -1,5 +1,5 @@
 //! The calls that value the nodes of a problem.
-ghost use Rattle.std.specs.Prelude.{◌≡◌, ◌≤ℤ◌, pos, true, false, Some, IfOk, IfSome, OnOk};
+ghost use Rattle.std.specs.Prelude.{◌≡◌, true, false, Some, IfOk, IfSome, OnOk};
 ghost use Rattle.pns_rules.specs.Shape.{shape_of};
 ghost use Rattle.pns_rules.specs.Ends.{IsSound, IsDecided};
 ghost use Rattle.pgraph.specs.View.{node_of};
@@ -16,7 +16,7 @@ use crate::flows::flows;
 use crate::lows::{first_low, least, low_to, proving};
 use crate::proposals::{Proposals, Proposed};
 use crate::refutations::{first_refuted, refuted};
-use branch_tree::Scaled;
+use branch_tree::{Network, Scaled};
 use mixed_numbers::Mixed;
 use pgraph::Site;
 use scaled_flows::{Scales, cost_of_sizes, least_value};
@@ -248,23 +248,21 @@ impl CertifiedBounds {
         cost_of_sizes(problem, graph, &self.scales, *node, sizes, d)
     }
 
-    /// Multipliers that prove that no relaxed flows of the node cost less than the cost over `d`,
-    /// where they are found. It takes no memory but for what it hands out, and `Err` comes when
-    /// that is refused.
+    /// Multipliers that prove that no relaxed flows of the node cost less than the network, where they
+    /// are found. It takes no memory but for what it hands out, and `Err` comes when that is refused.
     pub fn prove(
         &mut self,
         alloc: Global,
         site: &Site<'_>,
         node: Node,
-        cost: i128,
-        d: i128,
+        network: &Network,
     ) -> Result<Option<Scaled>, AllocError>
         requires sound { IsSound (shape_of site.now) (node_of node) }
-        requires positive { pos 1 ≤ℤ d }
         ensures same { self.new ≡ self.old }
-        ensures proved { IfOk result (λ found. IfSome found (λ s. IsBounded site.now (Some (record { cost = cost; d = d })) (node_of node) s.d s.ys)) }
+        ensures proved { IfOk result (λ found. IfSome found (λ s. IsBounded site.now (Some (record { cost = network.now.cost; d = network.now.d })) (node_of node) s.d s.ys)) }
     {
-        let goal = Mixed::of(cost, d);
+        network.is_sized();
+        let goal = Mixed::of(network.cost(), network.d());
         match self.proposals.propose(&node, true) {
             Proposed::Optimum => proving(alloc, site, &node, &mut self.proposals, goal),
             _ => Ok(None),

@@ -114,6 +114,7 @@ impl FlowEvaluator {
         ensures { IfOk result (IsFor site.now) }
     {
         let problem = site.problem();
+        problem.is_valid();
         let (units, materials) = (problem.units().len(), problem.materials().len());
         let certified = CertifiedBounds::open(alloc, site)?;
         let bench = Bench::open(alloc, units as u32, materials as u32)?;
@@ -129,7 +130,8 @@ impl FlowEvaluator {
 
     /// Whether there is room for the nodes of the problem.
     fn has_room_for(&self, problem: &Problem) -> bool
-        ensures { IsTrue result → HasRoom self.now.bench (length problem.now.units) (length problem.now.materials) }
+        ensures units { IsTrue result → self.now.units ≡ length problem.now.units }
+        ensures materials { IsTrue result → self.now.materials ≡ length problem.now.materials }
     {
         self.units == problem.units().len() && self.materials == problem.materials().len()
     }
@@ -343,8 +345,7 @@ impl Evaluator for FlowEvaluator {
         network: &Network,
     ) -> Result<Proof, AllocError> {
         network.is_sized();
-        let (cost, d) = (network.cost(), network.d());
-        if let Some(scaled) = self.certified.prove(alloc, site, node, cost, d)? {
+        if let Some(scaled) = self.certified.prove(alloc, site, node, network)? {
             return Ok(Proof::Scaled(scaled));
         }
         prove_on(alloc, site, &node, &mut self.bench)

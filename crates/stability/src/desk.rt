@@ -40,6 +40,30 @@ impl<W: Watch> Model for Desk<W> {
     ghost view = { λ d. record { problem = d.problem; makers = d.workspace.makers.makers } };
 }
 
+/// Searches all structures of the site's problem for a network that is cheaper than this one.
+fn search_at<W: Watch>(
+    workspace: &mut FlowWorkspace,
+    site: &Site<'_>,
+    effort: Effort<W>,
+    network: Network,
+) -> Found
+    requires makers { AreMakersOf (shape_of site.now) workspace.old.makers.makers }
+    requires some { 1 ≤ effort.budget }
+    requires passes { IsFeasible site.now network }
+    ensures found { IsFound site.now first_node effort.budget result }
+    ensures against { IsAgainst (Some network) result }
+    ensures makers { workspace.new.makers.makers ≡ workspace.old.makers.makers }
+{
+    let start = Node {
+        inside: UnitSet::empty(),
+        outside: UnitSet::empty(),
+    };
+    match workspace.rebind(site) {
+        Ok(()) => search_with(workspace, site, start, effort, Some(network)),
+        Err(_) => Found::Memory,
+    }
+}
+
 impl<W: Watch> Desk<W> {
     /// A desk with the present value. `Err` comes when memory is refused.
     pub(crate) fn of(case: &Case, watch: W) -> Result<Desk<W>, AllocError>
@@ -86,20 +110,11 @@ impl<W: Watch> Desk<W> {
         ensures against { IsAgainst (Some network) result }
         ensures same { self.new ≡ self.old }
     {
-        let start = Node {
-            inside: UnitSet::empty(),
-            outside: UnitSet::empty(),
-        };
         let site = Site::of(&self.problem, graph);
-        match self.workspace.rebind(&site) {
-            Ok(()) => {
-                let effort = Effort {
-                    budget,
-                    watch: &mut self.watch,
-                };
-                search_with(&mut self.workspace, &site, start, effort, Some(network))
-            }
-            Err(_) => Found::Memory,
-        }
+        let effort = Effort {
+            budget,
+            watch: &mut self.watch,
+        };
+        search_at(&mut self.workspace, &site, effort, network)
     }
 }

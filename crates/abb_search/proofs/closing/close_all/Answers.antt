@@ -1,4 +1,4 @@
-use Rattle.std.proofs.Common.{arith, subst}
+use Rattle.std.proofs.Common.{refl, ◌∙◌, arith, subst}
 use Rattle.node_evaluation.specs.Evaluated.{cost_in}
 use Rattle.abb_search.specs.declared.closing.Shutting.{Shutting}
 use Rattle.abb_search.specs.Closing.{IsShutBy}
