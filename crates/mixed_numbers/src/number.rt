@@ -52,8 +52,8 @@ impl Mixed {
 
     /// The whole part: the greatest whole number that is no more.
     pub fn floor(&self) -> i128
-        ensures low { result *ℤ denominator self.now ≤ℤ numerator self.now }
-        ensures high { numerator self.now <ℤ result *ℤ denominator self.now +ℤ denominator self.now }
+        ensures low { (result *ℤ denominator self.now) ≤ℤ numerator self.now }
+        ensures high { numerator self.now <ℤ (result *ℤ denominator self.now +ℤ denominator self.now) }
     {
         self.whole
     }
