@@ -20,6 +20,7 @@
 //! - `step`: a turn over the tree
 //! - `turns`: the object over any evaluator
 //! - `runs`: the loop over the turns of a search
+//! - `watching`: how far a search is, for those who watch it
 //! - `whole`: the same over the simplex method
 #![tactic(auto)]
 
@@ -34,6 +35,7 @@ mod runs;
 mod settling;
 mod step;
 mod turns;
+mod watching;
 mod whole;
 
 pub use growing::{Growing, StoppedLeaf, branch_leaf, choice_at, node_at, take_stop};
@@ -42,4 +44,5 @@ pub use root::look_at_root;
 pub use rounds::{Ending, Goal, Next, next_leaf};
 pub use runs::search_with;
 pub use turns::SearchWith;
-pub use whole::{FlowWorkspace, Search, search, search_against, workspace_of};
+pub use watching::report_progress;
+pub use whole::{FlowWorkspace, Search, search, search_against, search_watched, workspace_of};

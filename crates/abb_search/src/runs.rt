@@ -14,13 +14,20 @@ use crate::growing::Growing;
 use crate::outcome::Found;
 use crate::root::look_at_root;
 use crate::step::step;
+use crate::watching::report_progress;
 use branch_tree::Network;
 use node_evaluation::{Evaluator, Workspace};
 use pgraph::Site;
+use progress::{Effort, Watch};
 use unit_sets::Node;
 
 /// Takes turns until the search ends, or there is no memory.
-fn run<E: Evaluator>(workspace: &mut Workspace<E>, site: &Site<'_>, root: Growing) -> Found
+fn run<E: Evaluator, W: Watch>(
+    workspace: &mut Workspace<E>,
+    site: &Site<'_>,
+    root: Growing,
+    watch: &mut W,
+) -> Found
     requires own { E.values site.now workspace.old.evaluator }
     requires makers { AreMakersOf (shape_of site.now) workspace.old.makers.makers }
     requires going { IsGoing E.past site.now root }
@@ -30,6 +37,7 @@ fn run<E: Evaluator>(workspace: &mut Workspace<E>, site: &Site<'_>, root: Growin
 {
     let mut growing = root;
     'turns: loop {
+        report_progress(watch, site, &growing);
         match step(workspace, site, &mut growing) {
             Ok(None) => {}
             Ok(Some(found)) => return found,
@@ -41,24 +49,25 @@ fn run<E: Evaluator>(workspace: &mut Workspace<E>, site: &Site<'_>, root: Growin
 /// Searches the structures of the family of a node for one whose flows are cheapest, or cheaper
 /// than those of the network `best`, where one is handed in: then what is found is that network or
 /// a cheaper one.
-pub fn search_with<E: Evaluator>(
+pub fn search_with<E: Evaluator, W: Watch>(
     workspace: &mut Workspace<E>,
     site: &Site<'_>,
     start: Node,
-    budget: u32,
+    effort: Effort<W>,
     best: Option<Network>,
 ) -> Found
     requires own { E.values site.now workspace.old.evaluator }
     requires makers { AreMakersOf (shape_of site.now) workspace.old.makers.makers }
     requires sound { IsSound (shape_of site.now) (node_of start) }
-    requires some { 1 ≤ budget }
+    requires some { 1 ≤ effort.budget }
     requires passes { ClaimPasses true site.now (claim_with best) }
-    ensures found { IsFoundBy E.past site.now (node_of start) budget result }
+    ensures found { IsFoundBy E.past site.now (node_of start) effort.budget result }
     ensures against { IsAgainst best result }
     ensures makers { workspace.new.makers.makers ≡ workspace.old.makers.makers }
 {
-    match look_at_root(workspace, site, start, budget, best) {
-        Ok(root) => run(workspace, site, root),
+    let mut watch = effort.watch;
+    match look_at_root(workspace, site, start, effort.budget, best) {
+        Ok(root) => run(workspace, site, root, &mut watch),
         Err(_) => Found::Memory,
     }
 }

@@ -20,6 +20,7 @@ use flow_evaluator::FlowEvaluator;
 use node_evaluation::Workspace;
 use pgraph::{Graph, Site};
 use pns_problem::Problem;
+use progress::{Effort, NoWatch, Watch};
 use std::alloc::{AllocError, Global};
 use unit_sets::Node;
 
@@ -101,22 +102,23 @@ impl<'a> SearchWith<'a, FlowEvaluator> {
     }
 }
 
-/// Searches the structures of the family of a node, against a network where there is one.
-fn search_at(
+/// Searches the structures of the family of a node as [`search`] does, or as [`search_against`]
+/// if there is a network, and reports how far it is.
+pub fn search_watched<W: Watch>(
     alloc: Global,
     site: &Site<'_>,
     start: Node,
-    budget: u32,
+    effort: Effort<W>,
     best: Option<Network>,
 ) -> Found
     requires sound { IsSound (shape_of site.now) (node_of start) }
-    requires some { 1 ≤ budget }
+    requires some { 1 ≤ effort.budget }
     requires passes { ClaimPasses true site.now (claim_with best) }
-    ensures found { IsFound site.now (node_of start) budget result }
+    ensures found { IsFound site.now (node_of start) effort.budget result }
     ensures against { IsAgainst best result }
 {
     match workspace_of(alloc, site) {
-        Ok(mut workspace) => search_with(&mut workspace, site, start, budget, best),
+        Ok(mut workspace) => search_with(&mut workspace, site, start, effort, best),
         Err(_) => Found::Memory,
     }
 }
@@ -129,7 +131,11 @@ pub fn search(alloc: Global, problem: &Problem, graph: &Graph, start: Node, budg
     requires some { 1 ≤ budget }
     ensures found { IsFound problem.now (node_of start) budget result }
 {
-    search_at(alloc, &Site::of(problem, graph), start, budget, None)
+    let effort = Effort {
+        budget,
+        watch: NoWatch,
+    };
+    search_watched(alloc, &Site::of(problem, graph), start, effort, None)
 }
 
 /// Searches the structures of the family of a node for one whose flows are cheaper than those of
@@ -150,11 +156,15 @@ pub fn search_against(
     ensures found { IsFound problem.now (node_of start) budget result }
     ensures against { IsAgainst (Some network) result }
 {
-    search_at(
+    let effort = Effort {
+        budget,
+        watch: NoWatch,
+    };
+    search_watched(
         alloc,
         &Site::of(problem, graph),
         start,
-        budget,
+        effort,
         Some(network),
     )
 }

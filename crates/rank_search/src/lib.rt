@@ -29,4 +29,4 @@ mod turns;
 mod whole;
 
 pub use outcome::Ranked;
-pub use whole::{rank, rank_with};
+pub use whole::{rank, rank_watched, rank_with};

@@ -8,10 +8,12 @@ ghost use Rattle.rank_search.specs.Turns.{IsRanking, IsRankEnd, IsMore, TurnHold
 
 use crate::found::FoundNetworks;
 use abb_search::{
-    Ending, Goal, Growing, Next, branch_leaf, choice_at, next_leaf, node_at, take_stop,
+    Ending, Goal, Growing, Next, branch_leaf, choice_at, next_leaf, node_at, report_progress,
+    take_stop,
 };
 use node_evaluation::{Evaluator, Workspace};
 use pgraph::Site;
+use progress::Watch;
 use std::alloc::{AllocError, Global};
 
 /// Branches the leaf that comes next and adds what is found at its children.
@@ -101,11 +103,12 @@ fn turn<E: Evaluator>(
 }
 
 /// Takes turns until the search ends.
-pub(crate) fn run<E: Evaluator>(
+pub(crate) fn run<E: Evaluator, W: Watch>(
     workspace: &mut Workspace<E>,
     site: &Site<'_>,
     growing: &mut Growing,
     found: &mut FoundNetworks,
+    watch: &mut W,
 ) -> Result<Ending, AllocError>
     requires own { E.values site.now workspace.old.evaluator }
     requires makers { AreMakersOf (shape_of site.now) workspace.old.makers.makers }
@@ -115,6 +118,7 @@ pub(crate) fn run<E: Evaluator>(
     ensures own { E.values site.now workspace.new.evaluator }
 {
     'turns: loop {
+        report_progress(watch, site, growing);
         if let Some(ending) = turn(workspace, site, growing, found)? {
             return Ok(ending);
         }

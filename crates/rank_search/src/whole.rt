@@ -14,6 +14,7 @@ use abb_search::{Growing, look_at_root, workspace_of};
 use node_evaluation::{Evaluator, Workspace, copy_of_network};
 use pgraph::{Graph, Site};
 use pns_problem::Problem;
+use progress::{Effort, NoWatch, Watch};
 use std::alloc::{AllocError, Global};
 use unit_sets::{Node, UnitSet};
 
@@ -56,53 +57,59 @@ fn begin<E: Evaluator>(
 
 /// Searches all structures of the site's problem for so many networks whose flows are cheapest,
 /// within a budget of nodes. `Err` comes when memory is refused.
-fn ranked<E: Evaluator>(
+fn ranked<E: Evaluator, W: Watch>(
     workspace: &mut Workspace<E>,
     site: &Site<'_>,
     count: u32,
-    budget: u32,
+    effort: Effort<W>,
 ) -> Result<Ranked, AllocError>
     requires own { E.values site.now workspace.old.evaluator }
     requires makers { AreMakersOf (shape_of site.now) workspace.old.makers.makers }
     requires asked { 1 ≤ count }
-    requires some { 1 ≤ budget }
-    ensures { IfOk result (IsRankedBy E.past site.now count budget) }
+    requires some { 1 ≤ effort.budget }
+    ensures { IfOk result (IsRankedBy E.past site.now count effort.budget) }
 {
-    let begun = begin(workspace, site, count, budget)?;
+    let mut watch = effort.watch;
+    let begun = begin(workspace, site, count, effort.budget)?;
     let mut growing = begun.growing;
     let mut found = begun.found;
-    let ending = run(workspace, site, &mut growing, &mut found)?;
+    let ending = run(workspace, site, &mut growing, &mut found, &mut watch)?;
     ranked_by::<E>(workspace.alloc, site, &growing, found, ending)
 }
 
 /// Searches all structures of the site's problem for so many networks whose flows are cheapest,
 /// within a budget of nodes.
-pub fn rank_with<E: Evaluator>(
+pub fn rank_with<E: Evaluator, W: Watch>(
     workspace: &mut Workspace<E>,
     site: &Site<'_>,
     count: u32,
-    budget: u32,
+    effort: Effort<W>,
 ) -> Ranked
     requires own { E.values site.now workspace.old.evaluator }
     requires makers { AreMakersOf (shape_of site.now) workspace.old.makers.makers }
     requires asked { 1 ≤ count }
-    requires some { 1 ≤ budget }
-    ensures { IsRankedBy E.past site.now count budget result }
+    requires some { 1 ≤ effort.budget }
+    ensures { IsRankedBy E.past site.now count effort.budget result }
 {
-    match ranked(workspace, site, count, budget) {
+    match ranked(workspace, site, count, effort) {
         Ok(ranked) => ranked,
         Err(_) => Ranked::Memory,
     }
 }
 
-/// The same, each node bounded by the simplex method.
-fn rank_at(alloc: Global, site: &Site<'_>, count: u32, budget: u32) -> Ranked
+/// Searches as [`rank`] does, and reports how far it is.
+pub fn rank_watched<W: Watch>(
+    alloc: Global,
+    site: &Site<'_>,
+    count: u32,
+    effort: Effort<W>,
+) -> Ranked
     requires asked { 1 ≤ count }
-    requires some { 1 ≤ budget }
-    ensures { IsRankedTo site.now count budget result }
+    requires some { 1 ≤ effort.budget }
+    ensures { IsRankedTo site.now count effort.budget result }
 {
     match workspace_of(alloc, site) {
-        Ok(mut workspace) => rank_with(&mut workspace, site, count, budget),
+        Ok(mut workspace) => rank_with(&mut workspace, site, count, effort),
         Err(_) => Ranked::Memory,
     }
 }
@@ -115,5 +122,9 @@ pub fn rank(alloc: Global, problem: &Problem, graph: &Graph, count: u32, budget:
     requires some { 1 ≤ budget }
     ensures { IsRankedTo problem.now count budget result }
 {
-    rank_at(alloc, &Site::of(problem, graph), count, budget)
+    let effort = Effort {
+        budget,
+        watch: NoWatch,
+    };
+    rank_watched(alloc, &Site::of(problem, graph), count, effort)
 }

@@ -17,20 +17,22 @@ use abb_search::{FlowWorkspace, Found, search_with, workspace_of};
 use branch_tree::Network;
 use pgraph::{Graph, Site};
 use pns_problem::Problem;
+use progress::{Effort, Watch};
 use stability_laws::{present_stays, valued_is_valid};
 use std::alloc::{AllocError, Global};
 use std::marker::Model;
 use unit_sets::{Node, UnitSet};
 
 /// A copy of a case's problem, of which the spot alone is set from value to value, with what its
-/// searches keep.
+/// searches keep, and who watches them.
 #[derive(Drop)]
-pub(crate) struct Desk {
+pub(crate) struct Desk<W: Watch> {
     problem: Problem,
     workspace: FlowWorkspace,
+    watch: W,
 }
 
-impl Model for Desk {
+impl<W: Watch> Model for Desk<W> {
     ghost use Rattle.stability.specs.Desk as desks;
 
     ghost Value = { desks.Desk };
@@ -39,11 +41,16 @@ impl Model for Desk {
 }
 
 /// Searches all structures of the site's problem for a network that is cheaper than this one.
-fn search_at(workspace: &mut FlowWorkspace, site: &Site<'_>, budget: u32, network: Network) -> Found
+fn search_at<W: Watch>(
+    workspace: &mut FlowWorkspace,
+    site: &Site<'_>,
+    effort: Effort<W>,
+    network: Network,
+) -> Found
     requires makers { AreMakersOf (shape_of site.now) workspace.old.makers.makers }
-    requires some { 1 ≤ budget }
+    requires some { 1 ≤ effort.budget }
     requires passes { IsFeasible site.now network }
-    ensures found { IsFound site.now first_node budget result }
+    ensures found { IsFound site.now first_node effort.budget result }
     ensures against { IsAgainst (Some network) result }
     ensures makers { workspace.new.makers.makers ≡ workspace.old.makers.makers }
 {
@@ -52,21 +59,25 @@ fn search_at(workspace: &mut FlowWorkspace, site: &Site<'_>, budget: u32, networ
         outside: UnitSet::empty(),
     };
     match workspace.rebind(site) {
-        Ok(()) => search_with(workspace, site, start, budget, Some(network)),
+        Ok(()) => search_with(workspace, site, start, effort, Some(network)),
         Err(_) => Found::Memory,
     }
 }
 
-impl Desk {
+impl<W: Watch> Desk<W> {
     /// A desk with the present value. `Err` comes when memory is refused.
-    pub(crate) fn of(case: &Case) -> Result<Desk, AllocError>
+    pub(crate) fn of(case: &Case, watch: W) -> Result<Desk<W>, AllocError>
         ensures problem { IfOk result (λ d. d.problem ≡ case.now.problem) }
         ensures desk { IfOk result (IsDesk case.now) }
     {
         present_stays();
         let problem = case.problem.copy(case.alloc)?;
         let workspace = workspace_of(case.alloc, &Site::of(&problem, case.graph))?;
-        Ok(Desk { problem, workspace })
+        Ok(Desk {
+            problem,
+            workspace,
+            watch,
+        })
     }
 
     /// The case's problem with the value that was set last.
@@ -100,6 +111,10 @@ impl Desk {
         ensures same { self.new ≡ self.old }
     {
         let site = Site::of(&self.problem, graph);
-        search_at(&mut self.workspace, &site, budget, network)
+        let effort = Effort {
+            budget,
+            watch: &mut self.watch,
+        };
+        search_at(&mut self.workspace, &site, effort, network)
     }
 }

@@ -10,6 +10,7 @@ use crate::case::Case;
 use crate::desk::Desk;
 use crate::outcome::RangeFault;
 use branch_tree::Network;
+use progress::Watch;
 use stability_laws::{best_away, best_between};
 use stability_rules::Side;
 
@@ -108,7 +109,7 @@ impl Bracket {
 impl<'a> Case<'a> {
     /// A guess where to look next: where the lines of the two networks meet; on the way out, where
     /// a budget was spent, which costs all of it; or, where a number overflowed, between by length.
-    fn guess(&self, desk: &mut Desk, side: Side, bracket: &Bracket) -> u64
+    fn guess<W: Watch>(&self, desk: &mut Desk<W>, side: Side, bracket: &Bracket) -> u64
         requires desk { IsDesk self.now desk.old }
         requires is_bracket { IsBracket self.now side bracket.now }
         requires open { bracket.now.good + 1 < bracket.now.bad }
@@ -125,7 +126,7 @@ impl<'a> Case<'a> {
     }
 
     /// Where to look next.
-    fn next(&self, desk: &mut Desk, side: Side, bracket: &Bracket) -> u64
+    fn next<W: Watch>(&self, desk: &mut Desk<W>, side: Side, bracket: &Bracket) -> u64
         requires desk { IsDesk self.now desk.old }
         requires is_bracket { IsBracket self.now side bracket.now }
         requires open { bracket.now.good + 1 < bracket.now.bad }
@@ -138,7 +139,7 @@ impl<'a> Case<'a> {
     }
 
     /// The bracket after one more search.
-    fn narrowed(&self, desk: &mut Desk, side: Side, bracket: Bracket) -> Bracket
+    fn narrowed<W: Watch>(&self, desk: &mut Desk<W>, side: Side, bracket: Bracket) -> Bracket
         requires desk { IsDesk self.now desk.old }
         requires is_bracket { IsBracket self.now side bracket }
         requires open { bracket.good + 1 < bracket.bad }
@@ -185,7 +186,12 @@ impl<'a> Case<'a> {
         }
     }
 
-    fn narrow(&self, desk: &mut Desk, side: Side, bracket: Bracket) -> Result<End, RangeFault>
+    fn narrow<W: Watch>(
+        &self,
+        desk: &mut Desk<W>,
+        side: Side,
+        bracket: Bracket,
+    ) -> Result<End, RangeFault>
         requires desk { IsDesk self.now desk.old }
         requires is_bracket { IsBracket self.now side bracket }
         ensures end { IfOk result (IsEnd self.now side) }
@@ -204,7 +210,7 @@ impl<'a> Case<'a> {
     /// The end of the range on this side, where the network is optimal now: where its cost rises as
     /// little as any can the range goes to the limit of the values, and else the limit is looked at
     /// first.
-    pub(crate) fn end(&self, desk: &mut Desk, side: Side) -> Result<End, RangeFault>
+    pub(crate) fn end<W: Watch>(&self, desk: &mut Desk<W>, side: Side) -> Result<End, RangeFault>
         requires desk { IsDesk self.now desk.old }
         requires best { IsBestAt self.now.problem self.now.spot self.now.network (value_at self.now.problem self.now.spot) }
         ensures end { IfOk result (IsEnd self.now side) }

@@ -28,6 +28,7 @@ periods_page =
     codes "  BUDGET  the most nodes, 1 to 1000000; 10k is 10000; 1M where it is left out" ∷
     codes "Prints built NAMES, capacities D C C, cost N (N / D / G / 10^18), and for each" ∷
     codes "period its units and sizes (X / D / 10^6); or infeasible." ∷
+    codes "Standard error shows how far it is, unless PNS_QUIET is set." ∷
     codes "Ends with" ∷
     codes "  0   The text is out, whole." ∷
     codes "  4   a tree text of the expanded plant: a number on the way left the range of" ∷

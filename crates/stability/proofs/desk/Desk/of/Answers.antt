@@ -8,10 +8,10 @@ use Rattle.stability.specs.Case.{Case}
 use Rattle.stability.proofs.desk.Desk.of.Goals as goal
 
 pub of-requires : goal.of-requires
-of-requires c = c.case.invariant.graph ∙ ap (λ (p : Problem). shape_of p) (sym c.in_ok-problem.ensures)
+of-requires g c = c.case.invariant.graph ∙ ap (λ (p : Problem). shape_of p) (sym c.in_ok-problem.ensures)
 
 pub returns-clause-desk : goal.returns-clause-desk
-returns-clause-desk c =
+returns-clause-desk g c =
     let k = c.args.case.now in
     let at : c.case.inside.problem.now ≡ k.problem = ap (λ (x : Case). x.problem) c.case.view_is in
     record {
