@@ -13,8 +13,8 @@ Writes the plant of a plan of several periods as one ordinary plant, which solve
 and check read.
   FILE  the plant, PNS_problem_v1
   PLAN  a plan text, PNS_plan_v1
-Prints a plant, PNS_problem_v1. Unit b0 builds the first unit, u0.1 runs it in
-period 1, and so on.
+Prints a plant, PNS_problem_v1, without remarks. Unit b0 builds the first unit,
+u0.1 runs it in period 1, and so on.
 Ends with
   0   The text is out, whole.
   19  plan line L KIND: line L of PLAN has a fault. Mend the line.

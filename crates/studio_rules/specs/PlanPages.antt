@@ -8,8 +8,8 @@ expand_page =
     codes "and check read." ∷
     codes "  FILE  the plant, PNS_problem_v1" ∷
     codes "  PLAN  a plan text, PNS_plan_v1" ∷
-    codes "Prints a plant, PNS_problem_v1. Unit b0 builds the first unit, u0.1 runs it in" ∷
-    codes "period 1, and so on." ∷
+    codes "Prints a plant, PNS_problem_v1, without remarks. Unit b0 builds the first unit," ∷
+    codes "u0.1 runs it in period 1, and so on." ∷
     codes "Ends with" ∷
     codes "  0   The text is out, whole." ∷
     codes "  19  plan line L KIND: line L of PLAN has a fault. Mend the line." ∷
