@@ -1,5 +1,5 @@
 -- Laws of branch trees, each of which a public function of this crate has as its contract. Each speaks of every valid problem.
-use Rattle.std.specs.Prelude.{◌≡◌, ◌⊎◌, ℕ, suc, ◌<◌, ◌≤◌, ◌^◌, Bool, ◌||◌, ◌==◌, List, [], ◌∷◌, length, Option}
+use Rattle.std.specs.Prelude.{◌≡◌, ◌⊎◌, ℕ, suc, ◌<◌, ◌≤◌, ◌^◌, Bool, ◌||◌, ◌==◌, List, [], ◌∷◌, length, Option, Some}
 use Rattle.number_sets.specs.Sets.{listed, Avoids}
 use Rattle.number_sets.specs.Options.{IsIn}
 use Rattle.problem_rules.specs.Problem.{Problem}
@@ -12,10 +12,11 @@ use Rattle.tree_rules.specs.Ways.{Way, either, MayBranch, options_at, child_at, 
 use Rattle.tree_rules.specs.Tree.{End, leaf, Stands}
 use Rattle.tree_rules.specs.Claim.{Network, network, Claim, unknown, CostOver, claimed_cost, IsFeasible, ClaimPasses, ClaimFails}
 use Rattle.tree_rules.specs.Fault.{AreLeafRules}
-use Rattle.tree_rules.specs.Leaf.{Leaf, untried, IsUntried, LeafPasses, LeafFails}
+use Rattle.tree_rules.specs.Leaf.{Leaf, untried, Scaled, IsUntried, LeafPasses, LeafFails}
 use Rattle.tree_rules.specs.Lean.{IsLean}
 use Rattle.tree_rules.specs.Accepted.{Tree, first_node, Proves, IsAccepted, IsPartial, NodeIsFault}
 use Rattle.tree_rules.specs.Costs.{CostsEnough}
+use Rattle.tree_rules.specs.Lower.{lower_bound}
 
 -- ---- ways to branch
 
@@ -90,7 +91,8 @@ LeavesCover =
 pub record IsStillOpen (p : Problem) (start : Node) (tree : Tree) (s : ℕ → Bool) : Type 0 where
   pub place : ℕ
   pub node : Node
-  pub stands : Stands (shape_of p) (start ∷ []) tree place node (leaf untried)
+  pub low : Option Scaled
+  pub stands : Stands (shape_of p) (start ∷ []) tree place node (leaf (untried low))
   pub in_family : InFamily (shape_of p) node.inside node.outside s
 
 -- so each allowed solution structure of the start that is in no family of an open leaf costs at least what is claimed, with any
@@ -100,6 +102,21 @@ PartialIsLeast =
     (p : Problem) → IsValid p → (start : Node) (claim : Claim) (tree : Tree) → IsPartial p start claim tree
     → (s : ℕ → Bool) → InFamily (shape_of p) start.inside start.outside s
     → IsStillOpen p start tree s ⊎ CostsEnough p (claimed_cost claim) s
+
+-- and where a partial tree has a lower bound, each allowed solution structure of the start costs at least as much, open leaves or
+-- not; where there is no cost in it, it has no flows
+abbrev pub LowerBoundHolds : Type 0
+LowerBoundHolds =
+    (p : Problem) → IsValid p → (start : Node) (claim : Claim) (tree : Tree) → IsPartial p start claim tree
+    → (low : Option CostOver) → lower_bound p start claim tree ≡ Some low
+    → (s : ℕ → Bool) → InFamily (shape_of p) start.inside start.outside s → CostsEnough p low s
+
+-- where nothing is decided at the start, so does each allowed solution structure of the problem
+abbrev pub LowerBoundOfAll : Type 0
+LowerBoundOfAll =
+    (p : Problem) → IsValid p → (claim : Claim) (tree : Tree) → IsPartial p first_node claim tree
+    → (low : Option CostOver) → lower_bound p first_node claim tree ≡ Some low
+    → (s : ℕ → Bool) → IsStructure (shape_of p) s → IsAllowed (shape_of p) s → CostsEnough p low s
 
 -- no solution structure is in the families of two leaves
 abbrev pub LeavesAreApart : Type 0
@@ -139,7 +156,7 @@ AcceptedIsPartial = (p : Problem) (start : Node) (claim : Claim) (tree : Tree) �
 abbrev pub PartialIsAccepted : Type 0
 PartialIsAccepted =
     (p : Problem) (start : Node) (claim : Claim) (tree : Tree) → IsPartial p start claim tree → (claim ≡ unknown → ⊥)
-    → ((k : ℕ) (n : Node) → Stands (shape_of p) (start ∷ []) tree k n (leaf untried) → ⊥) → IsAccepted p start claim tree
+    → ((k : ℕ) (n : Node) (low : Option Scaled) → Stands (shape_of p) (start ∷ []) tree k n (leaf (untried low)) → ⊥) → IsAccepted p start claim tree
 
 -- ---- faults
 

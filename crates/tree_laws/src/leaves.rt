@@ -1,4 +1,4 @@
-ghost use Rattle.tree_laws.specs.Laws.{LeavesCover, PartialIsLeast, LeavesAreApart, LeavesAreDifferent, AcceptedIsPartial, PartialIsAccepted};
+ghost use Rattle.tree_laws.specs.Laws.{LeavesCover, PartialIsLeast, LowerBoundHolds, LowerBoundOfAll, LeavesAreApart, LeavesAreDifferent, AcceptedIsPartial, PartialIsAccepted};
 
 /// The families of the leaves cover that of the start, and no solution structure is in two. Where no unit is both taken in and
 /// left out at the start, no two leaves stand at one node.
@@ -12,6 +12,13 @@ pub fn leaves_cover()
 /// flows; where no network is claimed, it has no flows.
 pub fn partial_is_least()
     ensures { PartialIsLeast }
+{}
+
+/// No allowed solution structure of the start has flows that cost less than the lower bound of a partial tree, where it has one.
+/// From a start at which nothing is decided, this holds of each allowed solution structure of the problem.
+pub fn lower_bound_holds()
+    ensures start { LowerBoundHolds }
+    ensures all { LowerBoundOfAll }
 {}
 
 /// A partial tree that claims something is accepted exactly where no leaf is open.
