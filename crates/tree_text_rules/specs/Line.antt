@@ -5,7 +5,7 @@ use Rattle.std.specs.Prelude.{◌==◌, ◌&&◌, ℕ, Bool, true, false, not, L
 use Rattle.std.specs.List.{list_all, slice_split}
 use Rattle.std.specs.Str.{bytes_eq}
 use Rattle.tree_text_rules.specs.declared.Word.{Word}
-use Rattle.tree_text_rules.specs.declared.Word.TheVariants.{Network, Sizes, Cost, Infeasible, Unknown, Node, Raw, Rival, Starve, Loose, Sole, Dead, Clash, Refuted, Bound, Branch, Either, Open, Spent, Past, Nonbasic, Place, End}
+use Rattle.tree_text_rules.specs.declared.Word.TheVariants.{Network, Sizes, Cost, Infeasible, Unknown, Node, Raw, Rival, Starve, Loose, Sole, Dead, Clash, Refuted, Bound, Charge, SomeOf, With, Branch, Either, Open, Spent, Past, Nonbasic, Place, End}
 
 abbrev pub Token : Type 0
 Token = List ℕ
@@ -65,6 +65,9 @@ word_text Dead = codes "dead"
 word_text Clash = codes "clash"
 word_text Refuted = codes "refuted"
 word_text Bound = codes "bound"
+word_text Charge = codes "charge"
+word_text SomeOf = codes "some"
+word_text With = codes "with"
 word_text Branch = codes "branch"
 word_text Either = codes "either"
 word_text Open = codes "open"
@@ -102,6 +105,9 @@ word_named token =
     else if bytes_eq token (word_text Clash) then Some Clash
     else if bytes_eq token (word_text Refuted) then Some Refuted
     else if bytes_eq token (word_text Bound) then Some Bound
+    else if bytes_eq token (word_text Charge) then Some Charge
+    else if bytes_eq token (word_text SomeOf) then Some SomeOf
+    else if bytes_eq token (word_text With) then Some With
     else if bytes_eq token (word_text Branch) then Some Branch
     else if bytes_eq token (word_text Either) then Some Either
     else if bytes_eq token (word_text Open) then Some Open

@@ -1,17 +1,18 @@
 -- What a line stands for by the place where it comes, or which fault it has. A line that has not its form has no other fault
 -- than that, but that a node's line too many and a node's line that is missing are told before.
-use Rattle.std.specs.Prelude.{◌==◌, ℕ, ℤ, Bool, true, List, [], ◌∷◌, length, codes, Option, Some, None, Result, Ok, Err, if◌then◌else◌}
+use Rattle.std.specs.Prelude.{◌==◌, ℕ, ℤ, Bool, true, nat_lt, List, [], ◌∷◌, length, codes, Option, Some, None, Result, Ok, Err, if◌then◌else◌}
 use Rattle.std.specs.Str.{bytes_eq}
 use Rattle.problem_rules.specs.Problem.{Problem}
 use Rattle.pns_rules.specs.Nodes as nodes
 use Rattle.flow_rules.specs.declared.place.Column.{Column}
 use Rattle.flow_rules.specs.declared.place.Place.{Place}
 use Rattle.flow_rules.specs.declared.place.Place.TheVariants as places
+use Rattle.charge_rules.specs.Cover.{Cover}
 use Rattle.tree_rules.specs.Ways as ways
 use Rattle.tree_rules.specs.Tree as trees
 use Rattle.tree_rules.specs.Leaf as leaves
 use Rattle.tree_text_rules.specs.Line.{Token, Line, word_of, fields_of, is_formed, file_type}
-use Rattle.tree_text_rules.specs.Token.{both, mapped, each, judged, unit_of, material_of, exclusion_of, units_of, number_of, denominator_of, count_of, children_of, options_of, column_of, row_of, which_of, flow_of}
+use Rattle.tree_text_rules.specs.Token.{both, mapped, each, judged, unit_of, material_of, exclusion_of, units_of, number_of, weight_of, denominator_of, count_of, children_of, options_of, column_of, row_of, which_of, flow_of}
 use Rattle.tree_text_rules.specs.declared.TreeKind.{TreeKind}
 use Rattle.tree_text_rules.specs.declared.TreeKind.TheVariants.{FileType, BadLine, WrongCount, MoreNodes, FewerNodes}
 use Rattle.tree_text_rules.specs.declared.Word.{Word}
@@ -58,18 +59,65 @@ formed_step line (Some read) = Some (formed line read)
 abbrev pub step_read : Problem → Line → Option (Result nodes.Step TreeKind)
 step_read p line = formed_step line (step_by p (word_of line) (fields_of line))
 
+-- an open leaf: nothing, or a scale and multipliers
+abbrev pub open_of : List Token → Result leaves.Leaf TreeKind
+open_of [] = Ok (leaves.untried None)
+open_of (token ∷ tokens) =
+    mapped (λ found. leaves.untried (Some (record { d = found.0; ys = found.1 }))) (one_and_more number_of number_of (token ∷ tokens))
+
+-- the line of a charge, without the sets that come behind it
 abbrev pub end_by : Problem → Option Word → List Token → Result (trees.End leaves.Leaf) TreeKind
 end_by p (Some words.Dead) fields = mapped (λ x. trees.leaf (leaves.dead x)) (one (material_of p) fields)
 end_by p (Some words.Clash) fields = mapped (λ k. trees.leaf (leaves.clash k)) (one (exclusion_of p) fields)
 end_by p (Some words.Refuted) fields = mapped (λ ys. trees.leaf (leaves.refuted ys)) (each number_of fields)
 end_by p (Some words.Bound) fields = mapped (λ found. trees.leaf (leaves.bounded found.0 found.1)) (one_and_more number_of number_of fields)
+end_by p (Some words.Charge) fields = mapped (λ found. trees.leaf (leaves.charged (record { d = found.0; ys = found.1; covers = [] }))) (one_and_more number_of number_of fields)
 end_by p (Some words.Branch) fields = mapped (λ found. trees.branch (ways.at_material found.0 found.1)) (two (material_of p) children_of fields)
 end_by p (Some words.Either) fields = mapped (λ u. trees.branch (ways.either u)) (one (unit_of p) fields)
-end_by p (Some words.Open) fields = alone (trees.leaf leaves.untried) fields
+end_by p (Some words.Open) fields = mapped (λ l. trees.leaf l) (open_of fields)
 end_by p word fields = Err BadLine
 
 abbrev pub end_line_read : Problem → Line → Result (trees.End leaves.Leaf) TreeKind
 end_line_read p line = formed line (end_by p (word_of line) (fields_of line))
+
+-- ---- the sets of a charge
+
+-- the names of a set, one at least
+abbrev pub some_units : Problem → List Token → Result (List ℕ) TreeKind
+some_units p [] = Err BadLine
+some_units p (token ∷ tokens) = units_of p (token ∷ tokens)
+
+-- a weight and the units of a set
+abbrev pub set_of : Problem → List Token → Result Cover TreeKind
+set_of p (weight ∷ names) =
+    mapped (λ found. record { weight = found.0; beside = None; units = found.1 }) (both (weight_of weight) (some_units p names))
+set_of p [] = Err BadLine
+
+-- a weight, the unit beside a set, and the units of the set
+abbrev pub set_beside : Problem → List Token → Result Cover TreeKind
+set_beside p (weight ∷ unit ∷ names) =
+    mapped (λ found. record { weight = found.0; beside = Some found.1.0; units = found.1.1 })
+    (both (weight_of weight) (both (unit_of p unit) (some_units p names)))
+set_beside p fields = Err BadLine
+
+-- where a set may come: a set, or none where the line is another
+abbrev pub cover_by : Problem → Option Word → List Token → Option (Result Cover TreeKind)
+cover_by p (Some words.SomeOf) fields = Some (set_of p fields)
+cover_by p (Some words.With) fields = Some (set_beside p fields)
+cover_by p word fields = None
+
+abbrev pub formed_cover : Line → Option (Result Cover TreeKind) → Option (Result Cover TreeKind)
+formed_cover line None = None
+formed_cover line (Some read) = Some (formed line read)
+
+abbrev pub cover_read : Problem → Line → Option (Result Cover TreeKind)
+cover_read p line = formed_cover line (cover_by p (word_of line) (fields_of line))
+
+-- behind so many sets of a charge one more may come, as long as there are not a million
+abbrev pub next_cover : Problem → List Cover → Line → Option (Result Cover TreeKind)
+next_cover p covers line = if nat_lt (length covers) 1000000 then cover_read p line else None
+
+-- ---- the lines that begin nodes
 
 -- where a node's line must come
 abbrev pub option_by : Problem → Option Word → List Token → Bool → Result (List ℕ) TreeKind

@@ -13,7 +13,8 @@
 pub enum TreeKind {
     /// The first line is another text than `file_type=PNS_tree_v1`, or is missing.
     FileType,
-    /// A line that is none of the forms that may come there, or a missing line.
+    /// A line that is none of the forms that may come there, or a missing line. Behind the line of a charge a million sets may
+    /// come.
     BadLine,
     /// A name that the problem has not.
     UnknownName,
@@ -49,6 +50,9 @@ pub enum Word {
     Clash,
     Refuted,
     Bound,
+    Charge,
+    SomeOf,
+    With,
     Branch,
     Either,
     Open,
