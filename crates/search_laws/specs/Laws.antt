@@ -1,6 +1,6 @@
 -- Laws of a best-first search of branch trees, each of which a public function of this crate has as its contract. Each speaks of
 -- every shape of a valid problem, or of every valid problem.
-use Rattle.std.specs.Prelude.{◌≡◌, ℕ, suc, ◌+◌, ◌<◌, ◌≤◌, ◌^◌, Bool, true, false, List, [], ◌∷◌, length}
+use Rattle.std.specs.Prelude.{◌≡◌, ℕ, suc, ◌+◌, ◌<◌, ◌≤◌, ◌^◌, Bool, true, false, List, [], ◌∷◌, length, Option}
 use Rattle.std.specs.List.{sum_by}
 use Rattle.number_sets.specs.Sets.{listed, IsWithin, Avoids}
 use Rattle.number_sets.specs.Options.{IsIn}
@@ -13,7 +13,7 @@ use Rattle.pns_rules.specs.Ends.{IsSound, IsDead, IsUndecided, IsNever, IsReduce
 use Rattle.tree_rules.specs.Ways.{Way, either, MayBranch, options_at, child_at, IsDecision}
 use Rattle.tree_rules.specs.Tree.{End, leaf, StepsPass, after_all, Stands}
 use Rattle.tree_rules.specs.Claim.{Claim, claimed_cost}
-use Rattle.tree_rules.specs.Leaf.{Leaf, untried, IsUntried}
+use Rattle.tree_rules.specs.Leaf.{Leaf, untried, Scaled, IsUntried}
 use Rattle.tree_rules.specs.Lean.{IsNoDearer, IsLean}
 use Rattle.tree_rules.specs.Accepted.{Tree, Proves}
 use Rattle.tree_laws.specs.Laws.{free_units}
@@ -110,6 +110,6 @@ SpentIsNever =
     → IsLean p IsUntried (claimed_cost claim) start tree
     → (root : Node) (e : End Leaf) → Stands (shape_of p) (start ∷ []) tree 0 root e → IsSound (shape_of p) root
     → (all : ℕ → Bool) → IsUnion (shape_of p) (λ u. false) all
-    → (k : ℕ) (n : Node) → Stands (shape_of p) (start ∷ []) tree k n (leaf untried) → IsReduced (shape_of p) n
+    → (k : ℕ) (n : Node) (low : Option Scaled) → Stands (shape_of p) (start ∷ []) tree k n (leaf (untried low)) → IsReduced (shape_of p) n
     → (w : Way) → MayBranch (shape_of p) n w → IsDecision (shape_of p) n w
     → length tree + length (options_at (shape_of p) n w) < 2 ^ suc (length (listed (shape_of p).units all))
