@@ -1,6 +1,6 @@
 -- The tree of a search while it grows: a list of cells in the order of adding, so that the children of a node stand one behind the
 -- other, and behind their parent.
-use Rattle.std.specs.Prelude.{◌≡◌, ℕ, ◌+◌, ◌<◌, ◌≤◌, ◌==◌, cond, List, [], ◌∷◌, length, get_or}
+use Rattle.std.specs.Prelude.{◌≡◌, ℕ, ◌+◌, ◌<◌, ◌≤◌, ◌==◌, cond, List, [], ◌∷◌, length, get_or, None}
 use Rattle.std.specs.List.{range_with_len}
 use Rattle.pns_rules.specs.Nodes as rules
 use Rattle.pgraph.specs.View.{node_of}
@@ -20,7 +20,7 @@ pub record Cell : Type 0 where
   pub key : ℕ
 
 abbrev pub no_cell : Cell
-no_cell = record { option = []; steps = []; node = record { inside = []; outside = [] }; first = 0; end = leaf untried; key = 0 }
+no_cell = record { option = []; steps = []; node = record { inside = []; outside = [] }; first = 0; end = leaf (untried None); key = 0 }
 
 -- the node in the words of the rules
 abbrev pub place_of : Cell → rules.Node

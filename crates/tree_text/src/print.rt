@@ -4,7 +4,7 @@ ghost use Rattle.problem_rules.specs.Each.{Each};
 ghost use Rattle.pgraph.specs.View.{step_of};
 ghost use Rattle.tree_rules.specs.Known.{AreUnits, KnowsStep, KnowsEnd, KnowsTree, KnowsClaim, KnowsColumn, KnowsPlace, KnowsTail};
 ghost use Rattle.branch_tree.specs.View.{end_of, claim_of, tail_of};
-ghost use Rattle.tree_text_rules.specs.Spelling.{end_line, head_lines, network_lines, place_lines, tail_lines, rest_lines, tree_text_lines};
+ghost use Rattle.tree_text_rules.specs.Spelling.{end_with_sets, head_lines, network_lines, place_lines, tail_lines, rest_lines, tree_text_lines};
 ghost use Rattle.tree_text.specs.Prints.{Prints};
 
 use crate::fault::PrintFault;
@@ -89,7 +89,7 @@ pub fn print_head<K: Sink>(
     put_head(&mut line, problem, option, steps, out)
 }
 
-/// Prints the line of an end.
+/// Prints the line of an end, and behind it those of its sets.
 pub fn print_end<K: Sink>(
     alloc: Global,
     problem: &Problem,
@@ -97,7 +97,7 @@ pub fn print_end<K: Sink>(
     out: &mut K,
 ) -> Result<(), PrintFault>
     requires known { KnowsEnd problem.now (end_of end.now) }
-    ensures prints { Prints (end_line problem.now (end_of end.now) ∷ []) (K.state out.old) (K.state out.new) result }
+    ensures prints { Prints (end_with_sets problem.now (end_of end.now)) (K.state out.old) (K.state out.new) result }
     ensures later { (K.state out.old).faults ≤ (K.state out.new).faults }
 {
     let mut line = String::new(alloc);

@@ -23,7 +23,7 @@ use Rattle.tree_text_laws.proofs.Parts.{good_is, on_line_ok, then_ok}
 use Rattle.tree_text_laws.proofs.Pieces.{text_back, text_again, HasNoFeed}
 use Rattle.tree_text_laws.specs.Codes.{line_of, IsToken}
 use Rattle.tree_text_laws.proofs.Said.{no_feed}
-use Rattle.tree_text_laws.proofs.Tails.{tail_back, tail_again, tail_tokens}
+use Rattle.tree_text_laws.proofs.Tails.{tail_back, tail_again, tail_no_set, tail_tokens}
 
 -- ---- the first line
 
@@ -82,7 +82,7 @@ module _ (p : Problem) (formed : IsWellFormed p) where
       let here : ℕ = behind_claim p formed c.claim number in
       ap (rest_taken p number) (parts_joined c.claim c.tree c.tail)
       ∙ ap (λ (r : Result (Taken claims.Claim) Fault). then_read r tree_then) (claim_again p formed c.claim number tree fits.claim.known fits.claim.kept)
-      ∙ ap (λ (r : Result (Taken Tree) Fault). then_read r (tail_then c.claim)) (tree_again p formed here c.tree tail fits.tree)
+      ∙ ap (λ (r : Result (Taken Tree) Fault). then_read r (tail_then c.claim)) (tree_again p formed here c.tree tail fits.tree (tail_no_set p formed c.tail fits.tail))
       ∙ ap (with_tail c.claim c.tree) (tail_again p formed c.tail (behind_tree p formed here c.tree) fits.tail)
 
   pub lines_back : (lines : List Line) (c : Certificate) → lines_taken p lines ≡ Ok c → (lines ≡ map line_of (tree_text_lines p c.claim c.tree c.tail)) × Fits p c

@@ -1,13 +1,13 @@
 -- The laws of the text of branch trees, each of which a public function of this crate has as its contract.
-use Rattle.std.specs.Prelude.{◌≡◌, ◌+◌, ℕ, List, [], ◌∷◌, ◌++◌, length, Ok}
+use Rattle.std.specs.Prelude.{◌≡◌, ◌+◌, ℕ, List, ◌++◌, length, Ok}
 use Rattle.problem_rules.specs.Problem.{Problem}
 use Rattle.problem_rules.specs.Validity.{IsValid}
 use Rattle.tree_text_rules.specs.Line.{Line}
 use Rattle.tree_text_rules.specs.Read.{Taken, Certificate, Head, network_taken, claim_taken, head_taken, end_taken, tree_taken, tail_taken, rest_taken, read_text}
-use Rattle.tree_text_rules.specs.Spelling.{network_lines, claim_lines, head_lines, end_line, tree_lines, tail_lines, rest_lines, tree_text}
+use Rattle.tree_text_rules.specs.Spelling.{network_lines, claim_lines, head_lines, end_with_sets, tree_lines, tail_lines, rest_lines, tree_text}
 use Rattle.tree_text_laws.specs.LineFits.{FitsEnd}
 use Rattle.tree_text_laws.specs.Fits.{FitsNetwork, FitsClaim, FitsHead, FitsTree, FitsTail, Fits}
-use Rattle.tree_text_laws.specs.Lines.{lines_said, TakesJust, ReadsJust, BeginsNoStep}
+use Rattle.tree_text_laws.specs.Lines.{lines_said, TakesJust, TakesBefore, ReadsJust, BeginsNoSet, BeginsNoStep}
 
 -- ---- whole texts
 
@@ -35,11 +35,12 @@ NetworksAreTaken = (p : Problem) → IsValid p → TakesJust (network_taken p) (
 abbrev pub ClaimsAreTaken : Type 0
 ClaimsAreTaken = (p : Problem) → IsValid p → TakesJust (claim_taken p) (claim_lines p) (FitsClaim p)
 
+-- behind an end and a tree no set of a charge stands, which would be one of its last
 abbrev pub EndsAreTaken : Type 0
-EndsAreTaken = (p : Problem) → IsValid p → TakesJust (end_taken p) (λ end. end_line p end ∷ []) (FitsEnd p)
+EndsAreTaken = (p : Problem) → IsValid p → TakesBefore (BeginsNoSet p) (end_taken p) (end_with_sets p) (FitsEnd p)
 
 abbrev pub TreesAreTaken : Type 0
-TreesAreTaken = (p : Problem) → IsValid p → TakesJust (tree_taken p) (tree_lines p) (FitsTree p)
+TreesAreTaken = (p : Problem) → IsValid p → TakesBefore (BeginsNoSet p) (tree_taken p) (tree_lines p) (FitsTree p)
 
 abbrev pub TailsAreRead : Type 0
 TailsAreRead = (p : Problem) → IsValid p → ReadsJust (tail_taken p) (tail_lines p) (FitsTail p)
