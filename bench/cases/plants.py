@@ -46,6 +46,8 @@ class Plant:
     def __init__(self, text, plan):
         sections, part = {}, ""
         for line in (it.strip() for it in text.splitlines()):
+            if line.startswith("#"):
+                continue
             if line.endswith(":"):
                 part = line[:-1]
             elif line:
@@ -153,11 +155,13 @@ def periods_of(materials, plan):
         return [same]
     periods = []
     for words in (line.split() for line in plan.splitlines()[1:]):
-        if words and words[0] == "period":
+        if not words or words[0].startswith("#"):
+            continue
+        if words[0] == "period":
             periods.append(dict(same))
-        elif words and words[0] == "price":
+        elif words[0] == "price":
             periods[-1][words[1]] = Fraction(words[2]), periods[-1][words[1]][1]
-        elif words:
+        else:
             periods[-1][words[1]] = periods[-1][words[1]][0], (
                 Fraction(words[2]),
                 Fraction(words[3]),

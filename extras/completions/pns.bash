@@ -16,7 +16,7 @@ _pns_units() {
     local front= names=
     case $word in *,*) front=${word%,*}, ;; esac
     compopt -o nospace 2> /dev/null
-    names=$(awk -F: '/^[ \t]*[a-z_]+[ \t]*:[ \t\r]*$/ { part = $1; gsub(/[ \t]/, "", part); next } part ~ /^(operating_units|material_to_operating_unit_flow_rates)$/ { gsub(/[ \t\r]/, "", $1); if ($1 != "" && !seen[$1]++) print $1 }' "${COMP_WORDS[2]}" 2> /dev/null)
+    names=$(awk -F: '/^[ \t]*#/ { next } /^[ \t]*[a-z_]+[ \t]*:[ \t\r]*$/ { part = $1; gsub(/[ \t]/, "", part); next } part ~ /^(operating_units|material_to_operating_unit_flow_rates)$/ { gsub(/[ \t\r]/, "", $1); if ($1 != "" && !seen[$1]++) print $1 }' "${COMP_WORDS[2]}" 2> /dev/null)
     mapfile -t COMPREPLY < <(compgen -P "$front" -W "$names" -- "${word##*,}")
 }
 _pns() {

@@ -1,7 +1,7 @@
 # Completes the words of pns in fish. Written by tools/help write.
 function __pns_units
     set -l words (commandline -opc)
-    awk -F: '/^[ \t]*[a-z_]+[ \t]*:[ \t\r]*$/ { part = $1; gsub(/[ \t]/, "", part); next } part ~ /^(operating_units|material_to_operating_unit_flow_rates)$/ { gsub(/[ \t\r]/, "", $1); if ($1 != "" && !seen[$1]++) print $1 }' $words[3] 2> /dev/null
+    awk -F: '/^[ \t]*#/ { next } /^[ \t]*[a-z_]+[ \t]*:[ \t\r]*$/ { part = $1; gsub(/[ \t]/, "", part); next } part ~ /^(operating_units|material_to_operating_unit_flow_rates)$/ { gsub(/[ \t\r]/, "", $1); if ($1 != "" && !seen[$1]++) print $1 }' $words[3] 2> /dev/null
 end
 complete -c pns -f
 complete -c pns -n '__fish_use_subcommand' -a max -d 'Finds the maximal structure'

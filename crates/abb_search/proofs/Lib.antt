@@ -12,4 +12,5 @@ pub mod ShutTreeLemmas
 pub mod SpentLemmas
 pub mod StepLemmas
 pub mod TurnLemmas
+pub mod WatchLemmas
 pub mod WorthLemmas

@@ -2,7 +2,7 @@
 use Rattle.std.specs.Prelude.{IfOk}
 use Rattle.std.proofs.Common.{◌≡◌, ℕ, ◌<◌, Bool, true, false, List, length, Option, Some, None, Result, Ok, Err, refl, sym, ap, ◌∙◌, subst, arith}
 use Rattle.problem_rules.specs.Problem.{Problem}
-use Rattle.pns_rules.specs.Shape.{Shape, shape_of}
+use Rattle.pns_rules.specs.Shape.{shape_of}
 use Rattle.pns_rules.specs.Ends.{IsSound}
 use Rattle.pgraph.specs.View.{node_of}
 use Rattle.neutral_extension.specs.Candidates.{AreMakersOf}
@@ -210,11 +210,10 @@ found_same Past a b found h f =
     (subst (λ (n : starts.Node). IsFoundBy Past b.problem (node_of n) a.budget found) h.start (subst (λ k. IsFoundBy Past b.problem (node_of b.start) k found) h.budget f))
 
 -- the search stands as it stood
-pub searching_same : (Past : PastPlaces) (p : Problem) (g : Shape) (mk mk' : List (List ℕ)) (s n : Growing) (looked ended : Bool) → IsSearching Past p g mk s looked ended → mk' ≡ mk → IsSame Past p s n
-    → IsSearching Past p g mk' n looked ended
-searching_same Past p g mk mk' s n looked ended h em e = record {
-  graph = h.graph;
-  makers = subst (λ (m : List (List ℕ)). AreMakersOf g m) (sym em) h.makers;
+pub searching_same : (Past : PastPlaces) (p : Problem) (mk mk' : List (List ℕ)) (s n : Growing) (looked ended : Bool) → IsSearching Past p mk s looked ended → mk' ≡ mk → IsSame Past p s n
+    → IsSearching Past p mk' n looked ended
+searching_same Past p mk mk' s n looked ended h em e = record {
+  makers = subst (λ (m : List (List ℕ)). AreMakersOf (shape_of p) m) (sym em) h.makers;
   sound = subst (λ (m : starts.Node). IsSound (shape_of p) (node_of m)) (sym e.start) h.sound;
   some = let a = e.budget in let b = h.some in omega (arith, a, b);
   counted = e.nodes ∙ (h.counted ∙ ap (λ (cs : List Cell). length cs) (sym e.cells));

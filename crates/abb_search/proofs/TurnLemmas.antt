@@ -52,7 +52,7 @@ use Rattle.node_evaluation.proofs.BestLemmas.{improved_after, children_after}
 use Rattle.abb_search.specs.declared.growing.Growing.{Growing}
 use Rattle.abb_search.specs.declared.growing.StoppedLeaf.{StoppedLeaf}
 use Rattle.abb_search.specs.Worth.{interval_of, refutation_of, is_refuted, is_settled, is_put_off}
-use Rattle.abb_search.specs.Growing.{IsTreeKeptFor, AreOpen, IsGrowingFor, HasLeastValue, ready_at, IsSettledAt, HasInterval, reached_by, IsLeastLeaf, LeafUndercuts, choice_of, IsStoppedAt, stop_at, IsBranching, GoesOn, GoesOnFor}
+use Rattle.abb_search.specs.Growing.{IsTreeKeptFor, AreOpen, IsGrowingFor, HasLeastValue, ready_at, IsSettledAt, reached_by, IsLeastLeaf, LeafUndercuts, choice_of, IsStoppedAt, stop_at, IsBranching, GoesOn, GoesOnFor}
 use Rattle.abb_search.specs.Settling.{AreSettled}
 use Rattle.abb_search.specs.Closing.{AreBeaten}
 use Rattle.abb_search.proofs.WorthLemmas.{mixed_positive, dearer_refuted, never_both, else_settled, ready_under, ready_reached, ready_stop, ready_refuted}

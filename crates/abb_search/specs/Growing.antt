@@ -29,7 +29,7 @@ use Rattle.node_evaluation.specs.declared.looks.Ready.{Ready}
 use Rattle.node_evaluation.specs.declared.looks.Looked.{Looked}
 use Rattle.node_evaluation.specs.declared.children.StoppedAt.{StoppedAt}
 use Rattle.node_evaluation.specs.declared.children.Children.{Children}
-use Rattle.node_evaluation.specs.Evaluated.{PastPlaces, cost_over, cost_in}
+use Rattle.node_evaluation.specs.Evaluated.{PastPlaces, cost_over}
 use Rattle.node_evaluation.specs.Looks.{has_bounded, KnowsCell, cost_of, IsStop, IsLooked}
 use Rattle.node_evaluation.specs.Children.{claim_with, cells_of, values_of, AreSeen}
 use Rattle.abb_search.specs.Worth.{interval_of, is_refuted, is_settled}

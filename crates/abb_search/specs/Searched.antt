@@ -1,7 +1,7 @@
 -- What contracts see of a search, and what a turn does to it.
 use Rattle.std.specs.Prelude.{◌≡◌, ℕ, ◌<◌, ◌≤◌, Bool, true, false, List, [], ◌∷◌, length, Option}
 use Rattle.problem_rules.specs.Problem.{Problem}
-use Rattle.pns_rules.specs.Shape.{Shape, shape_of}
+use Rattle.pns_rules.specs.Shape.{shape_of}
 use Rattle.pns_rules.specs.Ends.{IsSound}
 use Rattle.pgraph.specs.View.{node_of}
 use Rattle.unit_sets.specs.declared.node.Node.{Node}
@@ -84,10 +84,9 @@ abbrev pub StandsAt : PastPlaces → Problem → Growing → Bool → Type 0
 StandsAt Past p s false = IsTreeKept p s × (length s.pool.payloads ≡ 1)
 StandsAt Past p s true = IsGoing Past p s
 
--- of a search of the problem p, whose graph has the shape g and the makers mk
-pub record IsSearching (Past : PastPlaces) (p : Problem) (g : Shape) (mk : List (List ℕ)) (s : Growing) (looked ended : Bool) : Type 0 where
-  pub graph : g ≡ shape_of p
-  pub makers : AreMakersOf g mk
+-- of a search of the problem p, whose graph has the makers mk
+pub record IsSearching (Past : PastPlaces) (p : Problem) (mk : List (List ℕ)) (s : Growing) (looked ended : Bool) : Type 0 where
+  pub makers : AreMakersOf (shape_of p) mk
   pub sound : IsSound (shape_of p) (node_of s.start)
   pub some : 1 ≤ s.budget
   pub counted : s.nodes ≡ length s.pool.payloads

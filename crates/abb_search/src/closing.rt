@@ -1,21 +1,20 @@
-//! What shuts the open leaves, where a network costs no more than any of them, or where they are refuted.
+//! What shuts the open leaves, where a network costs no more than any of them, or where they are
+//! refuted.
 ghost use Rattle.std.specs.Prelude.{◌≡◌, ◌<◌, ℕ, false, None, length, IfOk, Option, option_copied};
 ghost use Rattle.pns_rules.specs.Shape.{shape_of};
 ghost use Rattle.pns_rules.specs.Ends.{IsSound, IsReduced};
-ghost use Rattle.pgraph.specs.Tables.{shape};
 ghost use Rattle.pgraph.specs.View.{node_of};
 ghost use Rattle.tree_rules.specs.Claim.{CostOver};
 ghost use Rattle.tree_rules.specs.Costs.{IsNoMore};
-ghost use Rattle.node_evaluation.specs.Evaluated.{cost_over, cost_in, IsBoundOf, IsWorth, IsProof};
+ghost use Rattle.node_evaluation.specs.Evaluated.{cost_over, cost_in, IsBoundOf, IsProof};
 ghost use Rattle.abb_search.specs.Worth.{refutation_in, refutation_of};
 ghost use Rattle.abb_search.specs.Growing.{IsGrowingFor};
 ghost use Rattle.abb_search.specs.Closing.{AreBeaten, IsShutBy, AreShutBy, IsInRange, AreInRange, RefutedShut, hand_of, refuted_by, shut_by};
 
 use crate::growing::{Growing, StoppedLeaf, node_at, reaches};
 use branch_tree::{Multipliers, Network};
-use node_evaluation::{Bound, Evaluator, PastStop, Proof, Ready, Worth};
-use pgraph::Graph;
-use pns_problem::Problem;
+use node_evaluation::{Bound, Evaluator, PastStop, Proof, Ready, Workspace, Worth};
+use pgraph::Site;
 use search_tree::{Shut, copy_multipliers, copy_scaled};
 use std::alloc::{AllocError, Global};
 use unit_sets::Node;
@@ -25,7 +24,7 @@ use unit_sets::Node;
 pub enum Closing {
     /// What shuts each open leaf, by its number.
     Proved(Vec<Option<Shut>>),
-    /// A number is past the range at an open leaf of which it is settled what it is worth.
+    /// A number overflows at an open leaf of which it is settled what it is worth.
     Stopped(StoppedLeaf),
 }
 
@@ -34,7 +33,7 @@ pub enum Closing {
 enum Shutting {
     /// This shuts it, or nothing, where it is no open leaf.
     By(Option<Shut>),
-    /// A number is past the range there.
+    /// A number overflows there.
     Stopped(PastStop),
 }
 
@@ -48,49 +47,32 @@ fn is_in_range(proof: &Proof)
     }
 }
 
-/// What the evaluator proves of a node that is worth no less than the network's cost.
-fn proved_by<E: Evaluator>(
-    alloc: Global,
-    evaluator: &mut E,
-    problem: &Problem,
-    graph: &Graph,
-    network: &Network,
-    node: Node,
-) -> Result<Proof, AllocError>
-    requires graph { shape graph.now ≡ shape_of problem.now }
-    requires sound { IsSound (shape_of problem.now) (node_of node) }
-    requires reduced { IsReduced (shape_of problem.now) (node_of node) }
-    requires worth { IsWorth problem.now (node_of node) (cost_in network.now) }
-    ensures { IfOk result (IsProof E.past problem.now (node_of node) (cost_in network.now)) }
-{
-    network.is_sized();
-    evaluator.prove(alloc, problem, graph, node, network.cost(), network.d())
-}
-
-/// What proves that a node is worth no less than the network's cost: the multipliers at hand where they reach it, else what the
-/// evaluator proves.
+/// What proves that a node is worth no less than the network's cost: the multipliers at hand where
+/// they reach it, else what the evaluator proves.
 fn proof_for<E: Evaluator>(
-    alloc: Global,
-    evaluator: &mut E,
-    problem: &Problem,
-    graph: &Graph,
+    workspace: &mut Workspace<E>,
+    site: &Site<'_>,
     network: &Network,
     node: Node,
     bound: &Bound,
 ) -> Result<Proof, AllocError>
-    requires graph { shape graph.now ≡ shape_of problem.now }
-    requires sound { IsSound (shape_of problem.now) (node_of node) }
-    requires reduced { IsReduced (shape_of problem.now) (node_of node) }
-    requires bound { IsBoundOf E.past problem.now (node_of node) bound.now }
+    requires own { E.values site.now workspace.old.evaluator }
+    requires sound { IsSound (shape_of site.now) (node_of node) }
+    requires reduced { IsReduced (shape_of site.now) (node_of node) }
+    requires bound { IsBoundOf E.past site.now (node_of node) bound.now }
     requires beaten { IsNoMore (cost_in network.now) (cost_over bound.now.value) }
-    ensures { IfOk result (IsProof E.past problem.now (node_of node) (cost_in network.now)) }
+    ensures proved { IfOk result (IsProof E.past site.now (node_of node) (cost_in network.now)) }
+    ensures own { E.values site.now workspace.new.evaluator }
+    ensures makers { workspace.new.makers ≡ workspace.old.makers }
 {
     network.is_sized();
     if reaches(&bound.low, network) {
-        let copy = copy_scaled(alloc, &bound.scaled)?;
+        let copy = copy_scaled(workspace.alloc, &bound.scaled)?;
         return Ok(Proof::Scaled(copy));
     }
-    proved_by(alloc, evaluator, problem, graph, network, node)
+    workspace
+        .evaluator
+        .prove(workspace.alloc, site, node, network)
 }
 
 /// What is at hand for a node, where it is an open leaf.
@@ -119,19 +101,19 @@ fn shut_by(proof: Proof) -> Shutting
 
 /// What shuts a node, where it is an open leaf.
 fn shut_at<E: Evaluator>(
-    alloc: Global,
-    evaluator: &mut E,
-    problem: &Problem,
-    graph: &Graph,
+    workspace: &mut Workspace<E>,
+    site: &Site<'_>,
     growing: &Growing,
     network: &Network,
     leaf: u32,
 ) -> Result<Shutting, AllocError>
-    requires graph { shape graph.now ≡ shape_of problem.now }
-    requires growing { (undercut : Option CostOver) × IsGrowingFor E.past problem.now undercut growing.now }
+    requires own { E.values site.now workspace.old.evaluator }
+    requires growing { (undercut : Option CostOver) × IsGrowingFor E.past site.now undercut growing.now }
     requires beaten { AreBeaten growing.now network.now }
     requires leaf { leaf < length growing.now.pool.payloads }
-    ensures { IfOk result (IsShutBy E.past problem.now growing.now (cost_in network.now) leaf) }
+    ensures shut { IfOk result (IsShutBy E.past site.now growing.now (cost_in network.now) leaf) }
+    ensures own { E.values site.now workspace.new.evaluator }
+    ensures makers { workspace.new.makers ≡ workspace.old.makers }
 {
     let Some(ready) = hand_at(growing, leaf) else {
         return Ok(Shutting::By(None));
@@ -140,40 +122,41 @@ fn shut_at<E: Evaluator>(
         Worth::AtLeast(bound) => {
             bound.scaled.are_in_range();
             network.is_sized();
-            let copy = copy_scaled(alloc, &bound.scaled)?;
+            let copy = copy_scaled(workspace.alloc, &bound.scaled)?;
             Ok(Shutting::By(Some(Shut::Bounded(copy))))
         }
         Worth::Refuted(ys) => {
             ys.are_in_range();
-            let copy = copy_multipliers(alloc, ys)?;
+            let copy = copy_multipliers(workspace.alloc, ys)?;
             Ok(Shutting::By(Some(Shut::Refuted(copy))))
         }
         Worth::Settled(bound) => {
             let node = node_at(&growing.pool, leaf);
-            let proof = proof_for(alloc, evaluator, problem, graph, network, node, bound)?;
+            let proof = proof_for(workspace, site, network, node, bound)?;
             is_in_range(&proof);
             Ok(shut_by(proof))
         }
     }
 }
 
-/// What shuts each open leaf; or the first of them at which a number is past the range. `Err` comes for want of memory alone.
+/// What shuts each open leaf; or the first of them at which a number overflows. `Err` comes when
+/// memory is refused.
 pub fn close_all<E: Evaluator>(
-    alloc: Global,
-    evaluator: &mut E,
-    problem: &Problem,
-    graph: &Graph,
+    workspace: &mut Workspace<E>,
+    site: &Site<'_>,
     growing: &Growing,
     network: &Network,
 ) -> Result<Closing, AllocError>
-    requires graph { shape graph.now ≡ shape_of problem.now }
-    requires growing { (undercut : Option CostOver) × IsGrowingFor E.past problem.now undercut growing.now }
+    requires own { E.values site.now workspace.old.evaluator }
+    requires growing { (undercut : Option CostOver) × IsGrowingFor E.past site.now undercut growing.now }
     requires beaten { AreBeaten growing.now network.now }
-    ensures { IfOk result (AreShutBy E.past problem.now growing.now (cost_in network.now)) }
+    ensures shut { IfOk result (AreShutBy E.past site.now growing.now (cost_in network.now)) }
+    ensures own { E.values site.now workspace.new.evaluator }
+    ensures makers { workspace.new.makers ≡ workspace.old.makers }
 {
-    let mut proofs = Vec::new(alloc);
+    let mut proofs = Vec::new(workspace.alloc);
     'leaves: for leaf in 0..growing.nodes {
-        let shutting = shut_at(alloc, evaluator, problem, graph, growing, network, leaf)?;
+        let shutting = shut_at(workspace, site, growing, network, leaf)?;
         match shutting {
             Shutting::By(shut) => proofs.push(shut)?,
             Shutting::Stopped(stop) => return Ok(Closing::Stopped(StoppedLeaf { leaf, stop })),
@@ -228,8 +211,8 @@ fn refute(alloc: Global, ys: Option<&Multipliers>) -> Result<Option<Shut>, Alloc
     }
 }
 
-/// What shuts the open leaves that are refuted, by their numbers. It takes memory only where there are some; `Err` comes for want of it
-/// alone.
+/// What shuts the open leaves that are refuted, by their numbers. It takes memory only where there
+/// are some; `Err` comes when it is refused.
 pub fn shut_refuted(alloc: Global, growing: &Growing) -> Result<Vec<Option<Shut>>, AllocError>
     requires { growing.now.nodes ≡ length growing.now.pool.payloads }
     ensures { IfOk result (λ proofs. RefutedShut growing.now proofs.items) }

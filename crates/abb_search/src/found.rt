@@ -29,7 +29,8 @@ pub(crate) fn is_sized(best: &Option<Network>)
     }
 }
 
-/// The tree of the nodes, and where a node stands in it. An open leaf at whose number something stands is shut there by this.
+/// The tree of the nodes, and where a node stands in it. An open leaf at whose number something
+/// stands is shut there by this.
 pub(crate) fn shut_tree(
     alloc: Global,
     growing: &Growing,

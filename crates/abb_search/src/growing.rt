@@ -9,7 +9,6 @@ ghost use Rattle.tree_rules.specs.Ways.{options_at};
 ghost use Rattle.tree_rules.specs.Tree.{branch};
 ghost use Rattle.branch_tree.specs.View.{end_of};
 ghost use Rattle.branch_choice.specs.Choices.{IsChoice, way_of};
-ghost use Rattle.pgraph.specs.Tables.{shape};
 ghost use Rattle.pgraph.specs.View.{node_of};
 ghost use Rattle.search_tree.specs.Cells.{cell_at};
 ghost use Rattle.neutral_extension.specs.Candidates.{AreMakersOf};
@@ -23,27 +22,25 @@ use crate::hand::place_all;
 use branch_choice::Choice;
 use branch_tree::{End, Network};
 use mixed_numbers::Mixed;
-use neutral_extension::Makers;
 use node_evaluation::{
-    Evaluator, Interval, PastStop, Ready, StoppedAt, Worth, cheaper, look_at_children,
+    Evaluator, Interval, PastStop, Ready, StoppedAt, Workspace, Worth, cheaper, look_at_children,
 };
 use node_pool::Pool;
-use pgraph::Graph;
-use pns_problem::Problem;
+use pgraph::Site;
 use search_tree::{Cell, branch};
 use slab::Slab;
 use std::alloc::{AllocError, Global};
 use unit_sets::Node;
 
-/// An open leaf at which a number is past the range.
+/// An open leaf at which a number overflows.
 #[derive(Drop)]
 pub struct StoppedLeaf {
     pub leaf: u32,
     pub stop: PastStop,
 }
 
-/// A search: where it starts, how many nodes it may take, its nodes, what is at hand for each that is an open leaf, the cheapest
-/// network that it found, and the leaf that stops it.
+/// A search: where it starts, how many nodes it may take, its nodes, what is at hand for each that
+/// is an open leaf, the cheapest network that it found, and the leaf that stops it.
 #[derive(Drop)]
 pub struct Growing {
     pub start: Node,
@@ -134,7 +131,7 @@ pub(crate) fn key_at(pool: &Pool<Cell>, leaf: u32) -> usize
     pool.payload(leaf).key
 }
 
-/// The interval that a least cost lies in, where it is settled that this is past the range.
+/// The interval that a least cost lies in, where it is settled that this overflows.
 fn interval_in(worth: &Worth) -> Option<&Interval>
     ensures { option_copied result ≡ interval_in worth.now }
 {
@@ -144,7 +141,8 @@ fn interval_in(worth: &Worth) -> Option<&Interval>
     }
 }
 
-/// The interval that the least cost of an open leaf lies in, where it is settled that this is past the range.
+/// The interval that the least cost of an open leaf lies in, where it is settled that this
+/// overflows.
 fn interval_at(growing: &Growing, leaf: u32) -> Option<&Interval>
     requires { leaf < length growing.now.pool.payloads }
     ensures { option_copied result ≡ interval_of (ready_at growing.now leaf) }
@@ -153,7 +151,8 @@ fn interval_at(growing: &Growing, leaf: u32) -> Option<&Interval>
     interval_in(&ready.worth)
 }
 
-/// What some relaxed flows of an open leaf cost at most, where it is settled what it is worth: its value, or what the interval reaches.
+/// What some relaxed flows of an open leaf cost at most, where it is settled what it is worth: its
+/// value, or what the interval reaches.
 pub fn reached_at(growing: &Growing, leaf: u32) -> Mixed
     requires { leaf < length growing.now.pool.payloads }
     ensures { IsReachedAt growing.now leaf result }
@@ -166,8 +165,8 @@ pub fn reached_at(growing: &Growing, leaf: u32) -> Mixed
     }
 }
 
-/// Whether the open leaf of least value, where it is settled what it is worth, has relaxed flows that cost at most any other open leaf's
-/// value: it has, but where its least cost is past the range.
+/// Whether the open leaf of least value, where it is settled what it is worth, has relaxed flows
+/// that cost at most any other open leaf's value: it has, but where its least cost overflows.
 pub fn leads(growing: &Growing, leaf: u32) -> bool
     requires { first growing.now.pool.leaves ≡ Some leaf }
     ensures least { result ≡ true → IsLeastLeaf growing.now leaf }
@@ -184,7 +183,7 @@ pub fn leads(growing: &Growing, leaf: u32) -> bool
     }
 }
 
-/// Where the path of a leaf stops, where its least cost is past the range.
+/// Where the path of a leaf stops, where its least cost overflows.
 fn stop_in(leaf: u32, interval: Option<Interval>) -> Option<StoppedLeaf>
     ensures { result ≡ interval_stop leaf interval }
 {
@@ -197,7 +196,8 @@ fn stop_in(leaf: u32, interval: Option<Interval>) -> Option<StoppedLeaf>
     }
 }
 
-/// Takes out where the path of an open leaf stops, where its least cost is past the range. What is at hand for it is then gone.
+/// Takes out where the path of an open leaf stops, where its least cost overflows. What is at hand
+/// for it is then gone.
 pub fn take_stop(growing: &mut Growing, leaf: u32) -> Option<StoppedLeaf>
     requires { leaf < length growing.old.pool.payloads }
     ensures stop { result ≡ interval_stop leaf (interval_of (ready_at growing.old leaf)) }
@@ -244,41 +244,39 @@ pub fn node_at(pool: &Pool<Cell>, leaf: u32) -> Node
     pool.payload(leaf).node
 }
 
-/// Branches an open leaf. The answer is the network that was found at each child, where `all` are asked for. After `Err`, which comes
-/// for want of memory alone, the tree is as before.
+/// Branches an open leaf. The answer is the network that was found at each child, where `all` are
+/// asked for. After `Err`, which comes when memory is refused, the tree is as before.
 pub fn branch_leaf<E: Evaluator>(
-    alloc: Global,
-    evaluator: &mut E,
-    problem: &Problem,
-    graph: &Graph,
-    makers: &mut Makers,
+    workspace: &mut Workspace<E>,
+    site: &Site<'_>,
     growing: &mut Growing,
     leaf: u32,
     node: Node,
     choice: Choice,
     all: bool,
 ) -> Result<Vec<Option<Network>>, AllocError>
-    requires graph { shape graph.now ≡ shape_of problem.now }
-    requires same { AreMakersOf (shape graph.now) makers.old.makers }
+    requires own { E.values site.now workspace.old.evaluator }
+    requires makers { AreMakersOf (shape_of site.now) workspace.old.makers.makers }
     requires leaf { has growing.old.pool.leaves leaf ≡ true }
-    requires sound { IsSound (shape_of problem.now) (node_of node) }
-    requires reduced { IsReduced (shape_of problem.now) (node_of node) }
-    requires choice { IsChoice (shape_of problem.now) (node_of node) choice }
+    requires sound { IsSound (shape_of site.now) (node_of node) }
+    requires reduced { IsReduced (shape_of site.now) (node_of node) }
+    requires choice { IsChoice (shape_of site.now) (node_of node) choice }
     requires counted { growing.old.nodes ≡ length growing.old.pool.payloads }
-    requires few { length growing.old.pool.payloads + length (options_at (shape_of problem.now) (node_of node) (way_of choice)) < 2 ^ 32 }
-    ensures branching { OnOk result (IsBranching E.past problem.now (node_of node) growing.old growing.new leaf (way_of choice)) }
-    ensures solved { IfOk result (λ ws. all ≡ true → AreSolvedBy problem.now (drop (length growing.old.pool.payloads) growing.new.pool.payloads) ws.items) }
+    requires few { length growing.old.pool.payloads + length (options_at (shape_of site.now) (node_of node) (way_of choice)) < 2 ^ 32 }
+    ensures branching { OnOk result (IsBranching E.past site.now (node_of node) growing.old growing.new leaf (way_of choice)) }
+    ensures solved { IfOk result (λ ws. all ≡ true → AreSolvedBy site.now (drop (length growing.old.pool.payloads) growing.new.pool.payloads) ws.items) }
     ensures same { OnErr result (IsSameButRoom growing.old growing.new) }
-    ensures makers { makers.new.makers ≡ makers.old.makers }
+    ensures own { E.values site.now workspace.new.evaluator }
+    ensures makers { workspace.new.makers.makers ≡ workspace.old.makers.makers }
 {
     growing.pool.is_pool();
-    let children = look_at_children(alloc, evaluator, problem, graph, makers, node, choice, all)?;
+    let children = look_at_children(workspace, site, node, choice, all)?;
     let first = growing.nodes;
     let count = children.nodes.len();
     if !has_numbers(first, count) {
         return Err(AllocError);
     }
-    let placed = Vec::with_capacity(alloc, count)?;
+    let placed = Vec::with_capacity(workspace.alloc, count)?;
     growing.pool.reserve(count as u32)?;
     growing.ready.reserve(count)?;
     growing.ready.try_remove(key_at(&growing.pool, leaf));

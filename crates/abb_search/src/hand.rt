@@ -19,7 +19,8 @@ fn take_last(ready: &mut Vec<Option<Ready>>) -> Option<Ready>
     }
 }
 
-/// Puts what is at hand for a child into the slab, where something is, and notes its key. It takes no memory.
+/// Puts what is at hand for a child into the slab, where something is, and notes its key. It takes
+/// no memory.
 pub(crate) fn place(fresh: Fresh, ready: Option<Ready>, hand: &mut Slab<Ready>) -> Fresh
     requires room { HasRoomFor hand.old 1 }
     ensures placed { IsPlaced fresh result ready hand.old hand.new }
@@ -37,8 +38,8 @@ pub(crate) fn place(fresh: Fresh, ready: Option<Ready>, hand: &mut Slab<Ready>) 
     }
 }
 
-/// Does so for each child, the last one first, and gives the children in that order. It takes no memory where `placed`, which is empty,
-/// and the slab have room for them.
+/// Does so for each child, the last one first, and gives the children in that order. It takes no
+/// memory where `placed`, which is empty, and the slab have room for them.
 pub(crate) fn place_all(
     children: Vec<Fresh>,
     ready: Vec<Option<Ready>>,

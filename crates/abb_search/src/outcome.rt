@@ -21,7 +21,7 @@ pub enum Found {
         next: u32,
         options: u128,
     },
-    /// A number is past the range at an open leaf.
+    /// A number overflows at an open leaf.
     Past {
         best: Option<Network>,
         tree: Tree,

@@ -2,7 +2,6 @@
 ghost use Rattle.std.specs.Prelude.{◌≡◌, ◌≤◌, [], ◌∷◌, cond, None, IfOk, OnOk, length};
 ghost use Rattle.pns_rules.specs.Shape.{shape_of};
 ghost use Rattle.pns_rules.specs.Ends.{IsSound};
-ghost use Rattle.pgraph.specs.Tables.{shape};
 ghost use Rattle.pgraph.specs.View.{node_of};
 ghost use Rattle.search_tree.specs.Growth.{is_open};
 ghost use Rattle.neutral_extension.specs.Candidates.{AreMakersOf};
@@ -13,11 +12,9 @@ use crate::growing::{Growing, StoppedLeaf};
 use crate::hand::place;
 use branch_tree::{Network, Steps};
 use mixed_numbers::Mixed;
-use neutral_extension::Makers;
-use node_evaluation::{Evaluator, PastStop, cheaper, look, open_cell};
+use node_evaluation::{Evaluator, PastStop, Workspace, cheaper, look, open_cell};
 use node_pool::Pool;
-use pgraph::Graph;
-use pns_problem::Problem;
+use pgraph::Site;
 use search_tree::{Cell, Fresh};
 use slab::Slab;
 use std::alloc::{AllocError, Global};
@@ -95,42 +92,33 @@ fn root_stop(stop: Option<PastStop>) -> Option<StoppedLeaf>
     }
 }
 
-/// The root after the steps that are possible there. `best` is the network that is to be undercut, if there is one.
+/// The root after the steps that are possible there. `best` is the network that is to be undercut,
+/// if there is one.
 pub fn look_at_root<E: Evaluator>(
-    alloc: Global,
-    evaluator: &mut E,
-    problem: &Problem,
-    graph: &Graph,
-    makers: &mut Makers,
+    workspace: &mut Workspace<E>,
+    site: &Site<'_>,
     start: Node,
     budget: u32,
     best: Option<Network>,
 ) -> Result<Growing, AllocError>
-    requires graph { shape graph.now ≡ shape_of problem.now }
-    requires same { AreMakersOf (shape graph.now) makers.old.makers }
-    requires sound { IsSound (shape_of problem.now) (node_of start) }
-    ensures root { IfOk result (IsLookedRoot E.past problem.now start budget best) }
-    ensures solved { IfOk result (λ s. best ≡ None → AreSolvedBy problem.now s.pool.payloads (s.best ∷ [])) }
-    ensures makers { makers.new.makers ≡ makers.old.makers }
+    requires own { E.values site.now workspace.old.evaluator }
+    requires makers { AreMakersOf (shape_of site.now) workspace.old.makers.makers }
+    requires sound { IsSound (shape_of site.now) (node_of start) }
+    ensures root { IfOk result (IsLookedRoot E.past site.now start budget best) }
+    ensures solved { IfOk result (λ s. best ≡ None → AreSolvedBy site.now s.pool.payloads (s.best ∷ [])) }
+    ensures own { E.values site.now workspace.new.evaluator }
+    ensures makers { workspace.new.makers.makers ≡ workspace.old.makers.makers }
 {
     let node = copy_of(&start);
-    let looked = look(
-        alloc,
-        evaluator,
-        problem,
-        graph,
-        makers,
-        UnitSet::empty(),
-        node,
-    )?;
-    let mut ready = Slab::new(alloc);
+    let looked = look(workspace, site, UnitSet::empty(), node)?;
+    let mut ready = Slab::new(workspace.alloc);
     ready.reserve(1)?;
     let fresh = Fresh {
         cell: looked.cell,
         value: looked.value,
     };
     let root = place(fresh, looked.ready, &mut ready);
-    let pool = root_pool(alloc, root.cell, root.value)?;
+    let pool = root_pool(workspace.alloc, root.cell, root.value)?;
     Ok(Growing {
         start,
         budget,

@@ -1,8 +1,9 @@
-//! Rounds, which settle what open leaves are worth until it stands which leaf is branched next, or how the search ends.
-ghost use Rattle.std.specs.Prelude.{◌≡◌, ◌↔◌, ◌<◌, ◌+◌, IsTrue, IfOk, option_copied, length};
+//! Rounds, which settle what open leaves are worth until it stands which leaf is branched next, or
+//! how the search ends.
+ghost use Rattle.std.specs.Prelude.{◌≡◌, ◌↔◌, ◌<◌, ◌+◌, IsTrue, IfOk, Option, option_copied, length};
 ghost use Rattle.link_lists.specs.Lists.{first};
 ghost use Rattle.pns_rules.specs.Shape.{shape_of};
-ghost use Rattle.pgraph.specs.Tables.{shape};
+ghost use Rattle.tree_rules.specs.Claim.{CostOver};
 ghost use Rattle.branch_choice.specs.Choices.{option_count};
 ghost use Rattle.node_evaluation.specs.Looks.{cost_of};
 ghost use Rattle.abb_search.specs.Growing.{IsGrowingFor, IsSame, IsSettledAt, LeafUndercuts, choice_of, ready_at};
@@ -15,9 +16,8 @@ use crate::growing::{
 use crate::settling::{first_put_off, is_settled, next_waiting, settle_from, settle_leaf};
 use branch_tree::Network;
 use mixed_numbers::Mixed;
-use node_evaluation::Evaluator;
-use pgraph::Graph;
-use pns_problem::Problem;
+use node_evaluation::{Evaluator, Workspace};
+use pgraph::Site;
 use search_tree::Shut;
 use std::alloc::{AllocError, Global};
 
@@ -35,14 +35,14 @@ pub enum Goal<'a> {
 pub enum Ending {
     /// This shuts each leaf that is open, by its number.
     Whole(Vec<Option<Shut>>),
-    /// The leaf would be branched next, into too many children. It is settled what each open leaf is
-    /// worth, and this shuts those that are refuted, by their numbers.
+    /// The leaf would be branched next, into too many children. It is settled what each open leaf
+    /// is worth, and this shuts those that are refuted, by their numbers.
     Spent {
         leaf: u32,
         options: u128,
         refuted: Vec<Option<Shut>>,
     },
-    /// A number is past the range at an open leaf.
+    /// A number overflows at an open leaf.
     Past(StoppedLeaf),
 }
 
@@ -51,8 +51,8 @@ pub enum Ending {
 pub enum Next {
     /// Branches this leaf.
     Branch(u32),
-    /// Stops at this leaf, whose least cost is past the range, and which may be dearer than another
-    /// one or what is to be undercut.
+    /// Stops at this leaf, whose least cost overflows, and which may be dearer than another one or
+    /// what is to be undercut.
     Stop(u32),
     /// Ends the search.
     End(Ending),
@@ -95,7 +95,7 @@ impl<'a> Goal<'a> {
     }
 }
 
-/// The search ends at a leaf where a number is past the range as it is settled.
+/// The search ends at a leaf where a number overflows as it is settled.
 fn ends_at(stopped: Option<StoppedLeaf>) -> Option<Next>
     ensures { result ≡ ends_at stopped }
 {
@@ -108,30 +108,28 @@ fn ends_at(stopped: Option<StoppedLeaf>) -> Option<Next>
 /// The search ends before a leaf whose children are above the budget, once it is settled what each
 /// open leaf is worth: another one may be a least one then.
 fn spend<E: Evaluator>(
-    alloc: Global,
-    evaluator: &mut E,
-    problem: &Problem,
-    graph: &Graph,
+    workspace: &mut Workspace<E>,
+    site: &Site<'_>,
     growing: &mut Growing,
-    _goal: &Goal<'_>,
     leaf: u32,
     options: u128,
 ) -> Result<Option<Next>, AllocError>
-    requires graph { shape graph.now ≡ shape_of problem.now }
-    requires growing { IsGrowingFor E.past problem.now (undercut_of _goal.now growing.old) growing.old }
-    requires next { IsNextLeaf growing.old (undercut_of _goal.now growing.old) leaf }
+    requires own { E.values site.now workspace.old.evaluator }
+    requires growing { (undercut : Option CostOver) × IsGrowingFor E.past site.now undercut growing.old }
     requires options { options ≡ option_count (choice_of (ready_at growing.old leaf)) }
     requires over { growing.old.budget < length growing.old.pool.payloads + options }
-    ensures holds { IfOk result (RoundHolds E.past problem.now growing.old growing.new (undercut_of _goal.now growing.old)) }
-    ensures same { IsSame E.past problem.now growing.old growing.new }
+    ensures holds { (undercut : Option CostOver) → IsGrowingFor E.past site.now undercut growing.old → IsNextLeaf growing.old undercut leaf → IfOk result (RoundHolds E.past site.now growing.old growing.new undercut) }
+    ensures same { IsSame E.past site.now growing.old growing.new }
+    ensures own { E.values site.now workspace.new.evaluator }
+    ensures makers { workspace.new.makers ≡ workspace.old.makers }
 {
-    problem.is_valid();
+    site.problem();
     growing.pool.is_pool();
     if let Some(first) = first_put_off(growing) {
-        let stopped = settle_from(alloc, evaluator, problem, graph, growing, first)?;
+        let stopped = settle_from(workspace, site, growing, first)?;
         return Ok(ends_at(stopped));
     }
-    let refuted = shut_refuted(alloc, growing)?;
+    let refuted = shut_refuted(workspace.alloc, growing)?;
     Ok(Some(Next::End(Ending::Spent {
         leaf,
         options,
@@ -142,28 +140,26 @@ fn spend<E: Evaluator>(
 /// Branches a leaf that is no dearer than any other and may undercut what is to be undercut, or
 /// tells that the budget is spent.
 fn branch_least<E: Evaluator>(
-    alloc: Global,
-    evaluator: &mut E,
-    problem: &Problem,
-    graph: &Graph,
+    workspace: &mut Workspace<E>,
+    site: &Site<'_>,
     growing: &mut Growing,
     goal: &Goal<'_>,
     leaf: u32,
 ) -> Result<Option<Next>, AllocError>
-    requires graph { shape graph.now ≡ shape_of problem.now }
-    requires growing { IsGrowingFor E.past problem.now (undercut_of goal.now growing.old) growing.old }
+    requires own { E.values site.now workspace.old.evaluator }
+    requires growing { IsGrowingFor E.past site.now (undercut_of goal.now growing.old) growing.old }
     requires next { IsNextLeaf growing.old (undercut_of goal.now growing.old) leaf }
-    ensures holds { IfOk result (RoundHolds E.past problem.now growing.old growing.new (undercut_of goal.now growing.old)) }
-    ensures same { IsSame E.past problem.now growing.old growing.new }
+    ensures holds { IfOk result (RoundHolds E.past site.now growing.old growing.new (undercut_of goal.now growing.old)) }
+    ensures same { IsSame E.past site.now growing.old growing.new }
+    ensures own { E.values site.now workspace.new.evaluator }
+    ensures makers { workspace.new.makers ≡ workspace.old.makers }
 {
-    problem.is_valid();
+    site.problem();
     growing.pool.is_pool();
     let choice = choice_at(growing, leaf);
     let options = choice.options();
     if is_over(options, growing.nodes, growing.budget) {
-        return spend(
-            alloc, evaluator, problem, graph, growing, goal, leaf, options,
-        );
+        return spend(workspace, site, growing, leaf, options);
     }
     Ok(Some(Next::Branch(leaf)))
 }
@@ -171,53 +167,53 @@ fn branch_least<E: Evaluator>(
 /// What shuts each open leaf, where the network that is to be undercut costs no more than the least
 /// value, which this leaf has.
 fn close<E: Evaluator>(
-    alloc: Global,
-    evaluator: &mut E,
-    problem: &Problem,
-    graph: &Graph,
+    workspace: &mut Workspace<E>,
+    site: &Site<'_>,
     growing: &Growing,
     goal: &Goal<'_>,
     leaf: u32,
 ) -> Result<Option<Closing>, AllocError>
-    requires graph { shape graph.now ≡ shape_of problem.now }
-    requires growing { IsGrowingFor E.past problem.now (undercut_of goal.now growing.now) growing.now }
+    requires own { E.values site.now workspace.old.evaluator }
+    requires growing { IsGrowingFor E.past site.now (undercut_of goal.now growing.now) growing.now }
     requires leaf { first growing.now.pool.leaves ≡ Some leaf }
-    ensures { IfOk result (IsClosing E.past problem.now growing.now (undercut_of goal.now growing.now) leaf) }
+    ensures closing { IfOk result (IsClosing E.past site.now growing.now (undercut_of goal.now growing.now) leaf) }
+    ensures own { E.values site.now workspace.new.evaluator }
+    ensures makers { workspace.new.makers ≡ workspace.old.makers }
 {
-    problem.is_valid();
+    site.problem();
     growing.pool.is_pool();
     let value = growing.pool.value(leaf);
     let Some(network) = goal.beating(growing, &value) else {
         return Ok(None);
     };
-    let closing = close_all(alloc, evaluator, problem, graph, growing, network)?;
+    let closing = close_all(workspace, site, growing, network)?;
     Ok(Some(closing))
 }
 
-/// Ends the search where all open leaves are shut. A leaf that can't be, since a number is past the
-/// range there, is branched where it has relaxed flows that cost just as much as what is to be
-/// undercut, and else the search ends there.
+/// Ends the search where all open leaves are shut. A leaf that can't be, since a number overflows
+/// there, is branched where it has relaxed flows that cost just as much as what is to be undercut,
+/// and else the search ends there.
 fn after_closing<E: Evaluator>(
-    alloc: Global,
-    evaluator: &mut E,
-    problem: &Problem,
-    graph: &Graph,
+    workspace: &mut Workspace<E>,
+    site: &Site<'_>,
     growing: &mut Growing,
     goal: &Goal<'_>,
     closing: Closing,
 ) -> Result<Option<Next>, AllocError>
-    requires graph { shape graph.now ≡ shape_of problem.now }
-    requires growing { IsGrowingFor E.past problem.now (undercut_of goal.now growing.old) growing.old }
-    requires closing { ClosingHolds E.past problem.now growing.old (undercut_of goal.now growing.old) closing }
-    ensures holds { IfOk result (RoundHolds E.past problem.now growing.old growing.new (undercut_of goal.now growing.old)) }
-    ensures same { IsSame E.past problem.now growing.old growing.new }
+    requires own { E.values site.now workspace.old.evaluator }
+    requires growing { IsGrowingFor E.past site.now (undercut_of goal.now growing.old) growing.old }
+    requires closing { ClosingHolds E.past site.now growing.old (undercut_of goal.now growing.old) closing }
+    ensures holds { IfOk result (RoundHolds E.past site.now growing.old growing.new (undercut_of goal.now growing.old)) }
+    ensures same { IsSame E.past site.now growing.old growing.new }
+    ensures own { E.values site.now workspace.new.evaluator }
+    ensures makers { workspace.new.makers ≡ workspace.old.makers }
 {
     match closing {
         Closing::Proved(proofs) => Ok(Some(Next::End(Ending::Whole(proofs)))),
         Closing::Stopped(stopped) => {
             if goal.may_be_undercut(growing, stopped.leaf) {
                 let leaf = stopped.leaf;
-                branch_least(alloc, evaluator, problem, graph, growing, goal, leaf)
+                branch_least(workspace, site, growing, goal, leaf)
             } else {
                 Ok(Some(Next::End(Ending::Past(stopped))))
             }
@@ -226,34 +222,34 @@ fn after_closing<E: Evaluator>(
 }
 
 /// Branches the leaf of least value, of which it is settled what it is worth; or the search stops
-/// there, since its least cost is past the range, and it may be dearer than another one or what is to
-/// be undercut. Where it may be dearer than the leaf behind it, it is settled first what that is
+/// there, since its least cost overflows, and it may be dearer than another one or what is to be
+/// undercut. Where it may be dearer than the leaf behind it, it is settled first what that is
 /// worth.
 fn take_least<E: Evaluator>(
-    alloc: Global,
-    evaluator: &mut E,
-    problem: &Problem,
-    graph: &Graph,
+    workspace: &mut Workspace<E>,
+    site: &Site<'_>,
     growing: &mut Growing,
     goal: &Goal<'_>,
     leaf: u32,
 ) -> Result<Option<Next>, AllocError>
-    requires graph { shape graph.now ≡ shape_of problem.now }
-    requires growing { IsGrowingFor E.past problem.now (undercut_of goal.now growing.old) growing.old }
+    requires own { E.values site.now workspace.old.evaluator }
+    requires growing { IsGrowingFor E.past site.now (undercut_of goal.now growing.old) growing.old }
     requires leaf { first growing.old.pool.leaves ≡ Some leaf }
     requires settled { IsSettledAt growing.old leaf }
     requires below { ValueUndercuts growing.old (undercut_of goal.now growing.old) leaf }
-    ensures holds { IfOk result (RoundHolds E.past problem.now growing.old growing.new (undercut_of goal.now growing.old)) }
-    ensures same { IsSame E.past problem.now growing.old growing.new }
+    ensures holds { IfOk result (RoundHolds E.past site.now growing.old growing.new (undercut_of goal.now growing.old)) }
+    ensures same { IsSame E.past site.now growing.old growing.new }
+    ensures own { E.values site.now workspace.new.evaluator }
+    ensures makers { workspace.new.makers ≡ workspace.old.makers }
 {
-    problem.is_valid();
+    site.problem();
     growing.pool.is_pool();
     if leads(growing, leaf) {
         if goal.may_be_undercut(growing, leaf) {
-            return branch_least(alloc, evaluator, problem, graph, growing, goal, leaf);
+            return branch_least(workspace, site, growing, goal, leaf);
         }
     } else if let Some(next) = next_waiting(growing) {
-        let stopped = settle_leaf(alloc, evaluator, problem, graph, growing, next)?;
+        let stopped = settle_leaf(workspace, site, growing, next)?;
         return Ok(ends_at(stopped));
     }
     Ok(Some(Next::Stop(leaf)))
@@ -262,54 +258,53 @@ fn take_least<E: Evaluator>(
 /// Takes a round at the leaf of least value: it is settled what that is worth, or it stands what
 /// comes next. Where the network that is to be undercut costs no more than that value, all open
 /// leaves are shut. No leaf stops the search but that of least value, where it may not be branched
-/// since its least cost is past the range, or one at which a number is past the range as it is
-/// settled or shut.
+/// since its least cost overflows, or one at which a number overflows as it is settled or shut.
 fn round<E: Evaluator>(
-    alloc: Global,
-    evaluator: &mut E,
-    problem: &Problem,
-    graph: &Graph,
+    workspace: &mut Workspace<E>,
+    site: &Site<'_>,
     growing: &mut Growing,
     goal: &Goal<'_>,
 ) -> Result<Option<Next>, AllocError>
-    requires graph { shape graph.now ≡ shape_of problem.now }
-    requires growing { IsGrowingFor E.past problem.now (undercut_of goal.now growing.old) growing.old }
-    ensures holds { IfOk result (RoundHolds E.past problem.now growing.old growing.new (undercut_of goal.now growing.old)) }
-    ensures same { IsSame E.past problem.now growing.old growing.new }
+    requires own { E.values site.now workspace.old.evaluator }
+    requires growing { IsGrowingFor E.past site.now (undercut_of goal.now growing.old) growing.old }
+    ensures holds { IfOk result (RoundHolds E.past site.now growing.old growing.new (undercut_of goal.now growing.old)) }
+    ensures same { IsSame E.past site.now growing.old growing.new }
+    ensures own { E.values site.now workspace.new.evaluator }
+    ensures makers { workspace.new.makers ≡ workspace.old.makers }
 {
-    problem.is_valid();
+    site.problem();
     growing.pool.is_pool();
     let Some(leaf) = growing.pool.least() else {
-        let proofs = shut_refuted(alloc, growing)?;
+        let proofs = shut_refuted(workspace.alloc, growing)?;
         return Ok(Some(Next::End(Ending::Whole(proofs))));
     };
-    if let Some(closing) = close(alloc, evaluator, problem, graph, growing, goal, leaf)? {
-        return after_closing(alloc, evaluator, problem, graph, growing, goal, closing);
+    if let Some(closing) = close(workspace, site, growing, goal, leaf)? {
+        return after_closing(workspace, site, growing, goal, closing);
     }
     if is_settled(growing, leaf) {
-        return take_least(alloc, evaluator, problem, graph, growing, goal, leaf);
+        return take_least(workspace, site, growing, goal, leaf);
     }
-    let stopped = settle_leaf(alloc, evaluator, problem, graph, growing, leaf)?;
+    let stopped = settle_leaf(workspace, site, growing, leaf)?;
     Ok(ends_at(stopped))
 }
 
 /// Takes rounds until it stands what comes next. Each round but the last leaves fewer leaves of
-/// which it is not settled what they are worth. `Err` comes for want of memory alone.
+/// which it is not settled what they are worth. `Err` comes when memory is refused.
 pub fn next_leaf<E: Evaluator>(
-    alloc: Global,
-    evaluator: &mut E,
-    problem: &Problem,
-    graph: &Graph,
+    workspace: &mut Workspace<E>,
+    site: &Site<'_>,
     growing: &mut Growing,
     goal: &Goal<'_>,
 ) -> Result<Next, AllocError>
-    requires graph { shape graph.now ≡ shape_of problem.now }
-    requires growing { IsGrowingFor E.past problem.now (undercut_of goal.now growing.old) growing.old }
-    ensures next { IfOk result (IsNext E.past problem.now growing.new (undercut_of goal.now growing.old)) }
-    ensures same { IsSame E.past problem.now growing.old growing.new }
+    requires own { E.values site.now workspace.old.evaluator }
+    requires growing { IsGrowingFor E.past site.now (undercut_of goal.now growing.old) growing.old }
+    ensures next { IfOk result (IsNext E.past site.now growing.new (undercut_of goal.now growing.old)) }
+    ensures same { IsSame E.past site.now growing.old growing.new }
+    ensures own { E.values site.now workspace.new.evaluator }
+    ensures makers { workspace.new.makers ≡ workspace.old.makers }
 {
     'rounds: loop {
-        if let Some(next) = round(alloc, evaluator, problem, graph, growing, goal)? {
+        if let Some(next) = round(workspace, site, growing, goal)? {
             return Ok(next);
         }
     }

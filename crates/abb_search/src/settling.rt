@@ -1,7 +1,7 @@
-//! What open leaves are worth is settled: when a leaf is to be branched, and before a search ends whose budget is spent.
+//! What open leaves are worth is settled: when a leaf is to be branched, and before a search ends
+//! whose budget is spent.
 ghost use Rattle.std.specs.Prelude.{◌≡◌, ◌<◌, true, IfOk, IfSome, IfNone, Option, length};
 ghost use Rattle.pns_rules.specs.Shape.{shape_of};
-ghost use Rattle.pgraph.specs.Tables.{shape};
 ghost use Rattle.pgraph.specs.View.{node_of};
 ghost use Rattle.search_tree.specs.Cells.{cell_at};
 ghost use Rattle.node_evaluation.specs.Looks.{IsSettling};
@@ -14,9 +14,8 @@ ghost use Rattle.abb_search.specs.Settling.{is_waiting, AreSettled, SettleHolds,
 use crate::closing::hand_at;
 use crate::growing::{Growing, StoppedLeaf, key_at, node_at};
 use crate::hand::put_worth;
-use node_evaluation::{Evaluator, Settling, Worth, settle};
-use pgraph::Graph;
-use pns_problem::Problem;
+use node_evaluation::{Evaluator, Settling, Workspace, Worth, settle};
+use pgraph::Site;
 use search_tree::copy_multipliers;
 use std::alloc::{AllocError, Global};
 use unit_sets::Node;
@@ -63,7 +62,8 @@ fn is_put_off(growing: &Growing, leaf: u32) -> bool
     }
 }
 
-/// The leaf behind that of least value in the order of the pool's open leaves, where it is not settled what that is worth.
+/// The leaf behind that of least value in the order of the pool's open leaves, where it is not
+/// settled what that is worth.
 pub fn next_waiting(growing: &Growing) -> Option<u32>
     ensures { IfSome result (λ leaf. is_waiting growing.now leaf ≡ true) }
 {
@@ -93,55 +93,57 @@ pub fn first_put_off(growing: &Growing) -> Option<u32>
     None
 }
 
-/// What an open leaf is worth: it is settled now, from what its first look told, or it is refuted already.
+/// What an open leaf is worth: it is settled now, from what its first look told, or it is refuted
+/// already.
 fn settling_at<E: Evaluator>(
-    alloc: Global,
-    evaluator: &mut E,
-    problem: &Problem,
-    graph: &Graph,
+    workspace: &mut Workspace<E>,
+    site: &Site<'_>,
     growing: &Growing,
     leaf: u32,
     node: Node,
 ) -> Result<Settling, AllocError>
-    requires graph { shape graph.now ≡ shape_of problem.now }
-    requires growing { (undercut : Option CostOver) × IsGrowingFor E.past problem.now undercut growing.now }
+    requires own { E.values site.now workspace.old.evaluator }
+    requires growing { (undercut : Option CostOver) × IsGrowingFor E.past site.now undercut growing.now }
     requires leaf { leaf < length growing.now.pool.payloads }
     requires node { node ≡ (cell_at growing.now.pool.payloads leaf).node }
     requires waits { is_waiting growing.now leaf ≡ true }
-    ensures { IfOk result (IsSettling E.past problem.now (node_of node)) }
+    ensures settled { IfOk result (IsSettling E.past site.now (node_of node)) }
+    ensures own { E.values site.now workspace.new.evaluator }
+    ensures makers { workspace.new.makers ≡ workspace.old.makers }
 {
     let Some(ready) = growing.ready.get(key_at(&growing.pool, leaf)) else {
         unreachable!();
     };
     match &ready.worth {
-        Worth::AtLeast(bound) => settle(alloc, evaluator, problem, graph, node, bound),
+        Worth::AtLeast(bound) => settle(workspace, site, node, bound),
         Worth::Refuted(ys) => {
-            let copy = copy_multipliers(alloc, ys)?;
+            let copy = copy_multipliers(workspace.alloc, ys)?;
             Ok(Settling::Refuted(copy))
         }
         Worth::Settled(_) => unreachable!(),
     }
 }
 
-/// Settles what an open leaf is worth. Its value may rise then, and where it turns out to have no relaxed flows, it leaves the pool, and
-/// its cell stays open. The answer is where a number is past the range there. `Err` comes for want of memory alone.
+/// Settles what an open leaf is worth. Its value may rise then, and where it turns out to have no
+/// relaxed flows, it leaves the pool, and its cell stays open. The answer is where a number
+/// overflows there. `Err` comes when memory is refused.
 pub fn settle_leaf<E: Evaluator>(
-    alloc: Global,
-    evaluator: &mut E,
-    problem: &Problem,
-    graph: &Graph,
+    workspace: &mut Workspace<E>,
+    site: &Site<'_>,
     growing: &mut Growing,
     leaf: u32,
 ) -> Result<Option<StoppedLeaf>, AllocError>
-    requires graph { shape graph.now ≡ shape_of problem.now }
-    requires growing { (undercut : Option CostOver) × IsGrowingFor E.past problem.now undercut growing.old }
+    requires own { E.values site.now workspace.old.evaluator }
+    requires growing { (undercut : Option CostOver) × IsGrowingFor E.past site.now undercut growing.old }
     requires waits { is_waiting growing.old leaf ≡ true }
-    ensures settles { IfOk result (SettleHolds E.past problem.now growing.old growing.new) }
-    ensures same { IsSame E.past problem.now growing.old growing.new }
+    ensures settles { IfOk result (SettleHolds E.past site.now growing.old growing.new) }
+    ensures same { IsSame E.past site.now growing.old growing.new }
+    ensures own { E.values site.now workspace.new.evaluator }
+    ensures makers { workspace.new.makers ≡ workspace.old.makers }
 {
     growing.pool.is_pool();
     let node = node_at(&growing.pool, leaf);
-    match settling_at(alloc, evaluator, problem, graph, growing, leaf, node)? {
+    match settling_at(workspace, site, growing, leaf, node)? {
         Settling::Least(bound) => {
             let value = bound.value;
             put_worth(
@@ -165,50 +167,52 @@ pub fn settle_leaf<E: Evaluator>(
     }
 }
 
-/// Settles a node where it is an open leaf of which a lower bound is all that is known, as [`settle_leaf`] does.
+/// Settles a node where it is an open leaf of which a lower bound is all that is known, as
+/// [`settle_leaf`] does.
 fn settle_put_off<E: Evaluator>(
-    alloc: Global,
-    evaluator: &mut E,
-    problem: &Problem,
-    graph: &Graph,
+    workspace: &mut Workspace<E>,
+    site: &Site<'_>,
     growing: &mut Growing,
     leaf: u32,
 ) -> Result<Option<StoppedLeaf>, AllocError>
-    requires graph { shape graph.now ≡ shape_of problem.now }
-    requires growing { (undercut : Option CostOver) × IsGrowingFor E.past problem.now undercut growing.old }
+    requires own { E.values site.now workspace.old.evaluator }
+    requires growing { (undercut : Option CostOver) × IsGrowingFor E.past site.now undercut growing.old }
     requires leaf { leaf < length growing.old.pool.payloads }
-    ensures settles { IfOk result (StaysSettling E.past problem.now growing.old growing.new) }
-    ensures same { IsSame E.past problem.now growing.old growing.new }
+    ensures settles { IfOk result (StaysSettling E.past site.now growing.old growing.new) }
+    ensures same { IsSame E.past site.now growing.old growing.new }
+    ensures own { E.values site.now workspace.new.evaluator }
+    ensures makers { workspace.new.makers ≡ workspace.old.makers }
 {
     if is_put_off(growing, leaf) {
-        settle_leaf(alloc, evaluator, problem, graph, growing, leaf)
+        settle_leaf(workspace, site, growing, leaf)
     } else {
         Ok(None)
     }
 }
 
-/// Settles an open leaf, and each one behind it in the order of adding of which a lower bound is all that is known, in one pass. It ends
-/// at the first of them at which a number is past the range, which is the answer. `Err` comes for want of memory alone.
+/// Settles an open leaf, and each one behind it in the order of adding of which a lower bound is
+/// all that is known, in one pass. It ends at the first of them at which a number overflows, which
+/// is the answer. `Err` comes when memory is refused.
 pub fn settle_from<E: Evaluator>(
-    alloc: Global,
-    evaluator: &mut E,
-    problem: &Problem,
-    graph: &Graph,
+    workspace: &mut Workspace<E>,
+    site: &Site<'_>,
     growing: &mut Growing,
     first: u32,
 ) -> Result<Option<StoppedLeaf>, AllocError>
-    requires graph { shape graph.now ≡ shape_of problem.now }
-    requires growing { (undercut : Option CostOver) × IsGrowingFor E.past problem.now undercut growing.old }
+    requires own { E.values site.now workspace.old.evaluator }
+    requires growing { (undercut : Option CostOver) × IsGrowingFor E.past site.now undercut growing.old }
     requires waits { is_waiting growing.old first ≡ true }
-    ensures settles { IfOk result (SettleHolds E.past problem.now growing.old growing.new) }
-    ensures same { IsSame E.past problem.now growing.old growing.new }
+    ensures settles { IfOk result (SettleHolds E.past site.now growing.old growing.new) }
+    ensures same { IsSame E.past site.now growing.old growing.new }
+    ensures own { E.values site.now workspace.new.evaluator }
+    ensures makers { workspace.new.makers ≡ workspace.old.makers }
 {
     growing.pool.is_pool();
-    if let Some(stopped) = settle_leaf(alloc, evaluator, problem, graph, growing, first)? {
+    if let Some(stopped) = settle_leaf(workspace, site, growing, first)? {
         return Ok(Some(stopped));
     }
     'leaves: for leaf in first + 1..growing.nodes {
-        if let Some(stopped) = settle_put_off(alloc, evaluator, problem, graph, growing, leaf)? {
+        if let Some(stopped) = settle_put_off(workspace, site, growing, leaf)? {
             return Ok(Some(stopped));
         }
     }

@@ -3,7 +3,6 @@ ghost use Rattle.std.specs.Prelude.{◌≡◌, ◌≤◌, IfOk, OnOk, OnErr};
 ghost use Rattle.pns_rules.specs.Shape.{shape_of};
 ghost use Rattle.pns_rules.specs.Ends.{IsSound};
 ghost use Rattle.tree_rules.specs.Claim.{claimed_cost};
-ghost use Rattle.pgraph.specs.Tables.{shape};
 ghost use Rattle.pgraph.specs.View.{node_of};
 ghost use Rattle.neutral_extension.specs.Candidates.{AreMakersOf};
 ghost use Rattle.node_evaluation.specs.Children.{claim_with};
@@ -17,76 +16,70 @@ use crate::growing::{Growing, branch_leaf, choice_at, node_at, stopped_leaf, tak
 use crate::outcome::Found;
 use crate::root::look_at_root;
 use crate::rounds::{Ending, Goal, Next, next_leaf};
-use neutral_extension::Makers;
-use node_evaluation::{Evaluator, copy_of_network};
-use pgraph::Graph;
-use pns_problem::Problem;
+use node_evaluation::{Evaluator, Workspace, copy_of_network};
+use pgraph::Site;
 use std::alloc::{AllocError, Global};
 
-/// Branches the leaf that comes next. After `Err`, which comes for want of memory alone, the tree is
+/// Branches the leaf that comes next. After `Err`, which comes when memory is refused, the tree is
 /// as before.
 fn branch_next<E: Evaluator>(
-    alloc: Global,
-    evaluator: &mut E,
-    problem: &Problem,
-    graph: &Graph,
-    makers: &mut Makers,
+    workspace: &mut Workspace<E>,
+    site: &Site<'_>,
     growing: &mut Growing,
     leaf: u32,
 ) -> Result<(), AllocError>
-    requires graph { shape graph.now ≡ shape_of problem.now }
-    requires same { AreMakersOf (shape graph.now) makers.old.makers }
-    requires growing { IsGrowing E.past problem.now growing.old }
+    requires own { E.values site.now workspace.old.evaluator }
+    requires makers { AreMakersOf (shape_of site.now) workspace.old.makers.makers }
+    requires growing { IsGrowing E.past site.now growing.old }
     requires next { IsNextLeaf growing.old (claimed_cost (claim_with growing.old.best)) leaf }
     requires fits { FitsBudget growing.old leaf }
-    ensures more { OnOk result (IsMore E.past problem.now growing.old growing.new) }
-    ensures same { OnErr result (IsSame E.past problem.now growing.old growing.new) }
-    ensures makers { makers.new.makers ≡ makers.old.makers }
+    ensures more { OnOk result (IsMore E.past site.now growing.old growing.new) }
+    ensures same { OnErr result (IsSame E.past site.now growing.old growing.new) }
+    ensures own { E.values site.now workspace.new.evaluator }
+    ensures makers { workspace.new.makers.makers ≡ workspace.old.makers.makers }
 {
-    problem.is_valid();
+    site.problem();
     growing.pool.is_pool();
     let choice = choice_at(growing, leaf);
     let node = node_at(&growing.pool, leaf);
-    branch_leaf(
-        alloc, evaluator, problem, graph, makers, growing, leaf, node, choice, false,
-    )?;
+    branch_leaf(workspace, site, growing, leaf, node, choice, false)?;
     Ok(())
 }
 
-/// What is found where the search stops at a leaf, since its least cost is past the range. After
-/// `Err`, which comes for want of memory alone, the tree is as before.
+/// What is found where the search stops at a leaf, since its least cost overflows. After `Err`,
+/// which comes when memory is refused, the tree is as before.
 fn stop_there<E: Evaluator>(
     alloc: Global,
-    problem: &Problem,
+    site: &Site<'_>,
     growing: &mut Growing,
     leaf: u32,
 ) -> Result<Option<Found>, AllocError>
-    requires growing { IsGrowing E.past problem.now growing.old }
+    requires growing { IsGrowing E.past site.now growing.old }
     requires stop { IsStopLeaf growing.old (claimed_cost (claim_with growing.old.best)) leaf }
-    ensures holds { IfOk result (StepHolds E.past problem.now growing.old growing.new) }
-    ensures same { OnErr result (IsSame E.past problem.now growing.old growing.new) }
+    ensures holds { IfOk result (StepHolds E.past site.now growing.old growing.new) }
+    ensures same { OnErr result (IsSame E.past site.now growing.old growing.new) }
 {
-    problem.is_valid();
+    site.problem();
     growing.pool.is_pool();
     let placed = tree_with(alloc, growing, leaf)?;
     let stop = take_stop(growing, leaf);
     Ok(past_found(growing.best.take(), stop, placed))
 }
 
-/// What is found where the search ends so. After `Err`, which comes for want of memory alone, the
+/// What is found where the search ends so. After `Err`, which comes when memory is refused, the
 /// tree is as before.
 fn found_by<E: Evaluator>(
     alloc: Global,
-    problem: &Problem,
+    site: &Site<'_>,
     growing: &mut Growing,
     ending: Ending,
 ) -> Result<Option<Found>, AllocError>
-    requires kept { IsTreeKept problem.now growing.old }
-    requires ends { EndsWith E.past problem.now growing.old (claimed_cost (claim_with growing.old.best)) ending }
-    ensures holds { IfOk result (StepHolds E.past problem.now growing.old growing.new) }
-    ensures same { OnErr result (IsSame E.past problem.now growing.old growing.new) }
+    requires kept { IsTreeKept site.now growing.old }
+    requires ends { EndsWith E.past site.now growing.old (claimed_cost (claim_with growing.old.best)) ending }
+    ensures holds { IfOk result (StepHolds E.past site.now growing.old growing.new) }
+    ensures same { OnErr result (IsSame E.past site.now growing.old growing.new) }
 {
-    problem.is_valid();
+    site.problem();
     match ending {
         Ending::Whole(proofs) => {
             let whole = shut_tree(alloc, growing, &proofs, 0)?;
@@ -115,87 +108,79 @@ fn found_by<E: Evaluator>(
 /// Branches the open leaf that comes next, so that the nodes are more, or tells what is found. No
 /// leaf stops the search yet.
 fn go_on<E: Evaluator>(
-    alloc: Global,
-    evaluator: &mut E,
-    problem: &Problem,
-    graph: &Graph,
-    makers: &mut Makers,
+    workspace: &mut Workspace<E>,
+    site: &Site<'_>,
     growing: &mut Growing,
 ) -> Result<Option<Found>, AllocError>
-    requires graph { shape graph.now ≡ shape_of problem.now }
-    requires same { AreMakersOf (shape graph.now) makers.old.makers }
-    requires growing { IsGrowing E.past problem.now growing.old }
-    ensures holds { IfOk result (StepHolds E.past problem.now growing.old growing.new) }
-    ensures same { OnErr result (IsSame E.past problem.now growing.old growing.new) }
-    ensures makers { makers.new.makers ≡ makers.old.makers }
+    requires own { E.values site.now workspace.old.evaluator }
+    requires makers { AreMakersOf (shape_of site.now) workspace.old.makers.makers }
+    requires growing { IsGrowing E.past site.now growing.old }
+    ensures holds { IfOk result (StepHolds E.past site.now growing.old growing.new) }
+    ensures same { OnErr result (IsSame E.past site.now growing.old growing.new) }
+    ensures own { E.values site.now workspace.new.evaluator }
+    ensures makers { workspace.new.makers.makers ≡ workspace.old.makers.makers }
 {
-    match next_leaf(alloc, evaluator, problem, graph, growing, &Goal::Best)? {
+    match next_leaf(workspace, site, growing, &Goal::Best)? {
         Next::Branch(leaf) => {
-            branch_next(alloc, evaluator, problem, graph, makers, growing, leaf)?;
+            branch_next(workspace, site, growing, leaf)?;
             Ok(None)
         }
-        Next::Stop(leaf) => stop_there::<E>(alloc, problem, growing, leaf),
-        Next::End(ending) => found_by::<E>(alloc, problem, growing, ending),
+        Next::Stop(leaf) => stop_there::<E>(workspace.alloc, site, growing, leaf),
+        Next::End(ending) => found_by::<E>(workspace.alloc, site, growing, ending),
     }
 }
 
-/// Makes the nodes more, or tells what is found. After `Err`, which comes for want of memory alone, the tree is as before.
+/// Makes the nodes more, or tells what is found. After `Err`, which comes when memory is refused,
+/// the tree is as before.
 pub(crate) fn step<E: Evaluator>(
-    alloc: Global,
-    evaluator: &mut E,
-    problem: &Problem,
-    graph: &Graph,
-    makers: &mut Makers,
+    workspace: &mut Workspace<E>,
+    site: &Site<'_>,
     growing: &mut Growing,
 ) -> Result<Option<Found>, AllocError>
-    requires graph { shape graph.now ≡ shape_of problem.now }
-    requires same { AreMakersOf (shape graph.now) makers.old.makers }
-    requires going { IsGoing E.past problem.now growing.old }
-    ensures holds { IfOk result (StepHolds E.past problem.now growing.old growing.new) }
-    ensures same { OnErr result (IsSame E.past problem.now growing.old growing.new) }
-    ensures makers { makers.new.makers ≡ makers.old.makers }
+    requires own { E.values site.now workspace.old.evaluator }
+    requires makers { AreMakersOf (shape_of site.now) workspace.old.makers.makers }
+    requires going { IsGoing E.past site.now growing.old }
+    ensures holds { IfOk result (StepHolds E.past site.now growing.old growing.new) }
+    ensures same { OnErr result (IsSame E.past site.now growing.old growing.new) }
+    ensures own { E.values site.now workspace.new.evaluator }
+    ensures makers { workspace.new.makers.makers ≡ workspace.old.makers.makers }
 {
     let Some(leaf) = stopped_leaf(&growing.stop) else {
-        return go_on(alloc, evaluator, problem, graph, makers, growing);
+        return go_on(workspace, site, growing);
     };
-    let placed = tree_with(alloc, growing, leaf)?;
+    let placed = tree_with(workspace.alloc, growing, leaf)?;
     Ok(past_found(growing.best.take(), growing.stop.take(), placed))
 }
 
-/// Takes a search so far that its nodes are more, or to its end; before the first turn the root is not looked at yet. After `Err`, which
-/// comes for want of memory alone, the tree is as before.
+/// Takes a search so far that its nodes are more, or to its end; before the first turn the root is
+/// not looked at yet. After `Err`, which comes when memory is refused, the tree is as before.
 pub(crate) fn take_turn<E: Evaluator>(
-    alloc: Global,
-    evaluator: &mut E,
-    problem: &Problem,
-    graph: &Graph,
-    makers: &mut Makers,
+    workspace: &mut Workspace<E>,
+    site: &Site<'_>,
     growing: &mut Growing,
     looked: bool,
 ) -> Result<Option<Found>, AllocError>
-    requires graph { shape graph.now ≡ shape_of problem.now }
-    requires same { AreMakersOf (shape graph.now) makers.old.makers }
-    requires sound { IsSound (shape_of problem.now) (node_of growing.old.start) }
+    requires own { E.values site.now workspace.old.evaluator }
+    requires makers { AreMakersOf (shape_of site.now) workspace.old.makers.makers }
+    requires sound { IsSound (shape_of site.now) (node_of growing.old.start) }
     requires some { 1 ≤ growing.old.budget }
-    requires stands { StandsAt E.past problem.now growing.old looked }
-    ensures holds { IfOk result (StepHolds E.past problem.now growing.old growing.new) }
-    ensures same { OnErr result (IsSame E.past problem.now growing.old growing.new) }
-    ensures makers { makers.new.makers ≡ makers.old.makers }
+    requires stands { StandsAt E.past site.now growing.old looked }
+    ensures holds { IfOk result (StepHolds E.past site.now growing.old growing.new) }
+    ensures same { OnErr result (IsSame E.past site.now growing.old growing.new) }
+    ensures own { E.values site.now workspace.new.evaluator }
+    ensures makers { workspace.new.makers.makers ≡ workspace.old.makers.makers }
 {
     if looked {
-        return step(alloc, evaluator, problem, graph, makers, growing);
+        return step(workspace, site, growing);
     }
     let mut root = look_at_root(
-        alloc,
-        evaluator,
-        problem,
-        graph,
-        makers,
+        workspace,
+        site,
         growing.start,
         growing.budget,
-        copy_of_network(alloc, &growing.best)?,
+        copy_of_network(workspace.alloc, &growing.best)?,
     )?;
-    let found = step(alloc, evaluator, problem, graph, makers, &mut root)?;
+    let found = step(workspace, site, &mut root)?;
     *growing = root;
     Ok(found)
 }

@@ -2,8 +2,8 @@
 ghost use Rattle.std.specs.Prelude.{◌≡◌, ◌≤◌, true, false, is_some, IfOk, option_copied, length};
 ghost use Rattle.pns_rules.specs.Shape.{shape_of};
 ghost use Rattle.pns_rules.specs.Ends.{IsSound};
-ghost use Rattle.pgraph.specs.Tables.{shape};
 ghost use Rattle.pgraph.specs.View.{node_of};
+ghost use Rattle.neutral_extension.specs.Candidates.{AreMakersOf};
 ghost use Rattle.node_evaluation.specs.Looks.{has_bounded};
 ghost use Rattle.tree_rules.specs.Claim.{ClaimPasses};
 ghost use Rattle.node_evaluation.specs.Children.{claim_with};
@@ -16,35 +16,30 @@ use crate::outcome::Turn;
 use crate::root::open_root;
 use crate::step::take_turn;
 use branch_tree::{Network, Tree};
-use neutral_extension::Makers;
-use node_evaluation::Evaluator;
-use pgraph::Graph;
-use pns_problem::Problem;
+use node_evaluation::{Evaluator, Workspace};
+use pgraph::Site;
 use std::alloc::{AllocError, Global};
 use std::marker::Model;
 use unit_sets::Node;
 
-/// A search of the structures of the family of a node for one whose flows are cheapest. It always takes an open leaf of least value.
+/// A search of the structures of the family of a node for one whose flows are cheapest. It always
+/// takes an open leaf of least value.
 #[derive(Drop)]
 pub struct SearchWith<'a, E: Evaluator> {
-    alloc: Global,
-    problem: &'a Problem,
-    graph: &'a Graph,
-    evaluator: E,
-    makers: Makers,
+    site: Site<'a>,
+    workspace: Workspace<E>,
     growing: Growing,
     looked: bool,
     ended: bool,
 }
 
 impl<'a, E: Evaluator> Model for SearchWith<'a, E> {
-    ghost use Rattle.pgraph.specs.Tables.{shape};
     ghost use Rattle.abb_search.specs.Searched.{Searched, IsSearching};
 
     ghost Value = { Searched };
 
     ghost view = { λ s. record {
-      problem = s.problem.now;
+      problem = s.site;
       start = s.growing.start;
       budget = s.growing.budget;
       cells = s.growing.pool.payloads;
@@ -52,52 +47,46 @@ impl<'a, E: Evaluator> Model for SearchWith<'a, E> {
       ended = s.ended;
     } };
 
-    ghost invariant = { λ s. IsSearching E.past s.problem.now (shape s.graph.now) s.makers.makers s.growing s.looked s.ended };
+    ghost invariant = { λ s. E.values s.site s.workspace.evaluator × IsSearching E.past s.site s.workspace.makers.makers s.growing s.looked s.ended };
 }
 
 impl<'a, E: Evaluator + Drop> SearchWith<'a, E> {
-    /// A search before its first turn, for a network that is cheaper than `best`, where there is one. The graph is that of the problem.
+    /// A search before its first turn, for a network that is cheaper than `best`, where there is
+    /// one.
     pub fn open_with(
-        alloc: Global,
-        evaluator: E,
-        problem: &'a Problem,
-        graph: &'a Graph,
+        workspace: Workspace<E>,
+        site: Site<'a>,
         start: Node,
         budget: u32,
         best: Option<Network>,
     ) -> Result<SearchWith<'a, E>, AllocError>
-        requires graph { shape graph.now ≡ shape_of problem.now }
-        requires sound { IsSound (shape_of problem.now) (node_of start) }
+        requires own { E.values site workspace.evaluator }
+        requires makers { AreMakersOf (shape_of site) workspace.makers.makers }
+        requires sound { IsSound (shape_of site) (node_of start) }
         requires some { 1 ≤ budget }
-        requires passes { ClaimPasses true problem.now (claim_with best) }
-        ensures { IfOk result (λ s. s ≡ opened problem.now start budget best) }
+        requires passes { ClaimPasses true site (claim_with best) }
+        ensures { IfOk result (λ s. s ≡ opened site.entry start budget best) }
     {
-        let makers = Makers::open(alloc, graph)?;
         is_sized(&best);
-        let growing = open_root(alloc, start, budget, best)?;
+        let growing = open_root(workspace.alloc, start, budget, best)?;
         Ok(SearchWith {
-            alloc,
-            problem,
-            graph,
-            evaluator,
-            makers,
+            site,
+            workspace,
             growing,
             looked: false,
             ended: false,
         })
     }
 
-    /// Takes the search so far that its nodes are more, or to its end. It takes all its memory before it changes a node.
+    /// Takes the search so far that its nodes are more, or to its end. It takes all its memory
+    /// before it changes a node.
     pub fn turn(&mut self) -> Turn
         requires { self.old.ended ≡ false }
         ensures { TurnHolds E.past self.old self.new result }
     {
         match take_turn(
-            self.alloc,
-            &mut self.evaluator,
-            self.problem,
-            self.graph,
-            &mut self.makers,
+            &mut self.workspace,
+            &self.site,
             &mut self.growing,
             self.looked,
         ) {
@@ -128,7 +117,8 @@ impl<'a, E: Evaluator + Drop> SearchWith<'a, E> {
         self.ended
     }
 
-    /// The cheapest network that was found or handed in, none only where no leaf of the tree is bounded.
+    /// The cheapest network that was found or handed in, none only where no leaf of the tree is
+    /// bounded.
     pub fn best(&self) -> Option<&Network>
         requires { self.now.ended ≡ false }
         ensures best { option_copied result ≡ self.now.best }

@@ -11,8 +11,7 @@ ghost use Rattle.branch_choice.specs.Choices.{IsChoice, option_count};
 
 use crate::candidates::best_unit;
 use crate::dues::Dues;
-use pgraph::Graph;
-use pns_problem::Problem;
+use pgraph::{Graph, Site};
 use unit_sets::{MatSet, Node, UnitSet};
 
 /// Where an open leaf is branched: at a material with three options, or in two at one unit.
@@ -34,7 +33,8 @@ impl Choice {
     }
 }
 
-/// Whether no unit that is taken in makes the needed material and just two free ones do: then one of them goes in, or both.
+/// Whether no unit that is taken in makes the needed material and just two free ones do: then one
+/// of them goes in, or both.
 fn has_three_options(graph: &Graph, node: &Node, x: u32) -> bool
     requires known { x < (shape graph.now).materials }
     requires needed { is_needed (shape graph.now) (node_of node.now).inside x ≡ true }
@@ -68,24 +68,27 @@ fn has_two_free(graph: &Graph, node: &Node) -> bool {
     units.minus(node.inside).minus(node.outside).count() == 2
 }
 
-/// Where the leaf is branched. Where just two units are free, and both make a needed material that no unit taken in makes, it is
-/// at the least such material. Else it is at the free maker of a needed material that has the greatest score, the least number
-/// of them. A unit of a size above 0 scores what it owes of its fixed cost, and one more; another unit the greatest share that
-/// a needed material owes which it makes and no unit taken in. A free unit without a fixed cost owes what the only unit left owes that
-/// makes a material it uses, where that one is free too; in use it scores the whole fixed cost of that one in the ratio of their sizes.
-/// Where the unit of the greatest score owes nothing, those come first behind which units in use stand that owe something: at the end of a
-/// chain of free units each of which uses what the one behind it makes. Where there are none, units that lead on from units in use
-/// without a path to a product come before all that score less than 2.
+/// Where the leaf is branched. Where just two units are free, and both make a needed material that
+/// no unit taken in makes, it is at the least such material. Else it is at the free maker of a
+/// needed material that has the greatest score, the least number of them. A unit of a size above 0
+/// scores what it owes of its fixed cost, and one more; another unit the greatest share that a
+/// needed material owes which it makes and no unit taken in. A free unit without a fixed cost owes
+/// what the only unit left owes that makes a material it uses, where that one is free too; in use
+/// it scores the whole fixed cost of that one in the ratio of their sizes. Where the unit of the
+/// greatest score owes nothing, those come first behind which units in use stand that owe
+/// something: at the end of a chain of free units each of which uses what the one behind it makes.
+/// Where there are none, units that lead on from units in use without a path to a product come
+/// before all that score less than 2.
 ///
-/// `first` is a material that is to decide. `sizes` has the sizes of the units that are not left out, in rising order and in
-/// millionths; an entry that is missing counts as 0.
-pub fn choose(problem: &Problem, graph: &Graph, node: Node, first: u32, sizes: &[i64]) -> Choice
-    requires graph { shape graph.now ≡ shape_of problem.now }
-    requires sound { IsSound (shape_of problem.now) (node_of node) }
-    requires reduced { IsReduced (shape_of problem.now) (node_of node) }
-    requires first { IsUndecided (shape_of problem.now) (node_of node) first }
-    ensures { IsChoice (shape_of problem.now) (node_of node) result }
+/// `first` is a material that is to decide. `sizes` has the sizes of the units that are not left
+/// out, in rising order and in millionths; an entry that is missing counts as 0.
+pub fn choose(site: &Site<'_>, node: Node, first: u32, sizes: &[i64]) -> Choice
+    requires sound { IsSound (shape_of site.now) (node_of node) }
+    requires reduced { IsReduced (shape_of site.now) (node_of node) }
+    requires first { IsUndecided (shape_of site.now) (node_of node) first }
+    ensures { IsChoice (shape_of site.now) (node_of node) result }
 {
+    let (problem, graph) = (site.problem(), site.graph());
     let needed = graph.needed(node.inside);
     if has_two_free(graph, &node) {
         if let Some(material) = least_with_three(graph, &node, needed) {

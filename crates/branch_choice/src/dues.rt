@@ -1,5 +1,6 @@
-//! What units and materials still owe at the last basis of a node. It guides a search, and nothing is promised of it: the sums
-//! stay far inside their range, and would be held at its ends if they did not.
+//! What units and materials still owe at the last basis of a node. It guides a search, and nothing
+//! is promised of it: the sums stay far inside their range, and would be held at its ends if they
+//! did not.
 ghost use Rattle.std.specs.Prelude.{◌≡◌, ◌<◌, ℕ, length};
 ghost use Rattle.pns_rules.specs.Shape.{shape_of};
 ghost use Rattle.pgraph.specs.Tables.{shape};
@@ -9,7 +10,8 @@ use pgraph::Graph;
 use pns_problem::{OperatingUnit, Problem};
 use unit_sets::{Node, UnitSet};
 
-/// What is known of a unit: its fixed cost, what it owes of it, and its size, all 0 where it is left out.
+/// What is known of a unit: its fixed cost, what it owes of it, and its size, all 0 where it is
+/// left out.
 #[derive(Clone, Copy)]
 struct Due {
     fixed: i128,
@@ -32,7 +34,8 @@ const NOTHING: Due = Due {
 // A unit that something stands behind scores so much more, which is more than any other score.
 const AHEAD: i128 = 1_000_000_000_000_000_000_000_000_000_000;
 
-// What stands behind a unit is divided by this for each unit in use on the way, and by that for each other one.
+// What stands behind a unit is divided by this for each unit in use on the way, and by that for
+// each other one.
 const STEP: i128 = 2;
 
 const STEP_NOT_IN_USE: i128 = 1024;
@@ -42,7 +45,8 @@ const STEP_NOT_IN_USE: i128 = 1024;
 pub(crate) struct Dues {
     dues: [Due; 128],
     used: UnitSet,
-    // The units that lead on from units in use without a path to a product, where they were looked for.
+    // The units that lead on from units in use without a path to a product, where they were looked
+    // for.
     leading: UnitSet,
 }
 
@@ -72,8 +76,8 @@ fn due_of(unit: &OperatingUnit, payout: i64, size: i64) -> Due {
     }
 }
 
-/// What a unit without a fixed cost owes that stands behind this maker, and what it scores in use: the whole fixed cost of the maker, in
-/// the ratio of their sizes.
+/// What a unit without a fixed cost owes that stands behind this maker, and what it scores in use:
+/// the whole fixed cost of the maker, in the ratio of their sizes.
 fn passed(due: Due, maker: Due) -> Due {
     let share = if maker.size < 1 {
         0
@@ -123,8 +127,8 @@ impl Dues {
         dues
     }
 
-    /// Lets each of the users, free units without a fixed cost, owe what the one unit owes that is left to make a material which they
-    /// use, where this unit is free too.
+    /// Lets each of the users, free units without a fixed cost, owe what the one unit owes that is
+    /// left to make a material which they use, where this unit is free too.
     fn pass_on(&mut self, graph: &Graph, node: &Node, users: UnitSet) {
         graph.is_proper();
         for x in 0..graph.material_count() {
@@ -153,8 +157,9 @@ impl Dues {
         self.dues[u as usize].unpaid > 0
     }
 
-    /// Looks for what stands behind the free units: what a unit in use scores that owes something and makes what they use, one behind the
-    /// other. It gets less with each unit on the way, much less with one that is not in use.
+    /// Looks for what stands behind the free units: what a unit in use scores that owes something
+    /// and makes what they use, one behind the other. It gets less with each unit on the way, much
+    /// less with one that is not in use.
     pub(crate) fn look_behind(&mut self, graph: &Graph, node: &Node) {
         graph.is_proper();
         let units = UnitSet::below(graph.unit_count());
@@ -178,7 +183,8 @@ impl Dues {
         }
     }
 
-    /// Passes what stands behind the free makers of each material to its free users, and tells whether that changed anything.
+    /// Passes what stands behind the free makers of each material to its free users, and tells
+    /// whether that changed anything.
     fn pass_behind(&mut self, graph: &Graph, free: UnitSet) -> bool {
         graph.is_proper();
         let mut has_changed = false;
@@ -225,15 +231,16 @@ impl Dues {
         self.dues[u as usize].behind > 0
     }
 
-    /// Looks for the units that lead on from units in use without a path to a product. They score more than all that owe nothing.
+    /// Looks for the units that lead on from units in use without a path to a product. They score
+    /// more than all that owe nothing.
     pub(crate) fn find_leading(&mut self, problem: &Problem, graph: &Graph, node: &Node)
         requires { shape graph.now ≡ shape_of problem.now }
     {
         self.leading = leading(problem, graph, node, self.used);
     }
 
-    /// What a material owes that is needed and not made yet: the least that one of its makers owes, over the splits that it takes
-    /// to have one of them.
+    /// What a material owes that is needed and not made yet: the least that one of its makers owes,
+    /// over the splits that it takes to have one of them.
     pub(crate) fn owed(&self, makers: UnitSet) -> i128 {
         let mut least = i128::MAX;
         for u in makers {

@@ -1,4 +1,5 @@
-//! Units in use that lead to no product, and the units that would lead on from them. It guides a search, and nothing is promised of it.
+//! Units in use that lead to no product, and the units that would lead on from them. It guides a
+//! search, and nothing is promised of it.
 ghost use Rattle.std.specs.Prelude.{◌≡◌};
 ghost use Rattle.pns_rules.specs.Shape.{shape_of};
 ghost use Rattle.pgraph.specs.Tables.{shape};
@@ -66,8 +67,9 @@ fn led_on(graph: &Graph, free: UnitSet, set: UnitSet) -> UnitSet {
     reached
 }
 
-/// The free units that lead on from units in use which no structure has whose units are in use or stand still at no cost: before one
-/// of them goes in, what those units earn is counted and no path to a product paid for. None where there is no such structure, too.
+/// The free units that lead on from units in use which no structure has whose units are in use or
+/// stand still at no cost: before one of them goes in, what those units earn is counted and no path
+/// to a product paid for. None where there is no such structure, too.
 pub(crate) fn leading(problem: &Problem, graph: &Graph, node: &Node, used: UnitSet) -> UnitSet
     requires { shape graph.now ≡ shape_of problem.now }
 {

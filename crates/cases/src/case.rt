@@ -1,6 +1,7 @@
 //! A case: the call that it makes, and what it wants.
 
 use pns_io::{MemShelf, MemSink, Outputs};
+use progress::NoWatch;
 use std::alloc::{AllocError, Global};
 use studio::{code_of, studio};
 
@@ -68,7 +69,7 @@ impl<'a> Case<'a> {
         let out = MemSink::new(alloc, self.room, self.failing_put)?;
         let err = MemSink::new(alloc, self.room, self.failing_error_put)?;
         let mut outs = Outputs::new(out, err);
-        let status = studio(alloc, &self.words, &mut shelf, &mut outs);
+        let status = studio(alloc, &self.words, &mut shelf, &mut outs, NoWatch);
         Ok(Outcome {
             status: code_of(status),
             out: outs.out.bytes().to_vec(alloc)?,

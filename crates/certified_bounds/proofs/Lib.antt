@@ -1,3 +1,2 @@
 pub mod FractionLemmas
 pub mod BoundLemmas
-pub mod ListLemmas

@@ -1,109 +1,71 @@
 //! The calls that value the nodes of a problem.
-ghost use Rattle.std.specs.Prelude.{◌≡◌, ◌≤ℤ◌, pos, true, false, length, Some, IsTrue, IfOk, IfSome, OnOk, OnErr};
+ghost use Rattle.std.specs.Prelude.{◌≡◌, true, false, Some, IfOk, IfSome, OnOk};
 ghost use Rattle.pns_rules.specs.Shape.{shape_of};
 ghost use Rattle.pns_rules.specs.Ends.{IsSound, IsDecided};
 ghost use Rattle.pgraph.specs.View.{node_of};
 ghost use Rattle.mixed_numbers.specs.Number.{numerator, denominator};
+ghost use Rattle.flow_rules.specs.Net.{net_of};
+ghost use Rattle.scaled_flows.specs.Divisors.{AreDivisors};
 ghost use Rattle.scaled_flows.specs.LeastCost.{IsLeastCost};
 ghost use Rattle.tree_rules.specs.Leaf.{IsBounded};
 ghost use Rattle.tree_rules.specs.Lean.{HasCheaper};
 ghost use Rattle.certified_bounds.specs.Certified.{IsBetween, IsCertified, IsFirstBound};
 
 use crate::certified::{Between, Certified, FirstBound};
-use crate::change::{change_to, make_change};
 use crate::flows::flows;
 use crate::lows::{first_low, least, low_to, proving};
 use crate::proposals::{Proposals, Proposed};
 use crate::refutations::{first_refuted, refuted};
-use crate::same_problem::is_same_problem;
-use branch_tree::Scaled;
+use branch_tree::{Network, Scaled};
 use mixed_numbers::Mixed;
-use pgraph::{Graph, Site};
-use pns_problem::{Parts, Problem};
+use pgraph::Site;
 use scaled_flows::{Scales, cost_of_sizes, least_value};
 use std::alloc::{AllocError, Global};
 use std::marker::Model;
 use unit_sets::Node;
 
-/// Values the nodes of a problem by guesses that are judged exactly. Contracts see the problem.
+/// Values the nodes of a problem by guesses that are judged exactly. Contracts see the common
+/// divisors of the problem's numbers.
 #[derive(Drop)]
 pub struct CertifiedBounds {
-    parts: Parts,
     scales: Scales,
     proposals: Proposals,
 }
 
 impl Model for CertifiedBounds {
-    ghost use Rattle.problem_rules.specs.Problem as rules;
-    ghost use Rattle.flow_rules.specs.Net.{net_of};
-    ghost use Rattle.scaled_flows.specs.Divisors.{AreDivisors};
+    ghost use Rattle.scaled_flows.specs.Divisors as divisors;
 
-    ghost Value = { rules.Problem };
+    ghost Value = { divisors.Divisors };
 
-    ghost view = { λ b. b.parts };
-
-    ghost invariant = { λ b. AreDivisors (net_of b.parts) b.scales };
+    ghost view = { λ b. b.scales };
 }
 
 impl CertifiedBounds {
-    /// Makes room for the nodes of the problem. `Err` comes for want of memory alone.
-    pub fn open(alloc: Global, problem: &Problem) -> Result<CertifiedBounds, AllocError>
-        ensures { IfOk result (λ b. b ≡ problem.now) }
+    /// Makes room for the nodes of the problem. `Err` comes when memory is refused.
+    pub fn open(alloc: Global, site: &Site<'_>) -> Result<CertifiedBounds, AllocError>
+        ensures { IfOk result (AreDivisors (net_of site.now)) }
     {
-        let graph = Graph::of(alloc, problem)?;
-        let scales = Scales::of(alloc, problem, &graph)?;
+        let (problem, graph) = (site.problem(), site.graph());
+        let scales = Scales::of(alloc, problem, graph)?;
         let proposals = Proposals::open(alloc, problem, &scales)?;
-        let parts = problem.parts(alloc)?;
-        Ok(CertifiedBounds {
-            parts,
-            scales,
-            proposals,
-        })
+        Ok(CertifiedBounds { scales, proposals })
     }
 
-    /// Whether it is for the nodes of this problem. Linear in the size of the problem.
-    pub fn is_for(&self, problem: &Problem) -> bool
-        ensures { IsTrue result → self.now ≡ problem.now }
+    /// Goes over to the nodes of another problem with as many units and materials, and takes no new
+    /// room for them. `Err` comes when memory is refused.
+    pub fn rebind(&mut self, alloc: Global, site: &Site<'_>) -> Result<(), AllocError>
+        ensures { OnOk result (AreDivisors (net_of site.now) self.new) }
     {
-        is_same_problem(&self.parts, problem)
-    }
-
-    /// Whether the problem has as many units and materials as that for whose nodes it is.
-    pub fn has_room_for(&self, problem: &Problem) -> bool
-        ensures units { IsTrue result → length self.now.units ≡ length problem.now.units }
-        ensures materials { IsTrue result → length self.now.materials ≡ length problem.now.materials }
-    {
-        self.parts.units.len() == problem.units().len()
-            && self.parts.materials.len() == problem.materials().len()
-    }
-
-    /// Goes over to the nodes of another problem, which it has room for. Where that differs in one price or in the costs of one unit, no
-    /// name is copied. `Err` comes for want of memory alone.
-    pub fn go_over(&mut self, alloc: Global, site: &Site<'_>) -> Result<(), AllocError>
-        requires units { length self.old.units ≡ length site.now.units }
-        requires materials { length self.old.materials ≡ length site.now.materials }
-        ensures own { OnOk result (self.new ≡ site.now) }
-        ensures same { OnErr result (self.new ≡ self.old) }
-    {
-        let problem = site.problem();
-        let scales = Scales::of(alloc, problem, site.graph())?;
-        match change_to(&self.parts, problem) {
-            Some(change) => {
-                self.proposals.go_over(alloc, problem, &scales)?;
-                make_change(&mut self.parts, problem, change);
-            }
-            None => {
-                let parts = problem.parts(alloc)?;
-                self.proposals.go_over(alloc, problem, &scales)?;
-                self.parts = parts;
-            }
-        }
+        let (problem, graph) = (site.problem(), site.graph());
+        let scales = Scales::of(alloc, problem, graph)?;
+        self.proposals.go_over(alloc, problem, &scales)?;
         self.scales = scales;
         Ok(())
     }
 
-    /// Tells a cost that no relaxed flows of the node undercut, and does not find the least: short multipliers of a guess prove it. It
-    /// takes no memory but for what it hands out, and `Err` comes for want of that alone.
+    /// Tells a cost that no relaxed flows of the node undercut, and does not find the least: short
+    /// multipliers of a guess prove it. It takes no memory but for what it hands out, and `Err`
+    /// comes when that is refused.
     pub fn look_first(
         &mut self,
         alloc: Global,
@@ -121,8 +83,8 @@ impl CertifiedBounds {
         }
     }
 
-    /// Tells what the node is worth; `decided` tells whether all is decided there. It takes no memory but for what it hands out, and
-    /// `Err` comes for want of that alone.
+    /// Tells what the node is worth; `decided` tells whether all is decided there. It takes no
+    /// memory but for what it hands out, and `Err` comes when that is refused.
     pub fn look(
         &mut self,
         alloc: Global,
@@ -130,7 +92,7 @@ impl CertifiedBounds {
         node: Node,
         decided: bool,
     ) -> Result<Certified, AllocError>
-        requires own { self.old ≡ site.now }
+        requires own { AreDivisors (net_of site.now) self.old }
         requires sound { IsSound (shape_of site.now) (node_of node) }
         requires split { decided ≡ true → IsDecided (shape_of site.now) (node_of node) }
         ensures same { self.new ≡ self.old }
@@ -151,7 +113,7 @@ impl CertifiedBounds {
         decided: bool,
         anew: bool,
     ) -> Result<Certified, AllocError>
-        requires own { self.old ≡ site.now }
+        requires own { AreDivisors (net_of site.now) self.old }
         requires sound { IsSound (shape_of site.now) (node_of node.now) }
         requires split { decided ≡ true → IsDecided (shape_of site.now) (node_of node.now) }
         ensures same { self.new ≡ self.old }
@@ -161,8 +123,8 @@ impl CertifiedBounds {
         self.judged(alloc, site, node, decided, proposed)
     }
 
-    /// Tells what a node is worth that a first look bounded: the basis that it guessed is solved. It takes no memory but for what it hands
-    /// out, and `Err` comes for want of that alone.
+    /// Tells what a node is worth that a first look bounded: the basis that it guessed is solved.
+    /// It takes no memory but for what it hands out, and `Err` comes when that is refused.
     pub fn settle(
         &mut self,
         alloc: Global,
@@ -170,7 +132,7 @@ impl CertifiedBounds {
         node: Node,
         basis: &[u16],
     ) -> Result<Certified, AllocError>
-        requires own { self.old ≡ site.now }
+        requires own { AreDivisors (net_of site.now) self.old }
         requires sound { IsSound (shape_of site.now) (node_of node) }
         ensures same { self.new ≡ self.old }
         ensures certified { IfOk result (IsCertified site.now (node_of node) false) }
@@ -188,7 +150,7 @@ impl CertifiedBounds {
         decided: bool,
         proposed: Proposed,
     ) -> Result<Certified, AllocError>
-        requires own { self.old ≡ site.now }
+        requires own { AreDivisors (net_of site.now) self.old }
         requires sound { IsSound (shape_of site.now) (node_of node.now) }
         requires split { decided ≡ true → IsDecided (shape_of site.now) (node_of node.now) }
         ensures same { self.new ≡ self.old }
@@ -213,7 +175,7 @@ impl CertifiedBounds {
 
     /// After `Optimum`: the least cost, where what is proposed passes the check.
     fn value(&self, site: &Site<'_>, node: &Node) -> Option<Mixed>
-        requires own { self.now ≡ site.now }
+        requires own { AreDivisors (net_of site.now) self.now }
         requires sound { IsSound (shape_of site.now) (node_of node.now) }
         ensures { IfSome result (λ value. IsLeastCost site.now (node_of node.now) (numerator value) (denominator value)) }
     {
@@ -222,15 +184,15 @@ impl CertifiedBounds {
         least_value(problem, graph, &self.scales, *node, &guessed)
     }
 
-    /// Two costs between which the least cost of relaxed flows of the node lies, where they are found. It takes no memory but for what it
-    /// hands out, and `Err` comes for want of that alone.
+    /// Two costs between which the least cost of relaxed flows of the node lies, where they are
+    /// found. It takes no memory but for what it hands out, and `Err` comes when that is refused.
     pub fn between(
         &mut self,
         alloc: Global,
         site: &Site<'_>,
         node: Node,
     ) -> Result<Option<Between>, AllocError>
-        requires own { self.old ≡ site.now }
+        requires own { AreDivisors (net_of site.now) self.old }
         requires sound { IsSound (shape_of site.now) (node_of node) }
         ensures same { self.new ≡ self.old }
         ensures between { IfOk result (λ found. IfSome found (IsBetween site.now (node_of node))) }
@@ -241,9 +203,10 @@ impl CertifiedBounds {
         low_to(alloc, site, &node, &mut self.proposals, reached)
     }
 
-    /// What some flows of the node cost: least ones, where their numbers have room, or ones in short numbers.
+    /// What some flows of the node cost: least ones, where their numbers have room, or ones in
+    /// short numbers.
     fn cost_of_flows(&mut self, site: &Site<'_>, node: &Node) -> Option<Mixed>
-        requires own { self.old ≡ site.now }
+        requires own { AreDivisors (net_of site.now) self.old }
         requires sound { IsSound (shape_of site.now) (node_of node.now) }
         ensures same { self.new ≡ self.old }
         ensures reached { IfSome result (λ cost. HasCheaper site.now (node_of node.now) (numerator cost) (denominator cost)) }
@@ -263,7 +226,7 @@ impl CertifiedBounds {
 
     /// What the listed sizes cost, where they were written and pass the check: then they are kept.
     fn keep_reached(&mut self, site: &Site<'_>, node: &Node, d: Option<i128>) -> Option<Mixed>
-        requires own { self.old ≡ site.now }
+        requires own { AreDivisors (net_of site.now) self.old }
         requires sound { IsSound (shape_of site.now) (node_of node.now) }
         ensures same { self.new ≡ self.old }
         ensures reached { IfSome result (λ cost. HasCheaper site.now (node_of node.now) (numerator cost) (denominator cost)) }
@@ -276,7 +239,7 @@ impl CertifiedBounds {
 
     /// What the listed sizes over `d` cost, where they pass the check.
     fn reached(&self, site: &Site<'_>, node: &Node, d: i128) -> Option<Mixed>
-        requires own { self.now ≡ site.now }
+        requires own { AreDivisors (net_of site.now) self.now }
         requires sound { IsSound (shape_of site.now) (node_of node.now) }
         ensures { IfSome result (λ cost. HasCheaper site.now (node_of node.now) (numerator cost) (denominator cost)) }
     {
@@ -285,30 +248,30 @@ impl CertifiedBounds {
         cost_of_sizes(problem, graph, &self.scales, *node, sizes, d)
     }
 
-    /// Multipliers that prove that no relaxed flows of the node cost less than the cost over `d`, where they are found. It takes no
-    /// memory but for what it hands out, and `Err` comes for want of that alone.
+    /// Multipliers that prove that no relaxed flows of the node cost less than the network, where they
+    /// are found. It takes no memory but for what it hands out, and `Err` comes when that is refused.
     pub fn prove(
         &mut self,
         alloc: Global,
         site: &Site<'_>,
         node: Node,
-        cost: i128,
-        d: i128,
+        network: &Network,
     ) -> Result<Option<Scaled>, AllocError>
         requires sound { IsSound (shape_of site.now) (node_of node) }
-        requires positive { pos 1 ≤ℤ d }
         ensures same { self.new ≡ self.old }
-        ensures proved { IfOk result (λ found. IfSome found (λ s. IsBounded site.now (Some (record { cost = cost; d = d })) (node_of node) s.d s.ys)) }
+        ensures proved { IfOk result (λ found. IfSome found (λ s. IsBounded site.now (Some (record { cost = network.now.cost; d = network.now.d })) (node_of node) s.d s.ys)) }
     {
-        let goal = Mixed::of(cost, d);
+        network.is_sized();
+        let goal = Mixed::of(network.cost(), network.d());
         match self.proposals.propose(&node, true) {
             Proposed::Optimum => proving(alloc, site, &node, &mut self.proposals, goal),
             _ => Ok(None),
         }
     }
 
-    /// The size of each unit that is not left out at the node for which flows were found or guessed last, in rising order and in whole
-    /// millionths. A guide for the choice of a branch: nothing rests on it.
+    /// The size of each unit that is not left out at the node for which flows were found or guessed
+    /// last, in rising order and in whole millionths. A guide for the choice of a branch: nothing
+    /// rests on it.
     pub fn sizes(&self) -> &[i64] {
         self.proposals.whole_sizes()
     }

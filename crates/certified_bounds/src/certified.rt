@@ -2,8 +2,8 @@
 use branch_tree::{Multipliers, Network, Scaled};
 use mixed_numbers::Mixed;
 
-/// The least cost of relaxed flows, and a bound of it with the multipliers over their scale that prove it: all costs are in 10^-18
-/// of the money unit times the payout period.
+/// The least cost of relaxed flows, and a bound of it with the multipliers over their scale that
+/// prove it: all costs are in 10^-18 of the money unit times the payout period.
 #[derive(Drop)]
 pub struct LeastBound {
     pub value: Mixed,
@@ -11,8 +11,9 @@ pub struct LeastBound {
     pub scaled: Scaled,
 }
 
-/// Two costs between which the least cost of relaxed flows lies: multipliers over their scale prove that none cost less than `low`,
-/// and some cost at most `reached`. All costs are in 10^-18 of the money unit times the payout period.
+/// Two costs between which the least cost of relaxed flows lies: multipliers over their scale prove
+/// that none cost less than `low`, and some cost at most `reached`. All costs are in 10^-18 of the
+/// money unit times the payout period.
 #[derive(Drop)]
 pub struct Between {
     pub low: Mixed,
@@ -20,8 +21,8 @@ pub struct Between {
     pub reached: Mixed,
 }
 
-/// A cost that no relaxed flows undercut, and the multipliers over their scale that prove so. It is in 10^-18 of the money unit times
-/// the payout period.
+/// A cost that no relaxed flows undercut, and the multipliers over their scale that prove so. It is
+/// in 10^-18 of the money unit times the payout period.
 #[derive(Drop)]
 pub struct LowBound {
     pub low: Mixed,
@@ -50,6 +51,6 @@ pub enum Certified {
     Flows(LeastBound, Network),
     /// The node has no relaxed flows.
     Refuted(Multipliers),
-    /// A check was past the range, or said no.
+    /// A number of a check overflowed, or it said no.
     Nothing,
 }

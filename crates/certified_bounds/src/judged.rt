@@ -27,8 +27,9 @@ fn row_count(graph: &Graph, node: &Node) -> usize
     sets_of(graph, node).rows.count() as usize
 }
 
-/// What the multipliers prove over their scale: no relaxed flows of the node cost less. None where the scale is below 1, where
-/// there is not a multiplier for each row, or where a number of their sum is out of range.
+/// What the multipliers prove over their scale: no relaxed flows of the node cost less. None where
+/// the scale is below 1, where there is not a multiplier for each row, or where a number of their
+/// sum is out of range.
 pub(crate) fn low_of(
     site: &Site<'_>,
     node: &Node,
@@ -51,8 +52,8 @@ pub(crate) fn low_of(
     }
 }
 
-/// Whether the multipliers prove over their scale that no relaxed flows of the node cost less than the goal. What `low_of` has no
-/// answer for is a no.
+/// Whether the multipliers prove over their scale that no relaxed flows of the node cost less than
+/// the goal. What `low_of` has no answer for is a no.
 pub(crate) fn reaches(
     site: &Site<'_>,
     node: &Node,
@@ -86,8 +87,8 @@ pub(crate) fn is_refuted(site: &Site<'_>, node: &Node, multipliers: &[i128]) -> 
     }
 }
 
-/// The cost over `d` of the network of the units that are taken in where all is decided, if the sizes over `d` are flows for it and no number on the way is out of
-/// range.
+/// The cost over `d` of the network of the units that are taken in where all is decided, if the
+/// sizes over `d` are flows for it and no number on the way is out of range.
 pub(crate) fn cost_of_network(site: &Site<'_>, node: &Node, sizes: &[i128], d: i128) -> Option<i128>
     requires sound { IsSound (shape_of site.now) (node_of node.now) }
     requires decided { IsDecided (shape_of site.now) (node_of node.now) }

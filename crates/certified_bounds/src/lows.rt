@@ -20,7 +20,8 @@ use pgraph::Site;
 use std::alloc::{AllocError, Global};
 use unit_sets::Node;
 
-// Exact multipliers are told of where their scale is at most 2^20, and rounded ones over this scale else.
+// Exact multipliers are told of where their scale is at most 2^20, and rounded ones over this scale
+// else.
 const SHORT_BITS: u32 = 20;
 
 const SHORT: i128 = 1 << 20;
@@ -135,7 +136,8 @@ pub(crate) fn exact(
     reaching(alloc, site, node, proposals, Way::Exact(i128::MAX), goal)
 }
 
-/// After `Optimum`: multipliers that prove the goal, rounded ones over longer and longer scales, and at last the exact ones.
+/// After `Optimum`: multipliers that prove the goal, rounded ones over longer and longer scales,
+/// and at last the exact ones.
 pub(crate) fn proving(
     alloc: Global,
     site: &Site<'_>,
@@ -154,7 +156,8 @@ pub(crate) fn proving(
     exact(alloc, site, node, proposals, goal)
 }
 
-/// After `propose_sizes` or `propose_inside`: what rounded multipliers prove, over the longest of three scales at which no number is out of range.
+/// After `propose_sizes` or `propose_inside`: what rounded multipliers prove, over the longest of
+/// three scales at which no number is out of range.
 fn nearest_low(site: &Site<'_>, node: &Node, proposals: &mut Proposals) -> Option<Low>
     requires known { (u : ℕ) → has node.now.inside u ≡ true → u < (shape_of site.now).units }
     ensures { IfSome result (λ l. IsBounded site.now (Some (cost_over l.low)) (node_of node.now) l.scale proposals.new) }
@@ -167,7 +170,8 @@ fn nearest_low(site: &Site<'_>, node: &Node, proposals: &mut Proposals) -> Optio
     None
 }
 
-/// After `propose_low`: what rounded multipliers prove, over a short scale, since they may come to stand in a tree.
+/// After `propose_low`: what rounded multipliers prove, over a short scale, since they may come to
+/// stand in a tree.
 fn quick_low(site: &Site<'_>, node: &Node, proposals: &mut Proposals) -> Option<Low>
     requires known { (u : ℕ) → has node.now.inside u ≡ true → u < (shape_of site.now).units }
     ensures { IfSome result (λ l. IsBounded site.now (Some (cost_over l.low)) (node_of node.now) l.scale proposals.new) }
@@ -216,7 +220,8 @@ pub(crate) fn first_low(
     Ok(FirstBound::AtLeast(bound))
 }
 
-/// After `propose_sizes` or `propose_inside`: what some flows cost, and what rounded multipliers prove.
+/// After `propose_sizes` or `propose_inside`: what some flows cost, and what rounded multipliers
+/// prove.
 pub(crate) fn low_to(
     alloc: Global,
     site: &Site<'_>,

@@ -4,8 +4,9 @@ use crate::rounding::Ratio;
 use frac128::Frac;
 use int_rows::gcd;
 
-/// Multipliers of scaled rows over a scale, at each the divisor of its material's rates. They pay for scaled rates in scaled costs: a
-/// multiplier times the divisor of costs, over that of its rates, pays for rates in costs.
+/// Multipliers of scaled rows over a scale, at each the divisor of its material's rates. They pay
+/// for scaled rates in scaled costs: a multiplier times the divisor of costs, over that of its
+/// rates, pays for rates in costs.
 #[derive(Clone, Copy)]
 pub(crate) struct ScaledRows<'a> {
     pub(crate) numbers: &'a [i128],
@@ -50,7 +51,8 @@ impl ScaledRows<'_> {
         }
     }
 
-    /// A number that divides each scale over which all multipliers are whole, where the scale of the scaled ones is their least.
+    /// A number that divides each scale over which all multipliers are whole, where the scale of
+    /// the scaled ones is their least.
     fn scale_divisor(&self) -> i128 {
         match fraction(self.costs, self.scale) {
             Some(costs) => costs.den(),

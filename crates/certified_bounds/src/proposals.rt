@@ -1,5 +1,5 @@
-//! What is proposed for a node: a guessed basis, its solution, and what is made of it. Nothing is promised of that but that it is
-//! found safely and in an end, and that lists are in range.
+//! What is proposed for a node: a guessed basis, its solution, and what is made of it. Nothing is
+//! promised of that but that it is found safely and in an end, and that lists are in range.
 ghost use Rattle.std.specs.Prelude.{◌≡◌};
 ghost use Rattle.integer_laws.specs.Range.{AllInRange};
 ghost use Rattle.flow_rules.specs.Net.{net_of};
@@ -18,7 +18,8 @@ use std::alloc::{AllocError, Global};
 use std::marker::Model;
 use unit_sets::Node;
 
-/// What is proposed: sizes and multipliers that may be optimal, a row that may show that there are no flows, or nothing.
+/// What is proposed: sizes and multipliers that may be optimal, a row that may show that there are
+/// no flows, or nothing.
 #[derive(Clone, Copy, Debug, PartialEq, Eq)]
 pub(crate) enum Proposed {
     Optimum,
@@ -33,12 +34,13 @@ pub(crate) enum Way {
     Exact(i128),
     /// After `Optimum`: whole numbers near 2^bits times the multipliers.
     Rounded(u32),
-    /// After `propose_low`, `propose_sizes` or `propose_inside`: whole numbers near 2^bits times the
-    /// multipliers, or a lower power of 2 over which they are the same.
+    /// After `propose_low`, `propose_sizes` or `propose_inside`: whole numbers near 2^bits times
+    /// the multipliers, or a lower power of 2 over which they are the same.
     Near(u32),
 }
 
-/// A problem in scaled numbers, with the divisors: one of each material's rates, that of sizes, and that of costs.
+/// A problem in scaled numbers, with the divisors: one of each material's rates, that of sizes, and
+/// that of costs.
 #[derive(Drop)]
 struct ScaledProblem {
     numbers: Numbers,
@@ -130,7 +132,7 @@ fn keep_whole(whole_sizes: &mut Vec<i64>, sizes: &[i128], scale: i128, d: i128) 
 }
 
 impl Proposals {
-    /// Makes room for the nodes of the problem. `Err` comes for want of memory alone.
+    /// Makes room for the nodes of the problem. `Err` comes when memory is refused.
     pub(crate) fn open(
         alloc: Global,
         problem: &Problem,
@@ -156,7 +158,8 @@ impl Proposals {
         })
     }
 
-    /// Goes over to the nodes of another problem with as many units and materials. `Err` comes for want of memory alone.
+    /// Goes over to the nodes of another problem with as many units and materials. `Err` comes when
+    /// memory is refused.
     pub(crate) fn go_over(
         &mut self,
         alloc: Global,
@@ -188,8 +191,8 @@ impl Proposals {
         }
     }
 
-    /// Looks, from the last basis, for multipliers that prove little less than least flows of the node cost, and keeps the sizes that
-    /// these flows seem to have.
+    /// Looks, from the last basis, for multipliers that prove little less than least flows of the
+    /// node cost, and keeps the sizes that these flows seem to have.
     pub(crate) fn propose_low(&mut self, node: &Node) -> Proposed {
         let outcome = self.guess.look(&self.scaled.numbers, node, false);
         if !self.read_rows(node) {
@@ -262,7 +265,8 @@ impl Proposals {
         true
     }
 
-    /// Looks for least flows of the node, and for multipliers that prove little less than what these cost.
+    /// Looks for least flows of the node, and for multipliers that prove little less than what
+    /// these cost.
     pub(crate) fn propose_sizes(&mut self, node: &Node) -> bool {
         let outcome = self.guess.look(&self.scaled.numbers, node, true);
         outcome == Outcome::Basis
@@ -273,7 +277,8 @@ impl Proposals {
                 .find_sizes(&self.scaled.numbers, self.guess.columns(), node)
     }
 
-    /// Looks for flows of the node in short numbers that cost little more than the least, and for multipliers that prove little less.
+    /// Looks for flows of the node in short numbers that cost little more than the least, and for
+    /// multipliers that prove little less.
     pub(crate) fn propose_inside(&mut self, node: &Node) -> bool {
         let outcome = self.guess.look_inside(&self.scaled.numbers, node);
         outcome == Outcome::Basis
@@ -331,7 +336,8 @@ impl Proposals {
         }
     }
 
-    /// After `Optimum`: writes the exact multipliers over their least scale, which it gives, where that is at most so much.
+    /// After `Optimum`: writes the exact multipliers over their least scale, which it gives, where
+    /// that is at most so much.
     fn write_exact(&mut self, most: i128) -> Option<i128> {
         let rows = ScaledRows {
             numbers: self.solver.multipliers(),
@@ -373,8 +379,9 @@ impl Proposals {
         rows.write_rounded(bits, &mut self.list)
     }
 
-    /// After `propose_low`, `propose_sizes` or `propose_inside`: writes whole numbers near a power of 2 times the multipliers of the cost:
-    /// 2^bits, or a lower one over which they are the same. Gives that power.
+    /// After `propose_low`, `propose_sizes` or `propose_inside`: writes whole numbers near a power
+    /// of 2 times the multipliers of the cost: 2^bits, or a lower one over which they are the same.
+    /// Gives that power.
     fn write_near(&mut self, bits: u32) -> Option<i128> {
         let rows = ScaledRows {
             numbers: self.row.numbers(),
@@ -418,7 +425,8 @@ impl Proposals {
         keep_whole(&mut self.whole_sizes, sizes, self.scaled.sizes, d);
     }
 
-    /// After `Optimum`: writes the sizes in millionths over their least common denominator, which it gives.
+    /// After `Optimum`: writes the sizes in millionths over their least common denominator, which
+    /// it gives.
     pub(crate) fn write_sizes(&mut self) -> Option<i128> {
         let d = self.solver.d();
         if d < 1 {
@@ -446,7 +454,8 @@ impl Proposals {
         );
     }
 
-    /// The size of each unit of the node for which sizes were kept last, in rising order and in whole millionths.
+    /// The size of each unit of the node for which sizes were kept last, in rising order and in
+    /// whole millionths.
     pub(crate) fn whole_sizes(&self) -> &[i64] {
         &self.whole_sizes
     }

@@ -7,7 +7,7 @@ use Rattle.std.proofs.lemmas.List.{length-map, length-take}
 use Rattle.std.proofs.lemmas.List.Splits.{length-slice_split}
 use Rattle.std.proofs.lemmas.List.Sums.{count_by-le-length}
 use Rattle.edit_rules.specs.Edit.{Edit, Script}
-use Rattle.text_rules.specs.Line.{without_return, without_empty_last}
+use Rattle.text_rules.specs.Line.{without_return, without_empty_last, without_remark}
 use Rattle.script_rules.specs.declared.EditKind.{EditKind}
 use Rattle.script_rules.specs.declared.EditKind.TheVariants.{FileType}
 use Rattle.script_rules.specs.Fault.{Fault}
@@ -47,7 +47,7 @@ not_more false parts = omega arith
 line_count : (bytes : List ℕ) → length (script_lines bytes) ≤ length bytes + 1
 line_count bytes =
     let parts : List (List ℕ) = slice_split is_feed bytes in
-    let same = length-map (without_empty_last parts) without_return in
+    let same = length-map (without_empty_last parts) (λ part. without_remark (without_return part)) in
     let fewer : length (without_empty_last parts) ≤ length parts = not_more (length (slice_index_or parts (length parts - 1) (0 ∷ [])) == 0) parts in
     let split = length-slice_split is_feed bytes in
     let feeds = count_by-le-length is_feed bytes in

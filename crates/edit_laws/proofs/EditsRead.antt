@@ -211,6 +211,7 @@ line_is : (edit : Edit) → IsFormed edit → IsLine (edit_line edit)
 line_is edit is = record {
   feed = tokens_none 10 refl refl (edit_tokens edit) (word_is (word_of edit), fields_each edit is);
   ret = tokens_none 13 refl refl (edit_tokens edit) (word_is (word_of edit), fields_each edit is);
+  sign = tokens_none 35 refl refl (edit_tokens edit) (word_is (word_of edit), fields_each edit is);
 }
 
 lines_are : (edits : List Edit) → Each IsFormed edits → Each IsLine (map edit_line edits)
@@ -253,4 +254,4 @@ edits_back number (edit ∷ edits) each =
 -- the whole text
 pub scripts_back : (edits : List Edit) → Each IsFormed edits → read_script (script_text edits) ≡ Ok (script_of edits)
 scripts_back edits each =
-    ap text_read (lines_back (file_type ∷ map edit_line edits) (record { feed = refl; ret = refl }, lines_are edits each)) ∙ edits_back 2 edits each
+    ap text_read (lines_back (file_type ∷ map edit_line edits) (record { feed = refl; ret = refl; sign = refl }, lines_are edits each)) ∙ edits_back 2 edits each

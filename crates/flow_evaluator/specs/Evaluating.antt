@@ -1,7 +1,18 @@
--- What an evaluator keeps: the problem that it was opened for, and the bench on which paths are walked.
+-- What an evaluator keeps: common divisors of the numbers of its problem, the bench on which paths are walked, and for how many units
+-- and materials it has room.
+use Rattle.std.specs.Prelude.{◌≡◌, ℕ, length}
 use Rattle.problem_rules.specs.Problem.{Problem}
-use Rattle.dual_simplex.specs.Bench.{Bench}
+use Rattle.flow_rules.specs.Net.{net_of}
+use Rattle.scaled_flows.specs.Divisors.{Divisors, AreDivisors}
+use Rattle.dual_simplex.specs.Bench.{Bench, HasRoom}
 
 pub record Evaluating : Type 0 where
-  pub problem : Problem
+  pub scales : Divisors
   pub bench : Bench
+  pub units : ℕ
+  pub materials : ℕ
+
+-- it values the nodes of the problem
+pub record IsFor (p : Problem) (e : Evaluating) : Type 0 where
+  pub scales : AreDivisors (net_of p) e.scales
+  pub room : HasRoom e.bench (length p.units) (length p.materials)

@@ -31,7 +31,7 @@ use pgraph::Site;
 use std::alloc::{AllocError, Global};
 use unit_sets::Node;
 
-/// A place at which a number is past the range, with the columns outside the basis that the bench keeps.
+/// A place at which a number overflows, with the columns outside the basis that the bench keeps.
 fn stop_at(alloc: Global, bench: &Bench, place: Place) -> Result<PastStop, AllocError>
     ensures { IfOk result (λ h. h ≡ record { nonbasic = bench.now.nonbasic; place = place }) }
 {
@@ -140,7 +140,8 @@ fn with_flows(
     }
 }
 
-/// After `Least`: the multipliers, which prove that no relaxed flows cost less than what the node is worth.
+/// After `Least`: the multipliers, which prove that no relaxed flows cost less than what the node
+/// is worth.
 pub(crate) fn proved(
     alloc: Global,
     site: &Site<'_>,

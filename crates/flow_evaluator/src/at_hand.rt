@@ -1,4 +1,5 @@
-//! A solution structure at hand at a node: one that has the units that run at the node's last flows.
+//! A solution structure at hand at a node: one that has the units that run at the node's last
+//! flows.
 ghost use Rattle.std.specs.Prelude.{◌≡◌, ◌<◌, ℕ, true, IsTrue, IfSome};
 ghost use Rattle.number_sets.specs.Sets.{has, IsWithin, Avoids};
 ghost use Rattle.pns_rules.specs.Shape.{shape_of};
@@ -13,7 +14,8 @@ use pns_problem::OperatingUnit;
 use pns_rules::Verdict;
 use unit_sets::{Node, UnitSet};
 
-/// The free units that run, and those that owe something of their fixed cost at their sizes, whether they run or not.
+/// The free units that run, and those that owe something of their fixed cost at their sizes,
+/// whether they run or not.
 #[derive(Clone, Copy)]
 pub(crate) struct Running {
     pub units: UnitSet,
@@ -73,7 +75,8 @@ fn units_in_use(graph: &Graph, node: &Node, running: UnitSet) -> UnitSet
     running.meet(free).union(node.inside)
 }
 
-/// The greatest solution structure without the units that are left out, where it has all that are in use.
+/// The greatest solution structure without the units that are left out, where it has all that are
+/// in use.
 fn greatest_with(graph: &Graph, in_use: UnitSet, left_out: UnitSet) -> Option<UnitSet>
     ensures { IfSome result (λ s. IsBetween (shape graph.now) (has in_use) (has left_out) (has s)) }
 {
@@ -81,7 +84,8 @@ fn greatest_with(graph: &Graph, in_use: UnitSet, left_out: UnitSet) -> Option<Un
     if in_use.within(set) { Some(set) } else { None }
 }
 
-/// A solution structure that has the units in use and, of the others that are not left out, none that it can do without.
+/// A solution structure that has the units in use and, of the others that are not left out, none
+/// that it can do without.
 fn least_with(graph: &Graph, in_use: UnitSet, left_out: UnitSet) -> Option<UnitSet>
     ensures { IfSome result (λ s. IsBetween (shape graph.now) (has in_use) (has left_out) (has s)) }
 {
@@ -108,8 +112,8 @@ fn is_structure(graph: &Graph, set: UnitSet) -> bool
     }
 }
 
-/// A solution structure that has the units in use: these, where they are one, else with as few more as it takes, none of which is spared
-/// or left out.
+/// A solution structure that has the units in use: these, where they are one, else with as few more
+/// as it takes, none of which is spared or left out.
 fn structure_of(graph: &Graph, node: &Node, in_use: UnitSet, spared: UnitSet) -> Option<UnitSet>
     requires known { (u : ℕ) → has in_use u ≡ true → u < (shape graph.now).units }
     requires inside { IsWithin (has node.now.inside) (has in_use) }
@@ -122,7 +126,8 @@ fn structure_of(graph: &Graph, node: &Node, in_use: UnitSet, spared: UnitSet) ->
     least_with(graph, in_use, spared.union(node.outside))
 }
 
-/// An allowed structure of the node's family that has the free units that run, and as few more as it takes, none of which is spared.
+/// An allowed structure of the node's family that has the free units that run, and as few more as
+/// it takes, none of which is spared.
 pub(crate) fn structure_with(
     graph: &Graph,
     node: &Node,

@@ -1,16 +1,17 @@
 //! [`FlowEvaluator`], which evaluates nodes in two ways.
-ghost use Rattle.std.specs.Prelude.{◌≡◌, true, false, length, None, IfOk, IfSome, OnOk};
+ghost use Rattle.std.specs.Prelude.{◌≡◌, true, false, length, None, IfOk, IfSome, IsTrue};
 ghost use Rattle.number_sets.specs.Sets.{has};
 ghost use Rattle.pns_rules.specs.Shape.{shape_of};
 ghost use Rattle.pns_rules.specs.Structure.{InFamily};
 ghost use Rattle.pns_rules.specs.Ends.{IsSound, IsReduced, IsDecided};
 ghost use Rattle.pgraph.specs.View.{node_of};
 ghost use Rattle.dual_simplex.specs.Bench.{HasRoom};
-ghost use Rattle.tree_rules.specs.Claim.{CostOver};
+ghost use Rattle.tree_rules.specs.Claim as claims;
 ghost use Rattle.tree_rules.specs.Lean.{MayUndercut};
 ghost use Rattle.turn_laws.specs.Values.{IsPositive};
 ghost use Rattle.node_evaluation.specs.Evaluated.{IsEvaluated, IsWorth, IsProof, IsAtHand};
 ghost use Rattle.tree_rules.specs.Past.{IsPastAt};
+ghost use Rattle.flow_evaluator.specs.Evaluating.{IsFor};
 
 use crate::answers::{bounded, proved, refuted, stopped, unproved};
 use crate::at_hand::{running_units, structure_with};
@@ -22,34 +23,37 @@ use dual_simplex::{Bench, Ends, entry_is_past, names_are_of_program, none_is_ref
 use flow_program::Program;
 use flow_rules::{refutation, relaxed_duality};
 use node_evaluation::{Evaluation, Evaluator, FirstLook, LowerBound, Proof};
-use pgraph::{Graph, Site};
+use pgraph::Site;
 use pns_problem::Problem;
 use std::alloc::{AllocError, Global};
 use std::marker::Model;
 use structure_flows::{allowed_is_decided, node_of};
 use unit_sets::{Node, UnitSet};
 
-/// Values node after node: by a guess that is judged exactly, and where that tells nothing, by the path of the node's program; and where
-/// that stops, by two costs between which the least cost lies.
+/// Values node after node: by a guess that is judged exactly, and where that tells nothing, by the
+/// path of the node's program; and where that stops, by two costs between which the least cost
+/// lies.
 #[derive(Drop)]
 pub struct FlowEvaluator {
     certified: CertifiedBounds,
     bench: Bench,
+    // For how many units and materials there is room.
+    units: usize,
+    materials: usize,
     // Whether the path of the node that was looked at or evaluated last was walked.
     is_walked: bool,
     tries: Tries,
 }
 
 impl Model for FlowEvaluator {
-    ghost use Rattle.std.specs.Prelude.{length};
     ghost use Rattle.dual_simplex.specs.Bench.{HasRoom};
     ghost use Rattle.flow_evaluator.specs.Evaluating as specs;
 
     ghost Value = { specs.Evaluating };
 
-    ghost view = { λ e. record { problem = e.certified; bench = e.bench } };
+    ghost view = { λ e. record { scales = e.certified; bench = e.bench; units = e.units; materials = e.materials } };
 
-    ghost invariant = { λ e. HasRoom e.bench (length e.certified.units) (length e.certified.materials) };
+    ghost invariant = { λ e. HasRoom e.bench e.units e.materials };
 }
 
 /// Walks the path of the node's program, and tells what its end gives.
@@ -77,8 +81,8 @@ fn evaluate_on(
     }
 }
 
-/// Walks the path of the program of a node that has relaxed flows, and tells what proves that none cost less than what the node is
-/// worth.
+/// Walks the path of the program of a node that has relaxed flows, and tells what proves that none
+/// cost less than what the node is worth.
 fn prove_on(
     alloc: Global,
     site: &Site<'_>,
@@ -90,7 +94,7 @@ fn prove_on(
     requires some { MayUndercut site.now None (node_of node.now) }
     ensures units { bench.new.rows.most_units ≡ bench.old.rows.most_units }
     ensures rows { bench.new.rows.most_rows ≡ bench.old.rows.most_rows }
-    ensures proved { (cost : CostOver) → IsPositive cost → IsWorth site.now (node_of node.now) cost → IfOk result (IsProof IsPastAt site.now (node_of node.now) cost) }
+    ensures proved { (cost : claims.CostOver) → IsPositive cost → IsWorth site.now (node_of node.now) cost → IfOk result (IsProof IsPastAt site.now (node_of node.now) cost) }
 {
     entry_is_past();
     names_are_of_program();
@@ -105,41 +109,36 @@ fn prove_on(
 }
 
 impl FlowEvaluator {
-    /// An evaluator of the nodes of the problem. `Err` comes for want of memory alone.
-    pub fn open(alloc: Global, problem: &Problem) -> Result<FlowEvaluator, AllocError>
-        ensures { IfOk result (λ e. e.problem ≡ problem.now) }
+    /// An evaluator of the nodes of the problem. `Err` comes when memory is refused.
+    pub fn open(alloc: Global, site: &Site<'_>) -> Result<FlowEvaluator, AllocError>
+        ensures { IfOk result (IsFor site.now) }
     {
+        let problem = site.problem();
         problem.is_valid();
-        let certified = CertifiedBounds::open(alloc, problem)?;
-        let units = problem.units().len() as u32;
-        let rows = problem.materials().len() as u32;
-        let bench = Bench::open(alloc, units, rows)?;
+        let (units, materials) = (problem.units().len(), problem.materials().len());
+        let certified = CertifiedBounds::open(alloc, site)?;
+        let bench = Bench::open(alloc, units as u32, materials as u32)?;
         Ok(FlowEvaluator {
             certified,
             bench,
+            units,
+            materials,
             is_walked: false,
             tries: Tries::none(),
         })
     }
 
-    /// Makes it ready for the nodes of the problem, where it was for those of another one.
-    fn make_ready(&mut self, alloc: Global, site: &Site<'_>) -> Result<(), AllocError>
-        ensures { OnOk result (self.new.problem ≡ site.now) }
+    /// Whether there is room for the nodes of the problem.
+    fn has_room_for(&self, problem: &Problem) -> bool
+        ensures units { IsTrue result → self.now.units ≡ length problem.now.units }
+        ensures materials { IsTrue result → self.now.materials ≡ length problem.now.materials }
     {
-        let problem = site.problem();
-        if self.certified.is_for(problem) {
-            return Ok(());
-        }
-        self.tries = Tries::none();
-        if self.certified.has_room_for(problem) {
-            return self.certified.go_over(alloc, site);
-        }
-        *self = FlowEvaluator::open(alloc, problem)?;
-        Ok(())
+        self.units == problem.units().len() && self.materials == problem.materials().len()
     }
 
-    /// The structure of the node's family whose flows are to be tried: one whose free units owe nothing, so that its flows cost what the
-    /// node is worth; and until a network was told, and then at one node in 32, any.
+    /// The structure of the node's family whose flows are to be tried: one whose free units owe
+    /// nothing, so that its flows cost what the node is worth; and until a network was told, and
+    /// then at one node in 32, any.
     fn structure_to_try(&self, site: &Site<'_>, node: &Node) -> Option<UnitSet>
         requires sound { IsSound (shape_of site.now) (node_of node.now) }
         ensures { IfSome result (λ s. InFamily (shape_of site.now) (has node.now.inside) (has node.now.outside) (has s)) }
@@ -165,9 +164,10 @@ impl FlowEvaluator {
         node: &Node,
         set: UnitSet,
     ) -> Result<Option<Network>, AllocError>
-        requires own { self.old.problem ≡ site.now }
+        requires own { IsFor site.now self.old }
         requires family { InFamily (shape_of site.now) (has node.now.inside) (has node.now.outside) (has set) }
-        ensures { IfOk result (λ found. IfSome found (IsAtHand site.now (node_of node.now))) }
+        ensures at_hand { IfOk result (λ found. IfSome found (IsAtHand site.now (node_of node.now))) }
+        ensures own { IsFor site.now self.new }
     {
         allowed_is_decided();
         let decided = node_of(site.problem(), set);
@@ -183,13 +183,6 @@ impl FlowEvaluator {
         }
     }
 
-    /// There is room for the program of each node of the problem. A call tells a proof so, and does nothing.
-    fn has_room(&self)
-        ensures { HasRoom self.now.bench (length self.now.problem.units) (length self.now.problem.materials) }
-    {
-        let _is_walked = self.is_walked;
-    }
-
     /// What is told of the node without its path, if anything.
     fn certify(
         &mut self,
@@ -198,7 +191,7 @@ impl FlowEvaluator {
         node: Node,
         decided: bool,
     ) -> Result<Option<Evaluation>, AllocError>
-        requires own { self.old.problem ≡ site.now }
+        requires own { IsFor site.now self.old }
         requires sound { IsSound (shape_of site.now) (node_of node) }
         requires split { decided ≡ true → IsDecided (shape_of site.now) (node_of node) }
         ensures same { self.new ≡ self.old }
@@ -209,7 +202,8 @@ impl FlowEvaluator {
         Ok(evaluation_of(told))
     }
 
-    /// What is told of the node without its path and without a guess, at the basis that was noted at its first look, if anything.
+    /// What is told of the node without its path and without a guess, at the basis that was noted
+    /// at its first look, if anything.
     fn certify_noted(
         &mut self,
         alloc: Global,
@@ -217,7 +211,7 @@ impl FlowEvaluator {
         node: Node,
         bound: &LowerBound,
     ) -> Result<Option<Evaluation>, AllocError>
-        requires own { self.old.problem ≡ site.now }
+        requires own { IsFor site.now self.old }
         requires sound { IsSound (shape_of site.now) (node_of node) }
         ensures same { self.new ≡ self.old }
         ensures evaluated { IfOk result (λ found. IfSome found (IsEvaluated IsPastAt site.now (node_of node) false)) }
@@ -227,8 +221,8 @@ impl FlowEvaluator {
         Ok(evaluation_of(told))
     }
 
-    /// What the path of a node tells; where it stops and not all is decided, two costs between which the least cost lies, if they are
-    /// found.
+    /// What the path of a node tells; where it stops and not all is decided, two costs between
+    /// which the least cost lies, if they are found.
     fn with_between(
         &mut self,
         alloc: Global,
@@ -237,10 +231,11 @@ impl FlowEvaluator {
         decided: bool,
         told: Evaluation,
     ) -> Result<Evaluation, AllocError>
-        requires own { self.old.problem ≡ site.now }
+        requires own { IsFor site.now self.old }
         requires sound { IsSound (shape_of site.now) (node_of node) }
         requires told { IsEvaluated IsPastAt site.now (node_of node) decided told }
-        ensures { IfOk result (IsEvaluated IsPastAt site.now (node_of node) decided) }
+        ensures evaluated { IfOk result (IsEvaluated IsPastAt site.now (node_of node) decided) }
+        ensures own { IsFor site.now self.new }
     {
         if decided {
             return Ok(told);
@@ -268,16 +263,16 @@ impl FlowEvaluator {
         node: &Node,
         decided: bool,
     ) -> Result<Evaluation, AllocError>
-        requires own { self.old.problem ≡ site.now }
+        requires own { IsFor site.now self.old }
         requires sound { IsSound (shape_of site.now) (node_of node.now) }
         requires split { decided ≡ true → IsDecided (shape_of site.now) (node_of node.now) }
-        ensures { IfOk result (IsEvaluated IsPastAt site.now (node_of node.now) decided) }
+        ensures evaluated { IfOk result (IsEvaluated IsPastAt site.now (node_of node.now) decided) }
+        ensures own { IsFor site.now self.new }
     {
         if let Some(evaluation) = self.certify(alloc, site, *node, decided)? {
             self.tries.keep(&evaluation, decided);
             return Ok(evaluation);
         }
-        self.has_room();
         self.is_walked = true;
         let told = evaluate_on(alloc, site, node, decided, &mut self.bench)?;
         let evaluation = self.with_between(alloc, site, *node, decided, told)?;
@@ -288,20 +283,29 @@ impl FlowEvaluator {
 
 impl Evaluator for FlowEvaluator {
     ghost use Rattle.tree_rules.specs.Past.{IsPastAt};
+    ghost use Rattle.flow_evaluator.specs.Evaluating.{IsFor};
 
     ghost past = { IsPastAt };
+
+    ghost values = { IsFor };
+
+    fn rebind(&mut self, alloc: Global, site: &Site<'_>) -> Result<(), AllocError> {
+        if !self.has_room_for(site.problem()) {
+            *self = FlowEvaluator::open(alloc, site)?;
+            return Ok(());
+        }
+        self.tries = Tries::none();
+        self.certified.rebind(alloc, site)
+    }
 
     fn look_first(
         &mut self,
         alloc: Global,
-        problem: &Problem,
-        graph: &Graph,
+        site: &Site<'_>,
         node: Node,
     ) -> Result<FirstLook, AllocError> {
-        let site = Site::of(problem, graph);
-        self.make_ready(alloc, &site)?;
         self.is_walked = false;
-        let told = self.certified.look_first(alloc, &site, node)?;
+        let told = self.certified.look_first(alloc, site, node)?;
         let first = first_look_of(told);
         self.tries.keep_first(&first);
         Ok(first)
@@ -310,69 +314,56 @@ impl Evaluator for FlowEvaluator {
     fn settle(
         &mut self,
         alloc: Global,
-        problem: &Problem,
-        graph: &Graph,
+        site: &Site<'_>,
         node: Node,
         bound: &LowerBound,
     ) -> Result<Evaluation, AllocError> {
-        let site = Site::of(problem, graph);
-        self.make_ready(alloc, &site)?;
-        match self.certify_noted(alloc, &site, node, bound)? {
+        match self.certify_noted(alloc, site, node, bound)? {
             Some(evaluation) => {
                 self.tries.keep(&evaluation, false);
                 Ok(evaluation)
             }
-            None => self.valued(alloc, &site, &node, false),
+            None => self.valued(alloc, site, &node, false),
         }
     }
 
     fn evaluate(
         &mut self,
         alloc: Global,
-        problem: &Problem,
-        graph: &Graph,
+        site: &Site<'_>,
         node: Node,
         decided: bool,
     ) -> Result<Evaluation, AllocError> {
-        let site = Site::of(problem, graph);
-        self.make_ready(alloc, &site)?;
-        self.valued(alloc, &site, &node, decided)
+        self.valued(alloc, site, &node, decided)
     }
 
     fn prove(
         &mut self,
         alloc: Global,
-        problem: &Problem,
-        graph: &Graph,
+        site: &Site<'_>,
         node: Node,
-        cost: i128,
-        d: i128,
+        network: &Network,
     ) -> Result<Proof, AllocError> {
-        let site = Site::of(problem, graph);
-        self.make_ready(alloc, &site)?;
-        if let Some(scaled) = self.certified.prove(alloc, &site, node, cost, d)? {
+        network.is_sized();
+        if let Some(scaled) = self.certified.prove(alloc, site, node, network)? {
             return Ok(Proof::Scaled(scaled));
         }
-        self.has_room();
-        prove_on(alloc, &site, &node, &mut self.bench)
+        prove_on(alloc, site, &node, &mut self.bench)
     }
 
     fn network_at_hand(
         &mut self,
         alloc: Global,
-        problem: &Problem,
-        graph: &Graph,
+        site: &Site<'_>,
         node: Node,
     ) -> Result<Option<Network>, AllocError> {
-        let site = Site::of(problem, graph);
         if !self.tries.is_due() {
             return Ok(None);
         }
-        let Some(set) = self.structure_to_try(&site, &node) else {
+        let Some(set) = self.structure_to_try(site, &node) else {
             return Ok(None);
         };
-        self.make_ready(alloc, &site)?;
-        self.network_of(alloc, &site, &node, set)
+        self.network_of(alloc, site, &node, set)
     }
 
     fn sizes(&self) -> &[i64] {

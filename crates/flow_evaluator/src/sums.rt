@@ -1,4 +1,4 @@
-//! The sums over what a bench keeps, each with the place at which it leaves the range.
+//! The sums over what a bench keeps, each with the place at which it overflows.
 ghost use Rattle.std.specs.Prelude.{◌≡◌, pos, true, IfOk, IfErr, OnOk};
 ghost use Rattle.number_sets.specs.Sets.{has};
 ghost use Rattle.integer_laws.specs.Range.{InRange};
@@ -65,7 +65,8 @@ pub(crate) fn form_refutation(site: &Site<'_>, node: &Node, bench: &Bench) -> Re
     }
 }
 
-/// After `read_flows`, where all is decided: the cost of the flows. All numbers by which they are judged are formed, too.
+/// After `read_flows`, where all is decided: the cost of the flows. All numbers by which they are
+/// judged are formed, too.
 pub(crate) fn cost_of_flows(site: &Site<'_>, node: &Node, bench: &Bench) -> Result<i128, Place>
     requires sound { IsSound (shape_of site.now) (node_of node.now) }
     requires decided { IsDecided (shape_of site.now) (node_of node.now) }

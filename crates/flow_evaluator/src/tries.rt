@@ -2,8 +2,9 @@
 use mixed_numbers::Mixed;
 use node_evaluation::{Evaluation, FirstLook};
 
-/// What was told so far: what the node is worth that was looked at last, or what it costs at least, the least cost of a network, and how
-/// many structures were tried in vain since a network was told.
+/// What was told so far: what the node is worth that was looked at last, or what it costs at least,
+/// the least cost of a network, and how many structures were tried in vain since a network was
+/// told.
 #[derive(Clone, Copy)]
 pub(crate) struct Tries {
     value: Mixed,
@@ -61,7 +62,8 @@ impl Tries {
         self.passed = 0;
     }
 
-    /// After a structure was tried in vain, as many leaves are passed over as were tried in vain one after the other.
+    /// After a structure was tried in vain, as many leaves are passed over as were tried in vain
+    /// one after the other.
     pub(crate) fn keep_vain(&mut self) {
         self.vain = self.vain.saturating_add(1);
         self.passed = self.vain;
@@ -84,8 +86,8 @@ impl Tries {
         }
     }
 
-    /// Whether a structure of the node that was looked at last is to be tried: its network may be the cheapest that was told, and the
-    /// leaf is not passed over.
+    /// Whether a structure of the node that was looked at last is to be tried: its network may be
+    /// the cheapest that was told, and the leaf is not passed over.
     pub(crate) fn is_due(&mut self) -> bool {
         if !self.is_cheaper(self.value) {
             return false;

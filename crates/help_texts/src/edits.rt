@@ -13,7 +13,7 @@ Applies a script of edits to a plant. FILE stays as it is.
   FILE    the plant, PNS_problem_v1
   SCRIPT  an edit script, PNS_edits_v1
 Prints the plant after the edits, in canonical form: defaults are written out,
-measurement units are not kept.
+measurement units and remarks are not kept.
 Ends with
   0   The text is out, whole.
   11  script line L KIND: line L of SCRIPT has a fault; pns help KIND explains
@@ -34,7 +34,7 @@ pub fn undo_page() -> &'static [u8]
 Writes the script that leads from the edited plant back to FILE.
   FILE    the plant, PNS_problem_v1
   SCRIPT  an edit script, PNS_edits_v1
-Prints an edit script.
+Prints an edit script, without remarks.
 Ends with
   0   The text is out, whole.
   11  script line L KIND: line L of SCRIPT has a fault; pns help KIND explains
@@ -57,7 +57,7 @@ Writes the script that turns the yearly costs of the units into investments over
 a payout period. Least networks stay the same.
   FILE   the plant, PNS_problem_v1
   YEARS  the payout period, 1 to 100
-Prints an edit script; pns edit FILE SCRIPT applies it.
+Prints an edit script, without remarks; pns edit FILE SCRIPT applies it.
 Ends with
   0   The text is out, whole.
   16  has payout: FILE has a payout period or an investment already. out of

@@ -44,6 +44,7 @@ of OUTSIDE. With TREE it looks only for networks cheaper than TREE's.
   BUDGET   the most nodes, 1 to 1000000; 10k is 10000; 1M where it is left out
   TREE     a tree text, as solve prints it
 Prints a part text for pns merge.
+Standard error shows how far it is, unless PNS_QUIET is set.
 Ends with
   0   The text is out, whole.
   1   refused claim WHY, with TREE only: its network fails on this plant.

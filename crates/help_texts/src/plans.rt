@@ -13,8 +13,8 @@ Writes the plant of a plan of several periods as one ordinary plant, which solve
 and check read.
   FILE  the plant, PNS_problem_v1
   PLAN  a plan text, PNS_plan_v1
-Prints a plant, PNS_problem_v1. Unit b0 builds the first unit, u0.1 runs it in
-period 1, and so on.
+Prints a plant, PNS_problem_v1, without remarks. Unit b0 builds the first unit,
+u0.1 runs it in period 1, and so on.
 Ends with
   0   The text is out, whole.
   19  plan line L KIND: line L of PLAN has a fault. Mend the line.
@@ -37,6 +37,7 @@ Finds the units to build once and to run in several periods, at least cost.
   BUDGET  the most nodes, 1 to 1000000; 10k is 10000; 1M where it is left out
 Prints built NAMES, capacities D C C, cost N (N / D / G / 10^18), and for each
 period its units and sizes (X / D / 10^6); or infeasible.
+Standard error shows how far it is, unless PNS_QUIET is set.
 Ends with
   0   The text is out, whole.
   4   a tree text of the expanded plant: a number on the way left the range of

@@ -16,6 +16,7 @@ tree that proves it.
   BUDGET  the most nodes, 1 to 1000000; 10k is 10000; 1M where it is left out
 Prints a rank text: count N, networks K, three lines for each network from the
 cheapest on, then the tree. K is less than N only where there are no more.
+Standard error shows how far it is, unless PNS_QUIET is set.
 Ends with
   0   The text is out, whole.
   4   a rank text that ends with past, nonbasic and place lines: a number on the

@@ -137,6 +137,7 @@ least cost.
   BUDGET  the most nodes, 1 to 1000000; 10k is 10000; 1M where it is left out
 Prints from V, then below and a network that is cheaper under V, or below limit;
 to V, then above in the same way. V is in millionths.
+Standard error shows how far it is, unless PNS_QUIET is set.
 Ends with
   0   The text is out, whole.
   1   refused claim WHY: the claim has no network (unknown), or its network
@@ -146,8 +147,7 @@ Ends with
   4   at V, then a tree text or a place line: a number on the way left the range
       of 128 bits; the plant need not be wrong. Write rates and costs with fewer
       digits, or bounds and capacities nearer to what can come, and call again.
-  5   at V, then a tree text: BUDGET was reached. At this value the search did
-      not end. Call again with a greater BUDGET.
+  5   at V, then a tree text: BUDGET was reached. Call with a greater BUDGET.
   10  tree line L KIND: line L of TREE has a fault; pns help KIND explains it.
       Have the text printed anew.
   13  not best, then a cheaper network: solve anew.

@@ -15,6 +15,7 @@ Keep the text: check, report, graph, table and stable read it.
   BUDGET  the most nodes, 1 to 1000000; 10k is 10000; 1M where it is left out
 Prints a tree text. Lines 2 to 4 are the network; sizes and cost as in pns help
 flows. Or infeasible: no allowed network meets the bounds.
+Standard error shows how far it is, unless PNS_QUIET is set.
 Ends with
   0   The text is out, whole.
   4   a tree text that ends with past, nonbasic and place lines: a number on the
@@ -42,6 +43,7 @@ solve and pns report in one. No tree is kept; for a proof to keep take solve.
   BUDGET  the most nodes, 1 to 1000000; 10k is 10000; 1M where it is left out
 Prints what pns report prints of the tree of pns solve: a line that begins with
 PROVED or NOT FINISHED, and then the network in tables, if there is one.
+Standard error shows how far it is, unless PNS_QUIET is set.
 Ends with
   0   PROVED: no network costs less, or no network meets the bounds.
   4   NOT FINISHED: a number on the way left the range of 128 bits; the plant
@@ -67,6 +69,7 @@ Makes the plant of pns make NUMBER UNITS, solves it and sums up.
   BUDGET  the most nodes, 1 to 1000000; 10k is 10000; 1M where it is left out
 Prints units, maximal (units of the maximal structure), network NAMES, cost N D
 (N / D / 10^18), nodes.
+Standard error shows how far it is, unless PNS_QUIET is set.
 Ends with
   0   The text is out, whole.
   4   a tree text that ends with past, nonbasic and place lines: a number on the

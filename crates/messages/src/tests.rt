@@ -90,6 +90,8 @@ fn words_without_a_form(rt: HostRuntime) -> Result<(), Fail> {
 #[test]
 fn faults_of_texts(rt: HostRuntime) -> Result<(), Fail> {
     let plant: &[u8] = b"file_type=PNS_problem_v1\nmaterials:\nhot water: raw_material\n";
+    let remarked: &[u8] = b"file_type=PNS_problem_v1\n# a remark\nmaterials:\n  # A\nhot water\n";
+    let untyped: &[u8] = b"# a plant\nfile_type=PNS_problem_v1\n";
     let tree: &[u8] = b"file_type=PNS_tree_v1\nclaim network\nnetwork U\xff\n";
     let cases = [
         (
@@ -98,6 +100,20 @@ fn faults_of_texts(rt: HostRuntime) -> Result<(), Fail> {
             "BadName",
             Format::Plant,
             "  line 3: hot water: raw_material\n  BadName: what stands for a name is none.",
+        ),
+        (
+            remarked,
+            5,
+            "BadName",
+            Format::Plant,
+            "  line 5: hot water\n  BadName: what stands for a name is none.",
+        ),
+        (
+            untyped,
+            1,
+            "FileType",
+            Format::Plant,
+            "  line 1: # a plant\n  FileType: line 1 is not the one that tells the format.",
         ),
         (
             tree,

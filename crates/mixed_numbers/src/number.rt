@@ -50,6 +50,14 @@ impl Mixed {
         }
     }
 
+    /// The whole part: the greatest whole number that is no more.
+    pub fn floor(&self) -> i128
+        ensures low { (result *ℤ denominator self.now) ≤ℤ numerator self.now }
+        ensures high { numerator self.now <ℤ (result *ℤ denominator self.now +ℤ denominator self.now) }
+    {
+        self.whole
+    }
+
     /// `base` and `factor` times num / den, where den is at least 1 and `factor` at least 0. None where the whole part, or a product
     /// for it, is out of range.
     pub fn of_sum(base: i128, factor: i128, num: i128, den: i128) -> Option<Mixed>

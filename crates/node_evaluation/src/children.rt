@@ -5,7 +5,6 @@ ghost use Rattle.number_sets.specs.Options.{IsIn};
 ghost use Rattle.pns_rules.specs.Ends.{IsSound, IsReduced};
 ghost use Rattle.tree_rules.specs.Ways.{options_at};
 ghost use Rattle.branch_choice.specs.Choices.{IsChoice, way_of};
-ghost use Rattle.pgraph.specs.Tables.{shape};
 ghost use Rattle.pgraph.specs.View.{node_of};
 ghost use Rattle.tree_rules.specs.Costs.{IsNoMore, HasFallen};
 ghost use Rattle.search_tree.specs.Cells.{place_of};
@@ -19,11 +18,10 @@ use crate::costs::is_no_more;
 use crate::evaluator::{Evaluator, PastStop};
 use crate::looks::{Looked, Ready, look, nothing, open_cell};
 use crate::options::{child_of, options_of};
+use crate::workspace::Workspace;
 use branch_choice::Choice;
 use branch_tree::{Network, Steps};
-use neutral_extension::Makers;
-use pgraph::Graph;
-use pns_problem::Problem;
+use pgraph::Site;
 use search_tree::Fresh;
 use std::alloc::{AllocError, Global};
 use unit_sets::{Node, UnitSet};
@@ -35,9 +33,9 @@ pub struct StoppedAt {
     pub stop: PastStop,
 }
 
-/// The children of a node in the order of their options, with what is at hand for each; the cheapest network that was found among
-/// them; the network that was found at each, where all are asked for; and the first child that stops the search. Those behind it are
-/// not looked at.
+/// The children of a node in the order of their options, with what is at hand for each; the
+/// cheapest network that was found among them; the network that was found at each, where all are
+/// asked for; and the first child that stops the search. Those behind it are not looked at.
 #[derive(Drop)]
 pub struct Children {
     pub nodes: Vec<Fresh>,
@@ -154,27 +152,25 @@ fn with_child(
 
 /// Looks at a child, or leaves it open where another stops the search.
 fn look_or_wait<E: Evaluator>(
-    alloc: Global,
-    evaluator: &mut E,
-    problem: &Problem,
-    graph: &Graph,
-    makers: &mut Makers,
+    workspace: &mut Workspace<E>,
+    site: &Site<'_>,
     option: UnitSet,
     start: Node,
     stopped: bool,
 ) -> Result<Looked, AllocError>
-    requires graph { shape graph.now ≡ shape_of problem.now }
-    requires same { AreMakersOf (shape graph.now) makers.old.makers }
-    requires sound { IsSound (shape_of problem.now) (node_of start) }
-    requires option { AreUnits problem.now option }
-    ensures child { IfOk result (IsChild E.past problem.now (node_of start) option stopped) }
-    ensures makers { makers.new.makers ≡ makers.old.makers }
+    requires own { E.values site.now workspace.old.evaluator }
+    requires makers { AreMakersOf (shape_of site.now) workspace.old.makers.makers }
+    requires sound { IsSound (shape_of site.now) (node_of start) }
+    requires option { AreUnits site.now option }
+    ensures child { IfOk result (IsChild E.past site.now (node_of start) option stopped) }
+    ensures own { E.values site.now workspace.new.evaluator }
+    ensures makers { workspace.new.makers.makers ≡ workspace.old.makers.makers }
 {
     if !stopped {
-        return look(alloc, evaluator, problem, graph, makers, option, start);
+        return look(workspace, site, option, start);
     }
     Ok(Looked {
-        cell: open_cell(option, Steps::from_vec(Vec::new(alloc)), start),
+        cell: open_cell(option, Steps::from_vec(Vec::new(workspace.alloc)), start),
         value: nothing(),
         ready: None,
         network: None,
@@ -194,87 +190,84 @@ fn with_best(children: Children, at_hand: Option<Network>) -> Children
     children
 }
 
-/// The network at hand at a child, where it is a leaf that stays open. None is asked for where the networks of all leaves are.
+/// The network at hand at a child, where it is a leaf that stays open. None is asked for where the
+/// networks of all leaves are.
 fn network_at_hand<E: Evaluator>(
-    alloc: Global,
-    evaluator: &mut E,
-    problem: &Problem,
-    graph: &Graph,
+    workspace: &mut Workspace<E>,
+    site: &Site<'_>,
     looked: &Looked,
     all: bool,
 ) -> Result<Option<Network>, AllocError>
-    requires graph { shape graph.now ≡ shape_of problem.now }
-    requires sound { IsSound (shape_of problem.now) (place_of looked.now.cell) }
-    ensures { IfOk result (λ found. IfSome found (IsAtHand problem.now (place_of looked.now.cell))) }
+    requires own { E.values site.now workspace.old.evaluator }
+    requires sound { IsSound (shape_of site.now) (place_of looked.now.cell) }
+    ensures at_hand { IfOk result (λ found. IfSome found (IsAtHand site.now (place_of looked.now.cell))) }
+    ensures own { E.values site.now workspace.new.evaluator }
+    ensures makers { workspace.new.makers ≡ workspace.old.makers }
 {
     if all || looked.ready.is_none() {
         return Ok(None);
     }
-    evaluator.network_at_hand(alloc, problem, graph, looked.cell.node)
+    workspace
+        .evaluator
+        .network_at_hand(workspace.alloc, site, looked.cell.node)
 }
 
 /// Looks at the child of one option more.
 fn look_at_child<E: Evaluator>(
-    alloc: Global,
-    evaluator: &mut E,
-    problem: &Problem,
-    graph: &Graph,
-    makers: &mut Makers,
+    workspace: &mut Workspace<E>,
+    site: &Site<'_>,
     node: &Node,
     choice: Choice,
     option: UnitSet,
     children: Children,
     all: bool,
 ) -> Result<Children, AllocError>
-    requires graph { shape graph.now ≡ shape_of problem.now }
-    requires same { AreMakersOf (shape graph.now) makers.old.makers }
-    requires sound { IsSound (shape_of problem.now) (node_of node.now) }
-    requires reduced { IsReduced (shape_of problem.now) (node_of node.now) }
-    requires choice { IsChoice (shape_of problem.now) (node_of node.now) choice }
-    requires option { IsIn option (options_at (shape_of problem.now) (node_of node.now) (way_of choice)) }
-    requires looked { AreLooked E.past problem.now (node_of node.now) (way_of choice) children }
-    requires solved { all ≡ true → AreSolvedBy problem.now (cells_of children.nodes.items) children.networks.items }
-    ensures looked { IfOk result (AreLooked E.past problem.now (node_of node.now) (way_of choice)) }
-    ensures solved { IfOk result (λ c. all ≡ true → AreSolvedBy problem.now (cells_of c.nodes.items) c.networks.items) }
+    requires own { E.values site.now workspace.old.evaluator }
+    requires makers { AreMakersOf (shape_of site.now) workspace.old.makers.makers }
+    requires sound { IsSound (shape_of site.now) (node_of node.now) }
+    requires reduced { IsReduced (shape_of site.now) (node_of node.now) }
+    requires choice { IsChoice (shape_of site.now) (node_of node.now) choice }
+    requires option { IsIn option (options_at (shape_of site.now) (node_of node.now) (way_of choice)) }
+    requires looked { AreLooked E.past site.now (node_of node.now) (way_of choice) children }
+    requires solved { all ≡ true → AreSolvedBy site.now (cells_of children.nodes.items) children.networks.items }
+    ensures looked { IfOk result (AreLooked E.past site.now (node_of node.now) (way_of choice)) }
+    ensures solved { IfOk result (λ c. all ≡ true → AreSolvedBy site.now (cells_of c.nodes.items) c.networks.items) }
     ensures options { IfOk result (λ c. options_in c ≡ options_in children ++ option ∷ []) }
-    ensures makers { makers.new.makers ≡ makers.old.makers }
+    ensures own { E.values site.now workspace.new.evaluator }
+    ensures makers { workspace.new.makers.makers ≡ workspace.old.makers.makers }
 {
-    problem.is_valid();
-    graph.is_proper();
+    site.problem();
+    let graph = site.graph();
     let start = child_of(graph, node, choice, option);
     let stopped = children.stop.is_some();
-    let looked = look_or_wait(
-        alloc, evaluator, problem, graph, makers, option, start, stopped,
-    )?;
-    let at_hand = network_at_hand(alloc, evaluator, problem, graph, &looked, all)?;
-    let more = with_child(alloc, children, looked, all)?;
+    let looked = look_or_wait(workspace, site, option, start, stopped)?;
+    let at_hand = network_at_hand(workspace, site, &looked, all)?;
+    let more = with_child(workspace.alloc, children, looked, all)?;
     Ok(with_best(more, at_hand))
 }
 
 /// Looks at all children of a node that a choice gives, in the order of their options, and copies
-/// each network where `all` are asked for. The makers are those of the graph, whichever units are
-/// taken out of them, and stay so. `Err` comes for want of memory alone.
+/// each network where `all` are asked for. `Err` comes when memory is refused.
 pub fn look_at_children<E: Evaluator>(
-    alloc: Global,
-    evaluator: &mut E,
-    problem: &Problem,
-    graph: &Graph,
-    makers: &mut Makers,
+    workspace: &mut Workspace<E>,
+    site: &Site<'_>,
     node: Node,
     choice: Choice,
     all: bool,
 ) -> Result<Children, AllocError>
-    requires graph { shape graph.now ≡ shape_of problem.now }
-    requires same { AreMakersOf (shape graph.now) makers.old.makers }
-    requires sound { IsSound (shape_of problem.now) (node_of node) }
-    requires reduced { IsReduced (shape_of problem.now) (node_of node) }
-    requires choice { IsChoice (shape_of problem.now) (node_of node) choice }
-    ensures seen { IfOk result (AreSeen E.past problem.now (node_of node) (way_of choice)) }
-    ensures solved { IfOk result (λ c. all ≡ true → AreSolvedBy problem.now (cells_of c.nodes.items) c.networks.items) }
-    ensures makers { makers.new.makers ≡ makers.old.makers }
+    requires own { E.values site.now workspace.old.evaluator }
+    requires makers { AreMakersOf (shape_of site.now) workspace.old.makers.makers }
+    requires sound { IsSound (shape_of site.now) (node_of node) }
+    requires reduced { IsReduced (shape_of site.now) (node_of node) }
+    requires choice { IsChoice (shape_of site.now) (node_of node) choice }
+    ensures seen { IfOk result (AreSeen E.past site.now (node_of node) (way_of choice)) }
+    ensures solved { IfOk result (λ c. all ≡ true → AreSolvedBy site.now (cells_of c.nodes.items) c.networks.items) }
+    ensures own { E.values site.now workspace.new.evaluator }
+    ensures makers { workspace.new.makers.makers ≡ workspace.old.makers.makers }
 {
-    problem.is_valid();
-    graph.is_proper();
+    site.problem();
+    let graph = site.graph();
+    let alloc = workspace.alloc;
     let options = options_of(alloc, graph, &node, choice)?;
     let mut children = Children {
         nodes: Vec::new(alloc),
@@ -284,9 +277,7 @@ pub fn look_at_children<E: Evaluator>(
         stop: None,
     };
     'options: for option in &options {
-        children = look_at_child(
-            alloc, evaluator, problem, graph, makers, &node, choice, *option, children, all,
-        )?;
+        children = look_at_child(workspace, site, &node, choice, *option, children, all)?;
     }
     Ok(children)
 }

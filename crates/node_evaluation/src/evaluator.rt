@@ -1,27 +1,27 @@
 //! How a search comes to know the value of a node.
-ghost use Rattle.std.specs.Prelude.{◌≡◌, pos, ◌≤ℤ◌, true, false, IfOk, IfSome};
+ghost use Rattle.std.specs.Prelude.{◌≡◌, true, false, IfOk, IfSome, OnOk};
 ghost use Rattle.pns_rules.specs.Shape.{shape_of};
 ghost use Rattle.pns_rules.specs.Ends.{IsSound, IsReduced, IsDecided};
-ghost use Rattle.pgraph.specs.Tables.{shape};
+ghost use Rattle.problem_rules.specs.Problem.{Problem};
 ghost use Rattle.pgraph.specs.View.{node_of};
-ghost use Rattle.node_evaluation.specs.Evaluated.{PastPlaces, IsFirstLook, IsEvaluated, IsWorth, IsProof, IsAtHand};
+ghost use Rattle.node_evaluation.specs.Evaluated.{PastPlaces, IsFirstLook, IsEvaluated, IsWorth, IsProof, IsAtHand, cost_in};
 
 use branch_tree::{Columns, Multipliers, Network, Scaled};
 use flow_rules::Place;
 use mixed_numbers::Mixed;
-use pgraph::Graph;
-use pns_problem::Problem;
+use pgraph::Site;
 use std::alloc::{AllocError, Global};
 use unit_sets::Node;
 
-/// The columns outside a basis, and the place where a number is past the range.
+/// The columns outside a basis, and the place where a number overflows.
 #[derive(Drop)]
 pub struct PastStop {
     pub nonbasic: Columns,
     pub place: Place,
 }
 
-/// What is known of a node whose least cost is past the range: what some relaxed flows of it cost at most, and where its path stops.
+/// What is known of a node whose least cost overflows: what some relaxed flows of it cost at most,
+/// and where its path stops.
 #[derive(Drop)]
 pub struct Interval {
     pub reached: Mixed,
@@ -33,7 +33,8 @@ pub struct Interval {
 pub struct LowerBound {
     pub low: Mixed,
     pub scaled: Scaled,
-    /// Where to begin when the worth of the node is settled, as the evaluator noted it: nothing rests on it.
+    /// Where to begin when the worth of the node is settled, as the evaluator noted it: nothing
+    /// rests on it.
     pub basis: Vec<u16>,
 }
 
@@ -48,8 +49,8 @@ pub enum FirstLook {
     Nothing,
 }
 
-/// The least cost of relaxed flows, or where an interval stands, a cost that none undercut; and multipliers over their scale, which prove
-/// that no relaxed flows cost less than `low`.
+/// The least cost of relaxed flows, or where an interval stands, a cost that none undercut; and
+/// multipliers over their scale, which prove that no relaxed flows cost less than `low`.
 #[derive(Drop)]
 pub struct Bound {
     pub value: Mixed,
@@ -63,11 +64,12 @@ pub struct Bound {
 pub enum Evaluation {
     /// The node has relaxed flows, and is worth this much.
     Least(Bound),
-    /// All is decided at the node, and the network of its units costs just the value, which `low` reaches.
+    /// All is decided at the node, and the network of its units costs just the value, which `low`
+    /// reaches.
     Flows(Bound, Network),
     /// The node has no relaxed flows.
     Refuted(Multipliers),
-    /// A number is past the range.
+    /// A number overflows.
     Stopped(PastStop),
 }
 
@@ -76,89 +78,98 @@ pub enum Evaluation {
 pub enum Proof {
     /// Multipliers over their scale that prove so.
     Scaled(Scaled),
-    /// A number is past the range.
+    /// A number overflows.
     Stopped(PastStop),
 }
 
-/// Tells what a node is worth.
+/// Tells what the nodes of a problem are worth. `Err` of each call comes when memory is refused,
+/// and only then.
 pub trait Evaluator {
     ghost past: { PastPlaces };
 
-    /// Bounds a node that no step changes any more and at which not all is decided, and does not find what it is worth. `Err` comes for
-    /// want of memory alone.
+    /// It values the nodes of the problem.
+    ghost values: { Problem → Self → Type 0 };
+
+    /// Goes over to the nodes of this problem. After `Err` it values those of no problem.
+    fn rebind(&mut self, alloc: Global, site: &Site<'_>) -> Result<(), AllocError>
+        ensures { OnOk result (values site.now self.new) };
+
+    /// Bounds a node that no step changes any more and at which not all is decided, and does not
+    /// find what it is worth.
     fn look_first(
         &mut self,
         alloc: Global,
-        problem: &Problem,
-        graph: &Graph,
+        site: &Site<'_>,
         node: Node,
     ) -> Result<FirstLook, AllocError>
-        requires graph { shape graph.now ≡ shape_of problem.now }
-        requires sound { IsSound (shape_of problem.now) (node_of node) }
-        requires reduced { IsReduced (shape_of problem.now) (node_of node) }
-        ensures { IfOk result (IsFirstLook problem.now (node_of node)) };
+        requires own { values site.now self.old }
+        requires sound { IsSound (shape_of site.now) (node_of node) }
+        requires reduced { IsReduced (shape_of site.now) (node_of node) }
+        ensures first { IfOk result (IsFirstLook site.now (node_of node)) }
+        ensures own { values site.now self.new };
 
-    /// Evaluates a node that a first look bounded so. `Err` comes for want of memory alone.
+    /// Evaluates a node that a first look bounded so.
     fn settle(
         &mut self,
         alloc: Global,
-        problem: &Problem,
-        graph: &Graph,
+        site: &Site<'_>,
         node: Node,
         bound: &LowerBound,
     ) -> Result<Evaluation, AllocError>
-        requires graph { shape graph.now ≡ shape_of problem.now }
-        requires sound { IsSound (shape_of problem.now) (node_of node) }
-        requires reduced { IsReduced (shape_of problem.now) (node_of node) }
-        ensures { IfOk result (IsEvaluated past problem.now (node_of node) false) };
+        requires own { values site.now self.old }
+        requires sound { IsSound (shape_of site.now) (node_of node) }
+        requires reduced { IsReduced (shape_of site.now) (node_of node) }
+        ensures evaluated { IfOk result (IsEvaluated past site.now (node_of node) false) }
+        ensures own { values site.now self.new };
 
-    /// Evaluates a node that no step changes any more; `decided` tells whether all is decided there.
+    /// Evaluates a node that no step changes any more; `decided` tells whether all is decided
+    /// there.
     fn evaluate(
         &mut self,
         alloc: Global,
-        problem: &Problem,
-        graph: &Graph,
+        site: &Site<'_>,
         node: Node,
         decided: bool,
     ) -> Result<Evaluation, AllocError>
-        requires graph { shape graph.now ≡ shape_of problem.now }
-        requires sound { IsSound (shape_of problem.now) (node_of node) }
-        requires reduced { IsReduced (shape_of problem.now) (node_of node) }
-        requires split { decided ≡ true → IsDecided (shape_of problem.now) (node_of node) }
-        ensures { IfOk result (IsEvaluated past problem.now (node_of node) decided) };
+        requires own { values site.now self.old }
+        requires sound { IsSound (shape_of site.now) (node_of node) }
+        requires reduced { IsReduced (shape_of site.now) (node_of node) }
+        requires split { decided ≡ true → IsDecided (shape_of site.now) (node_of node) }
+        ensures evaluated { IfOk result (IsEvaluated past site.now (node_of node) decided) }
+        ensures own { values site.now self.new };
 
-    /// Proves that no relaxed flows of a node, which no step changes any more and which has some, cost less than `cost` over `d`, in
-    /// 10^-18 of the money unit. `Err` comes for want of memory alone.
+    /// Proves that no relaxed flows of a node, which no step changes any more and which has some,
+    /// cost less than the network.
     fn prove(
         &mut self,
         alloc: Global,
-        problem: &Problem,
-        graph: &Graph,
+        site: &Site<'_>,
         node: Node,
-        cost: i128,
-        d: i128,
+        network: &Network,
     ) -> Result<Proof, AllocError>
-        requires graph { shape graph.now ≡ shape_of problem.now }
-        requires sound { IsSound (shape_of problem.now) (node_of node) }
-        requires reduced { IsReduced (shape_of problem.now) (node_of node) }
-        requires positive { pos 1 ≤ℤ d }
-        requires worth { IsWorth problem.now (node_of node) (record { cost = cost; d = d }) }
-        ensures { IfOk result (IsProof past problem.now (node_of node) (record { cost = cost; d = d })) };
+        requires own { values site.now self.old }
+        requires sound { IsSound (shape_of site.now) (node_of node) }
+        requires reduced { IsReduced (shape_of site.now) (node_of node) }
+        requires worth { IsWorth site.now (node_of node) (cost_in network.now) }
+        ensures proved { IfOk result (IsProof past site.now (node_of node) (cost_in network.now)) }
+        ensures own { values site.now self.new };
 
-    /// A network of the units that are taken in at a node and of others that are not left out there, where one is at hand: it is asked
-    /// for where the node was looked at or evaluated last. `None` says nothing, and `Err` comes for want of memory alone.
+    /// A network of the units that are taken in at a node and of others that are not left out
+    /// there, where one is at hand: it is asked for where the node was looked at or evaluated last.
+    /// `None` says nothing.
     fn network_at_hand(
         &mut self,
         alloc: Global,
-        problem: &Problem,
-        graph: &Graph,
+        site: &Site<'_>,
         node: Node,
     ) -> Result<Option<Network>, AllocError>
-        requires graph { shape graph.now ≡ shape_of problem.now }
-        requires sound { IsSound (shape_of problem.now) (node_of node) }
-        ensures { IfOk result (λ found. IfSome found (IsAtHand problem.now (node_of node))) };
+        requires own { values site.now self.old }
+        requires sound { IsSound (shape_of site.now) (node_of node) }
+        ensures at_hand { IfOk result (λ found. IfSome found (IsAtHand site.now (node_of node))) }
+        ensures own { values site.now self.new };
 
-    /// The size of each unit that is not left out at the node looked at or evaluated last, in rising order and in whole millionths,
-    /// where least flows were found or guessed. A guide for the choice of a branch: nothing rests on it.
+    /// The size of each unit that is not left out at the node looked at or evaluated last, in
+    /// rising order and in whole millionths, where least flows were found or guessed. A guide for
+    /// the choice of a branch: nothing rests on it.
     fn sizes(&self) -> &[i64];
 }

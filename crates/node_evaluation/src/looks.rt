@@ -2,31 +2,31 @@
 ghost use Rattle.std.specs.Prelude.{◌≡◌, true, false, Some, None, IfOk};
 ghost use Rattle.pns_rules.specs.Shape.{shape_of};
 ghost use Rattle.pns_rules.specs.Ends.{IsSound, IsReduced, IsDecided, IsUndecided, IsFirst};
-ghost use Rattle.pgraph.specs.Tables.{shape};
 ghost use Rattle.pgraph.specs.View.{node_of};
+ghost use Rattle.neutral_extension.specs.Candidates.{AreMakersOf};
 ghost use Rattle.tree_rules.specs.Tree.{leaf};
 ghost use Rattle.tree_rules.specs.Leaf.{untried, bounded};
 ghost use Rattle.branch_tree.specs.View.{end_of};
 ghost use Rattle.tree_rules.specs.Known.{AreUnits};
-ghost use Rattle.neutral_extension.specs.Candidates.{AreMakersOf};
 ghost use Rattle.search_tree.specs.Growth.{as_shut};
 ghost use Rattle.node_evaluation.specs.Looks.{IsLooked, IsSameNode, IsSeen, IsSettling};
 
 use crate::evaluator::{Bound, Evaluation, Evaluator, FirstLook, LowerBound, PastStop};
+use crate::workspace::Workspace;
 use branch_choice::{Choice, choose};
 use branch_tree::{End, Multipliers, Network, Steps};
 use mixed_numbers::Mixed;
-use neutral_extension::{Makers, Stop, extend_with};
-use pgraph::Graph;
-use pns_problem::Problem;
+use neutral_extension::{Stop, extend_with};
+use pgraph::Site;
 use search_tree::Cell;
-use std::alloc::{AllocError, Global};
+use std::alloc::AllocError;
 use unit_sets::{Node, UnitSet};
 
 /// What is known of what an open leaf is worth.
 #[derive(Drop)]
 pub enum Worth {
-    /// No relaxed flows cost less. What the node is worth is not settled yet, nor whether it has any.
+    /// No relaxed flows cost less. What the node is worth is not settled yet, nor whether it has
+    /// any.
     AtLeast(LowerBound),
     /// What the node is worth.
     Settled(Bound),
@@ -48,7 +48,7 @@ pub enum Settling {
     Least(Bound),
     /// The node has no relaxed flows.
     Refuted(Multipliers),
-    /// A number is past the range.
+    /// A number overflows.
     Stopped(PastStop),
 }
 
@@ -63,7 +63,7 @@ pub struct Looked {
     pub ready: Option<Ready>,
     /// The network that was found here.
     pub network: Option<Network>,
-    /// Where a number is past the range.
+    /// Where a number overflows.
     pub stop: Option<PastStop>,
 }
 
@@ -123,26 +123,29 @@ fn opened(cell: Cell, value: Mixed, choice: Choice, worth: Worth) -> Looked
 
 /// Evaluates the node of an open cell.
 fn look_closer<E: Evaluator>(
-    alloc: Global,
-    evaluator: &mut E,
-    problem: &Problem,
-    graph: &Graph,
+    workspace: &mut Workspace<E>,
+    site: &Site<'_>,
     cell: Cell,
     material: u32,
     decided: bool,
 ) -> Result<Looked, AllocError>
-    requires graph { shape graph.now ≡ shape_of problem.now }
-    requires sound { IsSound (shape_of problem.now) (node_of cell.node) }
-    requires reduced { IsReduced (shape_of problem.now) (node_of cell.node) }
-    requires split { decided ≡ true → IsDecided (shape_of problem.now) (node_of cell.node) }
-    requires first { decided ≡ false → IsFirst (IsUndecided (shape_of problem.now) (node_of cell.node)) material }
+    requires own { E.values site.now workspace.old.evaluator }
+    requires sound { IsSound (shape_of site.now) (node_of cell.node) }
+    requires reduced { IsReduced (shape_of site.now) (node_of cell.node) }
+    requires split { decided ≡ true → IsDecided (shape_of site.now) (node_of cell.node) }
+    requires first { decided ≡ false → IsFirst (IsUndecided (shape_of site.now) (node_of cell.node)) material }
     requires open { cell.end ≡ leaf untried }
     ensures same { IfOk result (λ l. IsSameNode cell l.cell) }
-    ensures seen { IfOk result (IsSeen E.past problem.now) }
+    ensures seen { IfOk result (IsSeen E.past site.now) }
+    ensures own { E.values site.now workspace.new.evaluator }
+    ensures makers { workspace.new.makers ≡ workspace.old.makers }
 {
-    match evaluator.evaluate(alloc, problem, graph, cell.node, decided)? {
+    match workspace
+        .evaluator
+        .evaluate(workspace.alloc, site, cell.node, decided)?
+    {
         Evaluation::Least(bound) => {
-            let choice = choose(problem, graph, cell.node, material, evaluator.sizes());
+            let choice = choose(site, cell.node, material, workspace.evaluator.sizes());
             let value = bound.value;
             Ok(opened(cell, value, choice, Worth::Settled(bound)))
         }
@@ -164,26 +167,30 @@ fn look_closer<E: Evaluator>(
     }
 }
 
-/// Looks at the node of an open cell at which not all is decided, and evaluates it where the first look tells nothing.
+/// Looks at the node of an open cell at which not all is decided, and evaluates it where the first
+/// look tells nothing.
 fn look_first<E: Evaluator>(
-    alloc: Global,
-    evaluator: &mut E,
-    problem: &Problem,
-    graph: &Graph,
+    workspace: &mut Workspace<E>,
+    site: &Site<'_>,
     cell: Cell,
     material: u32,
 ) -> Result<Looked, AllocError>
-    requires graph { shape graph.now ≡ shape_of problem.now }
-    requires sound { IsSound (shape_of problem.now) (node_of cell.node) }
-    requires reduced { IsReduced (shape_of problem.now) (node_of cell.node) }
-    requires first { IsFirst (IsUndecided (shape_of problem.now) (node_of cell.node)) material }
+    requires own { E.values site.now workspace.old.evaluator }
+    requires sound { IsSound (shape_of site.now) (node_of cell.node) }
+    requires reduced { IsReduced (shape_of site.now) (node_of cell.node) }
+    requires first { IsFirst (IsUndecided (shape_of site.now) (node_of cell.node)) material }
     requires open { cell.end ≡ leaf untried }
     ensures same { IfOk result (λ l. IsSameNode cell l.cell) }
-    ensures seen { IfOk result (IsSeen E.past problem.now) }
+    ensures seen { IfOk result (IsSeen E.past site.now) }
+    ensures own { E.values site.now workspace.new.evaluator }
+    ensures makers { workspace.new.makers ≡ workspace.old.makers }
 {
-    match evaluator.look_first(alloc, problem, graph, cell.node)? {
+    match workspace
+        .evaluator
+        .look_first(workspace.alloc, site, cell.node)?
+    {
         FirstLook::AtLeast(bound) => {
-            let choice = choose(problem, graph, cell.node, material, evaluator.sizes());
+            let choice = choose(site, cell.node, material, workspace.evaluator.sizes());
             let value = bound.low;
             Ok(opened(cell, value, choice, Worth::AtLeast(bound)))
         }
@@ -191,27 +198,29 @@ fn look_first<E: Evaluator>(
             ys.are_in_range();
             Ok(closed(cell, End::Refuted(ys)))
         }
-        FirstLook::Nothing => {
-            look_closer(alloc, evaluator, problem, graph, cell, material, false)
-        }
+        FirstLook::Nothing => look_closer(workspace, site, cell, material, false),
     }
 }
 
-/// What a node is worth that a first look bounded so, or where a number is past the range. `Err` comes for want of memory alone.
+/// What a node is worth that a first look bounded so, or where a number overflows. `Err` comes when
+/// memory is refused.
 pub fn settle<E: Evaluator>(
-    alloc: Global,
-    evaluator: &mut E,
-    problem: &Problem,
-    graph: &Graph,
+    workspace: &mut Workspace<E>,
+    site: &Site<'_>,
     node: Node,
     bound: &LowerBound,
 ) -> Result<Settling, AllocError>
-    requires graph { shape graph.now ≡ shape_of problem.now }
-    requires sound { IsSound (shape_of problem.now) (node_of node) }
-    requires reduced { IsReduced (shape_of problem.now) (node_of node) }
-    ensures { IfOk result (IsSettling E.past problem.now (node_of node)) }
+    requires own { E.values site.now workspace.old.evaluator }
+    requires sound { IsSound (shape_of site.now) (node_of node) }
+    requires reduced { IsReduced (shape_of site.now) (node_of node) }
+    ensures settled { IfOk result (IsSettling E.past site.now (node_of node)) }
+    ensures own { E.values site.now workspace.new.evaluator }
+    ensures makers { workspace.new.makers ≡ workspace.old.makers }
 {
-    match evaluator.settle(alloc, problem, graph, node, bound)? {
+    match workspace
+        .evaluator
+        .settle(workspace.alloc, site, node, bound)?
+    {
         Evaluation::Least(bound) => Ok(Settling::Least(bound)),
         Evaluation::Flows(_, _) => unreachable!(),
         Evaluation::Refuted(ys) => Ok(Settling::Refuted(ys)),
@@ -233,32 +242,31 @@ pub fn open_cell(option: UnitSet, steps: Steps, node: Node) -> Cell
     }
 }
 
-/// Takes the steps that are possible at a node, and tells what they leave. The makers are those of the graph, whichever units are
-/// taken out of them, and stay so. `Err` comes for want of memory alone.
+/// Takes the steps that are possible at a node, and sees what they leave. `Err` comes when memory
+/// is refused.
 pub fn look<E: Evaluator>(
-    alloc: Global,
-    evaluator: &mut E,
-    problem: &Problem,
-    graph: &Graph,
-    makers: &mut Makers,
+    workspace: &mut Workspace<E>,
+    site: &Site<'_>,
     option: UnitSet,
     start: Node,
 ) -> Result<Looked, AllocError>
-    requires graph { shape graph.now ≡ shape_of problem.now }
-    requires same { AreMakersOf (shape graph.now) makers.old.makers }
-    requires sound { IsSound (shape_of problem.now) (node_of start) }
-    requires option { AreUnits problem.now option }
-    ensures looked { IfOk result (IsLooked E.past problem.now (node_of start) option) }
-    ensures makers { makers.new.makers ≡ makers.old.makers }
+    requires own { E.values site.now workspace.old.evaluator }
+    requires makers { AreMakersOf (shape_of site.now) workspace.old.makers.makers }
+    requires sound { IsSound (shape_of site.now) (node_of start) }
+    requires option { AreUnits site.now option }
+    ensures looked { IfOk result (IsLooked E.past site.now (node_of start) option) }
+    ensures own { E.values site.now workspace.new.evaluator }
+    ensures makers { workspace.new.makers.makers ≡ workspace.old.makers.makers }
 {
-    problem.is_valid();
-    makers.lead_to(graph, start.outside);
-    let extended = extend_with(alloc, graph, makers, start)?;
+    site.problem();
+    let graph = site.graph();
+    workspace.makers.lead_to(graph, start.outside);
+    let extended = extend_with(workspace.alloc, graph, &mut workspace.makers, start)?;
     let cell = open_cell(option, Steps::from_vec(extended.steps), extended.node);
     match extended.end {
         Stop::Dead(material) => Ok(closed(cell, End::Dead(material))),
         Stop::Clash(exclusion) => Ok(closed(cell, End::Clash(exclusion))),
-        Stop::Decided => look_closer(alloc, evaluator, problem, graph, cell, 0, true),
-        Stop::Branch(material) => look_first(alloc, evaluator, problem, graph, cell, material),
+        Stop::Decided => look_closer(workspace, site, cell, 0, true),
+        Stop::Branch(material) => look_first(workspace, site, cell, material),
     }
 }

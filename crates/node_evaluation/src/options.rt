@@ -73,7 +73,8 @@ fn decided(graph: &Graph, choice: Choice) -> UnitSet
     }
 }
 
-/// The child of the option: its units are taken in, and the others that the choice decides left out.
+/// The child of the option: its units are taken in, and the others that the choice decides left
+/// out.
 pub(crate) fn child_of(graph: &Graph, node: &Node, choice: Choice, option: UnitSet) -> Node
     requires { IsKnown (shape graph.now) choice }
     ensures { node_of result ≡ child_at (shape graph.now) (node_of node.now) (way_of choice) option }

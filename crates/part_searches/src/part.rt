@@ -15,7 +15,7 @@ ghost use Rattle.studio_rules.specs.Keeps.{Keeps};
 
 use crate::found::say_found;
 use crate::start::start_of;
-use abb_search::{search, search_against};
+use abb_search::search_watched;
 use branch_tree::{Claim, Network, Tree};
 use command_files::{problem_of, tree_of};
 use endings::say::{say_memory, tell};
@@ -24,62 +24,67 @@ use network_commands::network_of;
 use pgraph::{Graph, Site};
 use pns_io::{Outputs, Shelf, Sink};
 use pns_problem::Problem;
+use progress::{Effort, Watch};
 use std::alloc::Global;
 use studio_rules::Status;
 use unit_sets::Node;
 
 // Searches the structures of the node.
-fn say_searched<K: Sink, E: Sink>(
+fn say_searched<K: Sink, E: Sink, W: Watch>(
     alloc: Global,
     out: &mut Outputs<K, E>,
     problem: &Problem,
     graph: &Graph,
     start: &Node,
-    budget: u64,
+    effort: Effort<W>,
 ) -> Status
     requires graph { shape graph.now ≡ shape_of problem.now }
     requires sound { IsSound (shape_of problem.now) (node_of start.now) }
     requires known { AreUnits problem.now start.now.inside
         × AreUnits problem.now start.now.outside }
-    requires some { 1 ≤ budget }
-    requires few { budget ≤ 1000000 }
-    ensures { Ends (Tells (PartSays budget None start.now.inside start.now.outside problem.now)) out.old out.new result }
+    requires some { 1 ≤ effort.budget }
+    requires few { effort.budget ≤ 1000000 }
+    ensures { Ends (Tells (PartSays effort.budget None start.now.inside start.now.outside problem.now)) out.old out.new result }
 {
-    let found = search(alloc, problem, graph, *start, budget as u32);
+    let site = Site::of(problem, graph);
+    let budget = u64::from(effort.budget);
+    let found = search_watched(alloc, &site, *start, effort, None);
     say_found(alloc, out, problem, start, found, budget)
 }
 
 // Searches them for a network that is cheaper than this one.
-fn say_against<K: Sink, E: Sink>(
+fn say_against<K: Sink, E: Sink, W: Watch>(
     alloc: Global,
     out: &mut Outputs<K, E>,
     problem: &Problem,
     graph: &Graph,
     start: &Node,
-    budget: u64,
+    effort: Effort<W>,
     network: Network,
 ) -> Status
     requires graph { shape graph.now ≡ shape_of problem.now }
     requires sound { IsSound (shape_of problem.now) (node_of start.now) }
     requires known { AreUnits problem.now start.now.inside
         × AreUnits problem.now start.now.outside }
-    requires some { 1 ≤ budget }
-    requires few { budget ≤ 1000000 }
+    requires some { 1 ≤ effort.budget }
+    requires few { effort.budget ≤ 1000000 }
     requires passes { IsFeasible problem.now network }
-    ensures { Ends (Tells (PartSays budget (Some network) start.now.inside start.now.outside problem.now)) out.old out.new result }
+    ensures { Ends (Tells (PartSays effort.budget (Some network) start.now.inside start.now.outside problem.now)) out.old out.new result }
 {
-    let found = search_against(alloc, problem, graph, *start, budget as u32, network);
+    let site = Site::of(problem, graph);
+    let budget = u64::from(effort.budget);
+    let found = search_watched(alloc, &site, *start, effort, Some(network));
     say_found(alloc, out, problem, start, found, budget)
 }
 
 // A network is judged by the lines of the claim, and known to the search; another claim is passed over.
-fn say_claimed<K: Sink, E: Sink>(
+fn say_claimed<K: Sink, E: Sink, W: Watch>(
     alloc: Global,
     out: &mut Outputs<K, E>,
     problem: &Problem,
     graph: &Graph,
     start: &Node,
-    budget: u64,
+    effort: Effort<W>,
     claim: Claim,
     tree: &Tree,
 ) -> Status
@@ -87,29 +92,29 @@ fn say_claimed<K: Sink, E: Sink>(
     requires sound { IsSound (shape_of problem.now) (node_of start.now) }
     requires known { AreUnits problem.now start.now.inside
         × AreUnits problem.now start.now.outside }
-    requires some { 1 ≤ budget }
-    requires few { budget ≤ 1000000 }
-    ensures { Ends (Tells (ClaimSays budget start.now.inside start.now.outside problem.now (claim_of claim) tree.now)) out.old out.new result }
+    requires some { 1 ≤ effort.budget }
+    requires few { effort.budget ≤ 1000000 }
+    ensures { Ends (Tells (ClaimSays effort.budget start.now.inside start.now.outside problem.now (claim_of claim) tree.now)) out.old out.new result }
 {
     match claim {
         Claim::Network(network) => {
             let site = Site::of(problem, graph);
             match network_of(alloc, out, &site, Claim::Network(network)) {
-                Ok(known) => say_against(alloc, out, problem, graph, start, budget, known),
+                Ok(known) => say_against(alloc, out, problem, graph, start, effort, known),
                 Err(status) => status,
             }
         }
-        Claim::Infeasible => say_searched(alloc, out, problem, graph, start, budget),
-        Claim::Unknown => say_searched(alloc, out, problem, graph, start, budget),
+        Claim::Infeasible => say_searched(alloc, out, problem, graph, start, effort),
+        Claim::Unknown => say_searched(alloc, out, problem, graph, start, effort),
     }
 }
 
-fn say_tree<F: Shelf, K: Sink, E: Sink>(
+fn say_tree<F: Shelf, K: Sink, E: Sink, W: Watch>(
     alloc: Global,
     problem: &Problem,
     graph: &Graph,
     start: &Node,
-    budget: u64,
+    effort: Effort<W>,
     name: &str,
     shelf: &mut F,
     out: &mut Outputs<K, E>,
@@ -118,36 +123,36 @@ fn say_tree<F: Shelf, K: Sink, E: Sink>(
     requires sound { IsSound (shape_of problem.now) (node_of start.now) }
     requires known { AreUnits problem.now start.now.inside
         × AreUnits problem.now start.now.outside }
-    requires some { 1 ≤ budget }
-    requires few { budget ≤ 1000000 }
-    ensures ends { Ends (Says (OnTree (ClaimSays budget start.now.inside start.now.outside) (F.state shelf.old).held name.now problem.now) (λ other. other ≡ name.now)
+    requires some { 1 ≤ effort.budget }
+    requires few { effort.budget ≤ 1000000 }
+    ensures ends { Ends (Says (OnTree (ClaimSays effort.budget start.now.inside start.now.outside) (F.state shelf.old).held name.now problem.now) (λ other. other ≡ name.now)
         (F.state shelf.old) (F.state shelf.new)) out.old out.new result }
     ensures keeps { Keeps (F.state shelf.old) (F.state shelf.new) }
 {
     match tree_of(alloc, shelf, out, name, problem) {
-        Ok((claim, tree)) => say_claimed(alloc, out, problem, graph, start, budget, claim, &tree),
+        Ok((claim, tree)) => say_claimed(alloc, out, problem, graph, start, effort, claim, &tree),
         Err(status) => status,
     }
 }
 
 // The search from the node of the words.
-fn say_from<K: Sink, E: Sink>(
+fn say_from<K: Sink, E: Sink, W: Watch>(
     alloc: Global,
     out: &mut Outputs<K, E>,
     problem: &Problem,
     inside: &str,
     outside: &str,
-    budget: u64,
+    effort: Effort<W>,
 ) -> Status
-    requires some { 1 ≤ budget }
-    requires few { budget ≤ 1000000 }
-    ensures { Ends (Tells (PartWork budget inside.now outside.now problem.now)) out.old out.new result }
+    requires some { 1 ≤ effort.budget }
+    requires few { effort.budget ≤ 1000000 }
+    ensures { Ends (Tells (PartWork effort.budget inside.now outside.now problem.now)) out.old out.new result }
 {
     let Ok(graph) = Graph::of(alloc, problem) else {
         return say_memory(out);
     };
     match start_of(problem, &graph, inside, outside) {
-        Some(start) => say_searched(alloc, out, problem, &graph, &start, budget),
+        Some(start) => say_searched(alloc, out, problem, &graph, &start, effort),
         None => {
             let notes = bad_node(alloc);
             tell(out, b"bad node\n", notes.bytes(), Status::BadNode)
@@ -156,26 +161,26 @@ fn say_from<K: Sink, E: Sink>(
 }
 
 // The search from the node of the words, with the network of the tree as its best.
-fn say_from_against<F: Shelf, K: Sink, E: Sink>(
+fn say_from_against<F: Shelf, K: Sink, E: Sink, W: Watch>(
     alloc: Global,
     problem: &Problem,
     inside: &str,
     outside: &str,
-    budget: u64,
+    effort: Effort<W>,
     tree: &str,
     shelf: &mut F,
     out: &mut Outputs<K, E>,
 ) -> Status
-    requires some { 1 ≤ budget }
-    requires few { budget ≤ 1000000 }
-    ensures ends { Ends (Says (AgainstWork budget (F.state shelf.old).held tree.now inside.now outside.now problem.now) (λ other. other ≡ tree.now) (F.state shelf.old) (F.state shelf.new)) out.old out.new result }
+    requires some { 1 ≤ effort.budget }
+    requires few { effort.budget ≤ 1000000 }
+    ensures ends { Ends (Says (AgainstWork effort.budget (F.state shelf.old).held tree.now inside.now outside.now problem.now) (λ other. other ≡ tree.now) (F.state shelf.old) (F.state shelf.new)) out.old out.new result }
     ensures keeps { Keeps (F.state shelf.old) (F.state shelf.new) }
 {
     let Ok(graph) = Graph::of(alloc, problem) else {
         return say_memory(out);
     };
     match start_of(problem, &graph, inside, outside) {
-        Some(start) => say_tree(alloc, problem, &graph, &start, budget, tree, shelf, out),
+        Some(start) => say_tree(alloc, problem, &graph, &start, effort, tree, shelf, out),
         None => {
             let notes = bad_node(alloc);
             tell(out, b"bad node\n", notes.bytes(), Status::BadNode)
@@ -185,45 +190,45 @@ fn say_from_against<F: Shelf, K: Sink, E: Sink>(
 
 /// Says what a search of the structures of a node of the file's problem finds within the budget, as the text of a part. The words are
 /// the tokens of the units that are taken in at the node and of those that are left out.
-pub fn part<F: Shelf, K: Sink, E: Sink>(
+pub fn part<F: Shelf, K: Sink, E: Sink, W: Watch>(
     alloc: Global,
     file: &str,
     inside: &str,
     outside: &str,
-    budget: u64,
+    effort: Effort<W>,
     shelf: &mut F,
     out: &mut Outputs<K, E>,
 ) -> Status
-    requires some { 1 ≤ budget }
-    requires few { budget ≤ 1000000 }
-    ensures ends { Ends (FileSays (PartWork budget inside.now outside.now) file.now (F.state shelf.old) (F.state shelf.new)) out.old out.new result }
+    requires some { 1 ≤ effort.budget }
+    requires few { effort.budget ≤ 1000000 }
+    ensures ends { Ends (FileSays (PartWork effort.budget inside.now outside.now) file.now (F.state shelf.old) (F.state shelf.new)) out.old out.new result }
     ensures keeps { Keeps (F.state shelf.old) (F.state shelf.new) }
 {
     match problem_of(alloc, shelf, out, file) {
-        Ok(problem) => say_from(alloc, out, &problem, inside, outside, budget),
+        Ok(problem) => say_from(alloc, out, &problem, inside, outside, effort),
         Err(status) => status,
     }
 }
 
 /// The same, where the search begins with the network that the tree of the other file claims as its best; a claim of none is passed over.
-pub fn part_against<F: Shelf, K: Sink, E: Sink>(
+pub fn part_against<F: Shelf, K: Sink, E: Sink, W: Watch>(
     alloc: Global,
     file: &str,
     inside: &str,
     outside: &str,
-    budget: u64,
+    effort: Effort<W>,
     tree: &str,
     shelf: &mut F,
     out: &mut Outputs<K, E>,
 ) -> Status
-    requires some { 1 ≤ budget }
-    requires few { budget ≤ 1000000 }
-    ensures ends { Ends (TwoFilesSay (λ held name. AgainstWork budget held name inside.now outside.now) file.now tree.now (F.state shelf.old) (F.state shelf.new)) out.old out.new result }
+    requires some { 1 ≤ effort.budget }
+    requires few { effort.budget ≤ 1000000 }
+    ensures ends { Ends (TwoFilesSay (λ held name. AgainstWork effort.budget held name inside.now outside.now) file.now tree.now (F.state shelf.old) (F.state shelf.new)) out.old out.new result }
     ensures keeps { Keeps (F.state shelf.old) (F.state shelf.new) }
 {
     match problem_of(alloc, shelf, out, file) {
         Ok(problem) => {
-            say_from_against(alloc, &problem, inside, outside, budget, tree, shelf, out)
+            say_from_against(alloc, &problem, inside, outside, effort, tree, shelf, out)
         }
         Err(status) => status,
     }

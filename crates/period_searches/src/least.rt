@@ -20,6 +20,7 @@ use pgraph::Graph;
 use plan_laws::plans_are_short;
 use pns_io::{Outputs, Sink};
 use pns_problem::Problem;
+use progress::{Effort, Watch};
 use searches::{say_found, search_all};
 use std::alloc::{AllocError, Global};
 use studio_rules::Status;
@@ -43,19 +44,19 @@ fn network_text(
 }
 
 /// Searches the expanded problem, and says what comes of it for the plant.
-fn say_searched<K: Sink, E: Sink>(
+fn say_searched<K: Sink, E: Sink, W: Watch>(
     alloc: Global,
     out: &mut Outputs<K, E>,
     problem: &Problem,
     plan: &Plan,
     whole: &Problem,
-    budget: u64,
+    effort: Effort<W>,
 ) -> Status
     requires plan { IsPlan problem.now plan.now }
     requires whole { whole.now ≡ expanded problem.now plan.now }
-    requires some { 1 ≤ budget }
-    requires few { budget ≤ 1000000 }
-    ensures { Ends (Tells (PeriodsWork budget problem.now plan.now)) out.old out.new result }
+    requires some { 1 ≤ effort.budget }
+    requires few { effort.budget ≤ 1000000 }
+    ensures { Ends (Tells (PeriodsWork effort.budget problem.now plan.now)) out.old out.new result }
 {
     let Ok(graph) = Graph::of(alloc, whole) else {
         return say_memory(out);
@@ -65,7 +66,8 @@ fn say_searched<K: Sink, E: Sink>(
     accepted_is_optimal();
     least_network_is_least_design();
     no_network_is_no_design();
-    match search_all(alloc, whole, &graph, budget) {
+    let budget = u64::from(effort.budget);
+    match search_all(alloc, whole, &graph, effort) {
         Found::Solved { network, .. } => say_made(
             out,
             network_text(alloc, problem, plan, &network),
@@ -76,20 +78,20 @@ fn say_searched<K: Sink, E: Sink>(
 }
 
 /// Says a design of least cost, or that the plant has none; or how far the search of the expanded problem came.
-pub fn say_least<K: Sink, E: Sink>(
+pub fn say_least<K: Sink, E: Sink, W: Watch>(
     alloc: Global,
     out: &mut Outputs<K, E>,
     problem: &Problem,
     plan: &Plan,
-    budget: u64,
+    effort: Effort<W>,
 ) -> Status
     requires plan { IsPlan problem.now plan.now }
-    requires some { 1 ≤ budget }
-    requires few { budget ≤ 1000000 }
-    ensures { Ends (Tells (PeriodsWork budget problem.now plan.now)) out.old out.new result }
+    requires some { 1 ≤ effort.budget }
+    requires few { effort.budget ≤ 1000000 }
+    ensures { Ends (Tells (PeriodsWork effort.budget problem.now plan.now)) out.old out.new result }
 {
     match expand(alloc, problem, plan) {
-        Ok(whole) => say_searched(alloc, out, problem, plan, &whole, budget),
+        Ok(whole) => say_searched(alloc, out, problem, plan, &whole, effort),
         Err(_) => say_memory(out),
     }
 }

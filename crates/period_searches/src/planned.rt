@@ -10,45 +10,46 @@ use crate::least::say_least;
 use command_files::{plan_of, problem_of};
 use pns_io::{Outputs, Shelf, Sink};
 use pns_problem::Problem;
+use progress::{Effort, Watch};
 use std::alloc::Global;
 use studio_rules::Status;
 
-fn say_planned<F: Shelf, K: Sink, E: Sink>(
+fn say_planned<F: Shelf, K: Sink, E: Sink, W: Watch>(
     alloc: Global,
     problem: &Problem,
     plan: &str,
-    budget: u64,
+    effort: Effort<W>,
     shelf: &mut F,
     out: &mut Outputs<K, E>,
 ) -> Status
-    requires some { 1 ≤ budget }
-    requires few { budget ≤ 1000000 }
-    ensures ends { Ends (Says (OnPlan (PeriodsWork budget) (F.state shelf.old).held plan.now problem.now) (λ other. other ≡ plan.now) (F.state shelf.old) (F.state shelf.new)) out.old out.new result }
+    requires some { 1 ≤ effort.budget }
+    requires few { effort.budget ≤ 1000000 }
+    ensures ends { Ends (Says (OnPlan (PeriodsWork effort.budget) (F.state shelf.old).held plan.now problem.now) (λ other. other ≡ plan.now) (F.state shelf.old) (F.state shelf.new)) out.old out.new result }
     ensures keeps { Keeps (F.state shelf.old) (F.state shelf.new) }
 {
     match plan_of(alloc, shelf, out, plan, problem) {
-        Ok(plan) => say_least(alloc, out, problem, &plan, budget),
+        Ok(plan) => say_least(alloc, out, problem, &plan, effort),
         Err(status) => status,
     }
 }
 
 /// Says a design of least cost for the file's problem over the periods of the plan, or that there is none; or how far the search of
 /// the expanded problem came.
-pub fn periods<F: Shelf, K: Sink, E: Sink>(
+pub fn periods<F: Shelf, K: Sink, E: Sink, W: Watch>(
     alloc: Global,
     file: &str,
     plan: &str,
-    budget: u64,
+    effort: Effort<W>,
     shelf: &mut F,
     out: &mut Outputs<K, E>,
 ) -> Status
-    requires some { 1 ≤ budget }
-    requires few { budget ≤ 1000000 }
-    ensures ends { Ends (TwoFilesSay (OnPlan (PeriodsWork budget)) file.now plan.now (F.state shelf.old) (F.state shelf.new)) out.old out.new result }
+    requires some { 1 ≤ effort.budget }
+    requires few { effort.budget ≤ 1000000 }
+    ensures ends { Ends (TwoFilesSay (OnPlan (PeriodsWork effort.budget)) file.now plan.now (F.state shelf.old) (F.state shelf.new)) out.old out.new result }
     ensures keeps { Keeps (F.state shelf.old) (F.state shelf.new) }
 {
     match problem_of(alloc, shelf, out, file) {
-        Ok(problem) => say_planned(alloc, &problem, plan, budget, shelf, out),
+        Ok(problem) => say_planned(alloc, &problem, plan, effort, shelf, out),
         Err(status) => status,
     }
 }

@@ -14,6 +14,9 @@ lines =
     ∷ (codes "period 1", BadLine)
     ∷ (codes "period ", BadLine)
     ∷ (codes " period", BadLine)
+    ∷ (codes "period # 1", BadLine)
+    ∷ (codes "price A 1 #", BadLine)
+    ∷ (codes "price #A 1", BadName)
     ∷ (codes "price A", BadLine)
     ∷ (codes "price 9 1 x", BadLine)
     ∷ (codes "price  A 1", BadLine)
@@ -45,8 +48,11 @@ texts =
     ∷ (text_of (codes "file_type=PNS_edits_v1" ∷ codes "period" ∷ []), (1, FileType))
     ∷ (239 ∷ 187 ∷ 191 ∷ body (codes "period" ∷ []), (1, FileType))
     ∷ (10 ∷ body (codes "period" ∷ []), (1, FileType))
+    ∷ (codes "# a remark" ++ 10 ∷ body (codes "period" ∷ []), (1, FileType))
     ∷ (body (codes "price A 1" ∷ codes "period" ∷ []), (2, BadLine))
     ∷ (body ([] ∷ codes "price 9 x" ∷ codes "period" ∷ []), (3, BadLine))
+    ∷ (body (codes "# a remark" ∷ codes "price A 1" ∷ codes "period" ∷ []), (3, BadLine))
+    ∷ (body (codes "period" ∷ codes "price A 1" ∷ (32 ∷ 9 ∷ codes "# price A 1") ∷ codes "#" ∷ codes "price A 1" ∷ []), (6, DoubleLine))
     ∷ (body (codes "period" ∷ codes "price A 1" ∷ codes "price A 1" ∷ []), (4, DoubleLine))
     ∷ (body (codes "period" ∷ codes "price Z 1" ∷ codes "price Z 2" ∷ []), (4, DoubleLine))
     ∷ (body (codes "period" ∷ codes "price A 1" ∷ codes "price A x" ∷ []), (4, BadNumber))
@@ -57,6 +63,7 @@ texts =
     ∷ (body [], (2, NoPeriod))
     ∷ (codes "file_type=PNS_plan_v1", (2, NoPeriod))
     ∷ (body ([] ∷ [] ∷ []), (4, NoPeriod))
+    ∷ (body (codes "# period" ∷ []), (3, NoPeriod))
     ∷ []
 
 texts_first : First texts

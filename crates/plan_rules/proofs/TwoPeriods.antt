@@ -27,6 +27,14 @@ apart_read : read_plan plant apart ≡ Ok plan
 unfolding apart
 apart_read = refl
 
+-- with remarks, of which one stands behind blanks and one would have been a line of its period
+remarked : List ℕ
+remarked = body (codes "# a remark" ∷ codes "period" ∷ codes "bounds P 20 20" ∷ (32 ∷ 9 ∷ codes "# 2") ∷ codes "period" ∷ codes "#price A 4" ∷ codes "bounds P 30 30" ∷ [])
+
+remarked_read : read_plan plant remarked ≡ Ok plan
+unfolding remarked
+remarked_read = refl
+
 -- the other names and sides of the order: each period begins anew with the problem's own numbers
 dear : Plan
 dear = record { periods = first ∷ record second { prices = pos 4000000 ∷ pos 0 ∷ [] } ∷ [] }

@@ -1,6 +1,6 @@
 -- The lines of a plan, and what is wrong with one by itself. Lines end, tokens are parted, names and amounts are written as in
--- an edit script: a carriage return before a line feed is dropped, the last line feed may be missing, nothing else is
--- dropped, and each token stands behind one space.
+-- an edit script: a carriage return before a line feed is dropped, the last line feed may be missing, an empty line stands in
+-- the place of a remark, nothing else is dropped, and each token stands behind one space.
 use Rattle.std.specs.Prelude.{ℕ, ℤ, List, [], ◌∷◌, codes, Option, Some, None, Result, Ok, Err, if◌then◌else◌}
 use Rattle.std.specs.Str.{bytes_eq}
 use Rattle.script_rules.specs.declared.EditKind.{EditKind}

@@ -38,7 +38,7 @@ count_fault p periods =
     else if is_too_wide (length p.units) (length p.materials) periods then Some TooWide
     else None
 
--- of lines of a text with so many lines, empty ones too
+-- of lines of a text with so many lines, empty ones and remarks too
 abbrev pub or_behind : Problem → ℕ → List Line → Option Fault → Option Fault
 or_behind p count lines (Some fault) = Some fault
 or_behind p count lines None = at_line (count + 1) (count_fault p (period_count lines)) None

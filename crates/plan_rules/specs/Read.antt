@@ -1,6 +1,6 @@
--- The lines of a plan's text, or its first fault of form. An empty line is skipped but counted. A line that changes a material
--- before a period begins is no line of a plan, whatever else is wrong with it; one that gives a second price or second
--- bounds of a material in its period is doubled, which is told where nothing else is wrong with it.
+-- The lines of a plan's text, or its first fault of form. An empty line is skipped but counted, and so is a remark. A line that
+-- changes a material before a period begins is no line of a plan, whatever else is wrong with it; one that gives a second price
+-- or second bounds of a material in its period is doubled, which is told where nothing else is wrong with it.
 use Rattle.std.specs.Prelude.{◌+◌, ◌++◌, ℕ, Bool, true, false, List, [], ◌∷◌, Result, Ok, Err, if◌then◌else◌}
 use Rattle.std.specs.Str.{bytes_eq}
 use Rattle.problem_rules.specs.Names.{is_among}

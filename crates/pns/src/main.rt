@@ -1,7 +1,13 @@
 //! The program `pns`: its words call the studio over the files of the system, the standard input, the standard output and
 //! the standard error.
+//!
+//! Modules: `watch`, who watches a search; `line`, the line that says how far it is.
 #![tactic(auto)]
 
+mod line;
+mod watch;
+
+use crate::watch::LineWatch;
 use pns_io::{FileShelf, OutSink, Outputs};
 use std::alloc::Global;
 use std::env;
@@ -44,6 +50,8 @@ fn main(rt: HostRuntime) -> ExitCode {
     let mut shelf = FileShelf::new(&rt, rt.stdin());
     let errors = rt.stderr();
     let mut out = Outputs::new(OutSink::new(&rt), OutSink::new(&errors));
-    let status = studio(rt.alloc(), &words, &mut shelf, &mut out);
+    let progress = rt.stderr();
+    let watch = LineWatch::new(&rt, &progress);
+    let status = studio(rt.alloc(), &words, &mut shelf, &mut out, watch);
     ExitCode::from(code_of(status))
 }

@@ -24,8 +24,8 @@ impl Model for FoundAt {
     ghost view = { λ f. record { network = f.network; leaf = f.leaf } };
 }
 
-/// The best of the networks that were found, best first, of those that cost the same the earlier one first, and at most as many as are
-/// asked for.
+/// The best of the networks that were found, best first, of those that cost the same the earlier
+/// one first, and at most as many as are asked for.
 #[derive(Drop)]
 pub struct FoundNetworks {
     count: u32,
@@ -86,7 +86,8 @@ impl FoundNetworks {
         Some(&last.network)
     }
 
-    /// At least one is asked for, no more stand, and they rise in cost. A call tells a proof so, and does nothing.
+    /// At least one is asked for, no more stand, and they rise in cost. A call tells a proof so,
+    /// and does nothing.
     pub fn is_listed(&self)
         ensures { IsListed self.now }
     {
@@ -104,8 +105,9 @@ impl FoundNetworks {
             .partition_point(|other| costs_no_more(&other.network, network))
     }
 
-    /// Adds a network that was found at a leaf, behind those that cost no more. Where more than are asked for would stand, the last one
-    /// falls out. After `Err`, which comes for want of memory alone, all is as before.
+    /// Adds a network that was found at a leaf, behind those that cost no more. Where more than are
+    /// asked for would stand, the last one falls out. After `Err`, which comes when memory is
+    /// refused, all is as before.
     pub fn add(&mut self, network: Network, leaf: u32) -> Result<(), AllocError>
         ensures added { OnOk result (IsAdded self.old self.new (record { network = network; leaf = leaf })) }
         ensures same { OnErr result (self.new ≡ self.old) }
@@ -132,8 +134,8 @@ impl FoundNetworks {
         }
     }
 
-    /// Adds in turn the networks that were found at the leaves of the numbers from `first` on. After
-    /// `Err`, which comes for want of memory alone, some of them are added, the first ones.
+    /// Adds in turn the networks that were found at the leaves of the numbers from `first` on.
+    /// After `Err`, which comes when memory is refused, some of them are added, the first ones.
     pub fn add_all(&mut self, networks: Vec<Option<Network>>, first: u32) -> Result<(), AllocError>
         requires { first + length networks.items < 2 ^ 32 }
         ensures added { OnOk result (AreAdded self.old self.new first networks.items) }

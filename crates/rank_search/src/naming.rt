@@ -24,7 +24,8 @@ pub(crate) struct NamedTree {
     pub place: u32,
 }
 
-/// For each of so many nodes the network that was found there, by its number, counted from 1. The networks are sized.
+/// For each of so many nodes the network that was found there, by its number, counted from 1. The
+/// networks are sized.
 fn names_of(alloc: Global, found: &[FoundAt], nodes: usize) -> Result<Vec<Option<u32>>, AllocError>
     requires within { AreWithin nodes found.now }
     requires few { length found.now < 2 ^ 32 }
@@ -68,7 +69,8 @@ fn take_mark(node: &mut TreeNode, name: Option<u32>) -> Option<Mark>
     }
 }
 
-/// The marks of all nodes in order, where `order` has the numbers of their leaves. Those that have a name stand open then.
+/// The marks of all nodes in order, where `order` has the numbers of their leaves. Those that have
+/// a name stand open then.
 fn take_marks(
     alloc: Global,
     nodes: &mut [TreeNode],
@@ -89,8 +91,8 @@ fn take_marks(
     Ok(marks)
 }
 
-/// The tree of the nodes, with the leaves at which networks were found named by these, and where a node stands in it. An open leaf at
-/// whose number something stands is shut there by this.
+/// The tree of the nodes, with the leaves at which networks were found named by these, and where a
+/// node stands in it. An open leaf at whose number something stands is shut there by this.
 pub(crate) fn named_tree(
     alloc: Global,
     pool: &Pool<Cell>,

@@ -8,7 +8,7 @@ pub enum Ranked {
     Whole(RankText),
     /// The budget is spent: the leaf of the tail would be branched next, and has too many options.
     Spent(RankText),
-    /// A number is past the range at the open leaf of the tail.
+    /// A number overflows at the open leaf of the tail.
     Past(RankText),
     /// There is no memory.
     Memory,

@@ -21,12 +21,13 @@ use crate::found::FoundNetworks;
 use crate::naming::named_tree;
 use abb_search::Growing;
 use branch_tree::{Network, Tree};
-use pns_problem::Problem;
+use pgraph::Site;
 use ranked_tree::Mark;
 use search_tree::Shut;
 use std::alloc::{AllocError, Global};
 
-/// The networks, best first, the tree with the marks of its open leaves in preorder, and the place of one of its nodes.
+/// The networks, best first, the tree with the marks of its open leaves in preorder, and the place
+/// of one of its nodes.
 #[derive(Drop)]
 pub struct Told {
     pub networks: Vec<Network>,
@@ -46,7 +47,8 @@ fn into_networks(alloc: Global, found: FoundNetworks) -> Result<Vec<Network>, Al
         .collect(alloc)
 }
 
-/// At least one network is asked for, and those that stand have numbers. A call tells a proof so, and does nothing.
+/// At least one network is asked for, and those that stand have numbers. A call tells a proof so,
+/// and does nothing.
 fn are_numbered(found: &FoundNetworks)
     ensures asked { 1 ≤ found.now.count }
     ensures few { length found.now.found < 2 ^ 32 }
@@ -91,48 +93,49 @@ fn tell(
     })
 }
 
-/// Tells of a search that is at its end: each leaf that is open is shut by what stands at its number. The place is that of the root.
+/// Tells of a search that is at its end: each leaf that is open is shut by what stands at its
+/// number. The place is that of the root.
 pub fn tell_whole(
     alloc: Global,
-    problem: &Problem,
+    site: &Site<'_>,
     growing: &Growing,
     found: FoundNetworks,
     proofs: &[Option<Shut>],
 ) -> Result<Told, AllocError>
-    requires kept { IsTreeKeptFor problem.now (undercut_by found.count found.found) growing.now }
+    requires kept { IsTreeKeptFor site.now (undercut_by found.count found.found) growing.now }
     requires start { node_of growing.now.start ≡ first_node }
-    requires best { AreBest problem.now found.count growing.now.pool.payloads found.found }
-    requires shut { ShutAll problem.now growing.now (undercut_by found.count found.found) proofs.now }
+    requires best { AreBest site.now found.count growing.now.pool.payloads found.found }
+    requires shut { ShutAll site.now growing.now (undercut_by found.count found.found) proofs.now }
     ensures networks { IfOk result (λ t. t.networks.items ≡ networks_of found.found) }
-    ensures tells { IfOk result (λ t. IsTelling false problem.now found.count t.networks.items t.tree (map mark_of t.marks.items)) }
+    ensures tells { IfOk result (λ t. IsTelling false site.now found.count t.networks.items t.tree (map mark_of t.marks.items)) }
 {
-    problem.is_valid();
+    site.problem();
     tell(alloc, growing, found, proofs, 0)
 }
 
-/// Tells of a search that stops before its end, and where a leaf stands in its tree that stays open. Others may be shut, each by what
-/// stands at its number.
+/// Tells of a search that stops before its end, and where a leaf stands in its tree that stays
+/// open. Others may be shut, each by what stands at its number.
 pub fn tell_stopped(
     alloc: Global,
-    problem: &Problem,
+    site: &Site<'_>,
     growing: &Growing,
     found: FoundNetworks,
     proofs: &[Option<Shut>],
     leaf: u32,
 ) -> Result<Told, AllocError>
-    requires kept { IsTreeKeptFor problem.now (undercut_by found.count found.found) growing.now }
+    requires kept { IsTreeKeptFor site.now (undercut_by found.count found.found) growing.now }
     requires start { node_of growing.now.start ≡ first_node }
-    requires best { AreBest problem.now found.count growing.now.pool.payloads found.found }
+    requires best { AreBest site.now found.count growing.now.pool.payloads found.found }
     requires leaf { leaf < length growing.now.pool.payloads }
-    requires shut { ShutSome problem.now growing.now (undercut_by found.count found.found) proofs.now }
+    requires shut { ShutSome site.now growing.now (undercut_by found.count found.found) proofs.now }
     requires stays { slice_index_or proofs.now leaf None ≡ None }
     ensures networks { IfOk result (λ t. t.networks.items ≡ networks_of found.found) }
-    ensures tells { IfOk result (λ t. IsTelling true problem.now found.count t.networks.items t.tree (map mark_of t.marks.items)) }
+    ensures tells { IfOk result (λ t. IsTelling true site.now found.count t.networks.items t.tree (map mark_of t.marks.items)) }
     ensures open { IfOk result (λ t. (cell_at growing.now.pool.payloads leaf).end ≡ trees.leaf untried
-        → IsOpenAt problem.now IsOpenLeaf first_node (marked (map mark_of t.marks.items) t.tree) t.place (place_of (cell_at growing.now.pool.payloads leaf))) }
-    ensures spent { IfOk result (λ t. (options : ℕ) → IsSpentFor problem.now (undercut_by found.count found.found) growing.now proofs.now leaf options
-        → IsSpentTelling problem.now found.count t.networks.items t.tree (map mark_of t.marks.items) t.place options growing.now.budget) }
+        → IsOpenAt site.now IsOpenLeaf first_node (marked (map mark_of t.marks.items) t.tree) t.place (place_of (cell_at growing.now.pool.payloads leaf))) }
+    ensures spent { IfOk result (λ t. (options : ℕ) → IsSpentFor site.now (undercut_by found.count found.found) growing.now proofs.now leaf options
+        → IsSpentTelling site.now found.count t.networks.items t.tree (map mark_of t.marks.items) t.place options growing.now.budget) }
 {
-    problem.is_valid();
+    site.problem();
     tell(alloc, growing, found, proofs, leaf)
 }

@@ -12,7 +12,7 @@ use crate::telling::{Told, tell_stopped, tell_whole};
 use abb_search::{Ending, Growing};
 use branch_tree::Tail;
 use node_evaluation::Evaluator;
-use pns_problem::Problem;
+use pgraph::Site;
 use ranked_tree::RankText;
 use std::alloc::{AllocError, Global};
 
@@ -27,18 +27,18 @@ fn text_of(count: u32, told: Told, tail: Tail) -> RankText
 /// What is found where the search ends so.
 pub(crate) fn ranked_by<E: Evaluator>(
     alloc: Global,
-    problem: &Problem,
+    site: &Site<'_>,
     growing: &Growing,
     found: FoundNetworks,
     ending: Ending,
 ) -> Result<Ranked, AllocError>
-    requires { IsRankEnd E.past problem.now growing.now.budget growing.now found ending }
-    ensures { IfOk result (IsRankedBy E.past problem.now found.count growing.now.budget) }
+    requires { IsRankEnd E.past site.now growing.now.budget growing.now found ending }
+    ensures { IfOk result (IsRankedBy E.past site.now found.count growing.now.budget) }
 {
     let count = found.count();
     match ending {
         Ending::Whole(proofs) => {
-            let told = tell_whole(alloc, problem, growing, found, &proofs)?;
+            let told = tell_whole(alloc, site, growing, found, &proofs)?;
             Ok(Ranked::Whole(text_of(count, told, Tail::Whole)))
         }
         Ending::Spent {
@@ -46,12 +46,12 @@ pub(crate) fn ranked_by<E: Evaluator>(
             options,
             refuted,
         } => {
-            let told = tell_stopped(alloc, problem, growing, found, &refuted, leaf)?;
+            let told = tell_stopped(alloc, site, growing, found, &refuted, leaf)?;
             let next = told.place;
             Ok(Ranked::Spent(text_of(count, told, Tail::Spent { next, options })))
         }
         Ending::Past(stopped) => {
-            let told = tell_stopped(alloc, problem, growing, found, &[], stopped.leaf)?;
+            let told = tell_stopped(alloc, site, growing, found, &[], stopped.leaf)?;
             let node = told.place;
             let tail = Tail::Past {
                 node,

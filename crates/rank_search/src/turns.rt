@@ -1,7 +1,6 @@
 //! The turns of a search for the best networks, and the loop over them.
 ghost use Rattle.std.specs.Prelude.{◌≡◌, IfOk, OnOk, None, length};
 ghost use Rattle.pns_rules.specs.Shape.{shape_of};
-ghost use Rattle.pgraph.specs.Tables.{shape};
 ghost use Rattle.neutral_extension.specs.Candidates.{AreMakersOf};
 ghost use Rattle.abb_search.specs.Rounds.{IsNextLeaf, FitsBudget};
 ghost use Rattle.rank_search.specs.Found.{undercut_by};
@@ -9,69 +8,64 @@ ghost use Rattle.rank_search.specs.Turns.{IsRanking, IsRankEnd, IsMore, TurnHold
 
 use crate::found::FoundNetworks;
 use abb_search::{
-    Ending, Goal, Growing, Next, branch_leaf, choice_at, next_leaf, node_at, take_stop,
+    Ending, Goal, Growing, Next, branch_leaf, choice_at, next_leaf, node_at, report_progress,
+    take_stop,
 };
-use neutral_extension::Makers;
-use node_evaluation::Evaluator;
-use pgraph::Graph;
-use pns_problem::Problem;
+use node_evaluation::{Evaluator, Workspace};
+use pgraph::Site;
+use progress::Watch;
 use std::alloc::{AllocError, Global};
 
 /// Branches the leaf that comes next and adds what is found at its children.
 fn branch_next<E: Evaluator>(
-    alloc: Global,
-    evaluator: &mut E,
-    problem: &Problem,
-    graph: &Graph,
-    makers: &mut Makers,
+    workspace: &mut Workspace<E>,
+    site: &Site<'_>,
     growing: &mut Growing,
     found: &mut FoundNetworks,
     leaf: u32,
 ) -> Result<(), AllocError>
-    requires graph { shape graph.now ≡ shape_of problem.now }
-    requires same { AreMakersOf (shape graph.now) makers.old.makers }
-    requires ranking { IsRanking E.past problem.now growing.old.budget growing.old found.old }
+    requires own { E.values site.now workspace.old.evaluator }
+    requires makers { AreMakersOf (shape_of site.now) workspace.old.makers.makers }
+    requires ranking { IsRanking E.past site.now growing.old.budget growing.old found.old }
     requires goes_on { growing.old.stop ≡ None }
     requires next { IsNextLeaf growing.old (undercut_by found.old.count found.old.found) leaf }
     requires fits { FitsBudget growing.old leaf }
-    ensures more { OnOk result (IsMore E.past problem.now growing.old.budget (length growing.old.pool.payloads) growing.new found.new) }
+    ensures more { OnOk result (IsMore E.past site.now growing.old.budget (length growing.old.pool.payloads) growing.new found.new) }
     ensures count { OnOk result (found.new.count ≡ found.old.count) }
-    ensures makers { makers.new.makers ≡ makers.old.makers }
+    ensures own { E.values site.now workspace.new.evaluator }
+    ensures makers { workspace.new.makers.makers ≡ workspace.old.makers.makers }
 {
-    problem.is_valid();
+    site.problem();
     growing.pool.is_pool();
     found.is_listed();
     let choice = choice_at(growing, leaf);
     let node = node_at(&growing.pool, leaf);
     let first = growing.nodes;
-    let networks = branch_leaf(
-        alloc, evaluator, problem, graph, makers, growing, leaf, node, choice, true,
-    )?;
+    let networks = branch_leaf(workspace, site, growing, leaf, node, choice, true)?;
     found.add_all(networks, first)?;
     Ok(())
 }
 
-/// Branches an open leaf of least value and adds what is found at its children, or tells how the search ends. No leaf stops it.
+/// Branches an open leaf of least value and adds what is found at its children, or tells how the
+/// search ends. No leaf stops it.
 fn go_on<E: Evaluator>(
-    alloc: Global,
-    evaluator: &mut E,
-    problem: &Problem,
-    graph: &Graph,
-    makers: &mut Makers,
+    workspace: &mut Workspace<E>,
+    site: &Site<'_>,
     growing: &mut Growing,
     found: &mut FoundNetworks,
 ) -> Result<Option<Ending>, AllocError>
-    requires graph { shape graph.now ≡ shape_of problem.now }
-    requires same { AreMakersOf (shape graph.now) makers.old.makers }
-    requires ranking { IsRanking E.past problem.now growing.old.budget growing.old found.old }
+    requires own { E.values site.now workspace.old.evaluator }
+    requires makers { AreMakersOf (shape_of site.now) workspace.old.makers.makers }
+    requires ranking { IsRanking E.past site.now growing.old.budget growing.old found.old }
     requires goes_on { growing.old.stop ≡ None }
-    ensures holds { IfOk result (TurnHolds E.past problem.now growing.old.budget (length growing.old.pool.payloads) growing.new found.new) }
+    ensures holds { IfOk result (TurnHolds E.past site.now growing.old.budget (length growing.old.pool.payloads) growing.new found.new) }
     ensures count { OnOk result (found.new.count ≡ found.old.count) }
-    ensures makers { makers.new.makers ≡ makers.old.makers }
+    ensures own { E.values site.now workspace.new.evaluator }
+    ensures makers { workspace.new.makers.makers ≡ workspace.old.makers.makers }
 {
-    problem.is_valid();
+    site.problem();
     let goal = Goal::Given(found.to_beat());
-    match next_leaf(alloc, evaluator, problem, graph, growing, &goal)? {
+    match next_leaf(workspace, site, growing, &goal)? {
         Next::End(ending) => Ok(Some(ending)),
         Next::Stop(leaf) => {
             growing.pool.is_pool();
@@ -81,9 +75,7 @@ fn go_on<E: Evaluator>(
             Ok(Some(Ending::Past(stopped)))
         }
         Next::Branch(leaf) => {
-            branch_next(
-                alloc, evaluator, problem, graph, makers, growing, found, leaf,
-            )?;
+            branch_next(workspace, site, growing, found, leaf)?;
             Ok(None)
         }
     }
@@ -91,45 +83,43 @@ fn go_on<E: Evaluator>(
 
 /// Makes the nodes more, or tells how the search ends.
 fn turn<E: Evaluator>(
-    alloc: Global,
-    evaluator: &mut E,
-    problem: &Problem,
-    graph: &Graph,
-    makers: &mut Makers,
+    workspace: &mut Workspace<E>,
+    site: &Site<'_>,
     growing: &mut Growing,
     found: &mut FoundNetworks,
 ) -> Result<Option<Ending>, AllocError>
-    requires graph { shape graph.now ≡ shape_of problem.now }
-    requires same { AreMakersOf (shape graph.now) makers.old.makers }
-    requires ranking { IsRanking E.past problem.now growing.old.budget growing.old found.old }
-    ensures holds { IfOk result (TurnHolds E.past problem.now growing.old.budget (length growing.old.pool.payloads) growing.new found.new) }
+    requires own { E.values site.now workspace.old.evaluator }
+    requires makers { AreMakersOf (shape_of site.now) workspace.old.makers.makers }
+    requires ranking { IsRanking E.past site.now growing.old.budget growing.old found.old }
+    ensures holds { IfOk result (TurnHolds E.past site.now growing.old.budget (length growing.old.pool.payloads) growing.new found.new) }
     ensures count { OnOk result (found.new.count ≡ found.old.count) }
-    ensures makers { makers.new.makers ≡ makers.old.makers }
+    ensures own { E.values site.now workspace.new.evaluator }
+    ensures makers { workspace.new.makers.makers ≡ workspace.old.makers.makers }
 {
     match growing.stop.take() {
         Some(stopped) => Ok(Some(Ending::Past(stopped))),
-        None => go_on(alloc, evaluator, problem, graph, makers, growing, found),
+        None => go_on(workspace, site, growing, found),
     }
 }
 
 /// Takes turns until the search ends.
-pub(crate) fn run<E: Evaluator>(
-    alloc: Global,
-    evaluator: &mut E,
-    problem: &Problem,
-    graph: &Graph,
-    makers: &mut Makers,
+pub(crate) fn run<E: Evaluator, W: Watch>(
+    workspace: &mut Workspace<E>,
+    site: &Site<'_>,
     growing: &mut Growing,
     found: &mut FoundNetworks,
+    watch: &mut W,
 ) -> Result<Ending, AllocError>
-    requires graph { shape graph.now ≡ shape_of problem.now }
-    requires same { AreMakersOf (shape graph.now) makers.old.makers }
-    requires ranking { IsRanking E.past problem.now growing.old.budget growing.old found.old }
-    ensures ends { IfOk result (IsRankEnd E.past problem.now growing.old.budget growing.new found.new) }
+    requires own { E.values site.now workspace.old.evaluator }
+    requires makers { AreMakersOf (shape_of site.now) workspace.old.makers.makers }
+    requires ranking { IsRanking E.past site.now growing.old.budget growing.old found.old }
+    ensures ends { IfOk result (IsRankEnd E.past site.now growing.old.budget growing.new found.new) }
     ensures count { OnOk result (found.new.count ≡ found.old.count) }
+    ensures own { E.values site.now workspace.new.evaluator }
 {
     'turns: loop {
-        if let Some(ending) = turn(alloc, evaluator, problem, graph, makers, growing, found)? {
+        report_progress(watch, site, growing);
+        if let Some(ending) = turn(workspace, site, growing, found)? {
             return Ok(ending);
         }
     }

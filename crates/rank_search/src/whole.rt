@@ -10,12 +10,11 @@ use crate::found::FoundNetworks;
 use crate::outcome::Ranked;
 use crate::told::ranked_by;
 use crate::turns::run;
-use abb_search::{Growing, look_at_root};
-use flow_evaluator::FlowEvaluator;
-use neutral_extension::Makers;
-use node_evaluation::{Evaluator, copy_of_network};
-use pgraph::Graph;
+use abb_search::{Growing, look_at_root, workspace_of};
+use node_evaluation::{Evaluator, Workspace, copy_of_network};
+use pgraph::{Graph, Site};
 use pns_problem::Problem;
+use progress::{Effort, NoWatch, Watch};
 use std::alloc::{AllocError, Global};
 use unit_sets::{Node, UnitSet};
 
@@ -26,31 +25,29 @@ struct Begun {
     found: FoundNetworks,
 }
 
-/// The root after the steps that are possible there, and the network that was found there, if there is one.
+/// The root after the steps that are possible there, and the network that was found there, if there
+/// is one.
 fn begin<E: Evaluator>(
-    alloc: Global,
-    evaluator: &mut E,
-    problem: &Problem,
-    graph: &Graph,
-    makers: &mut Makers,
+    workspace: &mut Workspace<E>,
+    site: &Site<'_>,
     count: u32,
     budget: u32,
 ) -> Result<Begun, AllocError>
-    requires graph { shape graph.now ≡ shape_of problem.now }
-    requires same { AreMakersOf (shape graph.now) makers.old.makers }
+    requires own { E.values site.now workspace.old.evaluator }
+    requires makers { AreMakersOf (shape_of site.now) workspace.old.makers.makers }
     requires asked { 1 ≤ count }
     requires some { 1 ≤ budget }
-    ensures ranking { IfOk result (λ b. IsRanking E.past problem.now budget b.growing b.found) }
+    ensures ranking { IfOk result (λ b. IsRanking E.past site.now budget b.growing b.found) }
     ensures count { IfOk result (λ b. b.found.count ≡ count) }
-    ensures makers { makers.new.makers ≡ makers.old.makers }
+    ensures own { E.values site.now workspace.new.evaluator }
+    ensures makers { workspace.new.makers.makers ≡ workspace.old.makers.makers }
 {
     let start = Node {
         inside: UnitSet::empty(),
         outside: UnitSet::empty(),
     };
-    let growing = look_at_root(
-        alloc, evaluator, problem, graph, makers, start, budget, None,
-    )?;
+    let alloc = workspace.alloc;
+    let growing = look_at_root(workspace, site, start, budget, None)?;
     let mut networks = Vec::new(alloc);
     networks.push(copy_of_network(alloc, &growing.best)?)?;
     let mut found = FoundNetworks::new(alloc, count);
@@ -58,68 +55,76 @@ fn begin<E: Evaluator>(
     Ok(Begun { growing, found })
 }
 
-/// Searches all structures of the problem for so many networks whose flows are cheapest. `Err` comes for want of memory alone.
-fn ranked<E: Evaluator>(
-    alloc: Global,
-    evaluator: &mut E,
-    problem: &Problem,
-    graph: &Graph,
+/// Searches all structures of the site's problem for so many networks whose flows are cheapest,
+/// within a budget of nodes. `Err` comes when memory is refused.
+fn ranked<E: Evaluator, W: Watch>(
+    workspace: &mut Workspace<E>,
+    site: &Site<'_>,
     count: u32,
-    budget: u32,
+    effort: Effort<W>,
 ) -> Result<Ranked, AllocError>
-    requires graph { shape graph.now ≡ shape_of problem.now }
+    requires own { E.values site.now workspace.old.evaluator }
+    requires makers { AreMakersOf (shape_of site.now) workspace.old.makers.makers }
     requires asked { 1 ≤ count }
-    requires some { 1 ≤ budget }
-    ensures { IfOk result (IsRankedBy E.past problem.now count budget) }
+    requires some { 1 ≤ effort.budget }
+    ensures { IfOk result (IsRankedBy E.past site.now count effort.budget) }
 {
-    let mut makers = Makers::open(alloc, graph)?;
-    let begun = begin(alloc, evaluator, problem, graph, &mut makers, count, budget)?;
+    let mut watch = effort.watch;
+    let begun = begin(workspace, site, count, effort.budget)?;
     let mut growing = begun.growing;
     let mut found = begun.found;
-    let ending = run(
-        alloc,
-        evaluator,
-        problem,
-        graph,
-        &mut makers,
-        &mut growing,
-        &mut found,
-    )?;
-    ranked_by::<E>(alloc, problem, &growing, found, ending)
+    let ending = run(workspace, site, &mut growing, &mut found, &mut watch)?;
+    ranked_by::<E>(workspace.alloc, site, &growing, found, ending)
 }
 
-/// Searches all structures of the problem for so many networks whose flows are cheapest, within a budget of nodes. The graph is that of
-/// the problem.
-pub fn rank_with<E: Evaluator + Drop>(
-    alloc: Global,
-    evaluator: E,
-    problem: &Problem,
-    graph: &Graph,
+/// Searches all structures of the site's problem for so many networks whose flows are cheapest,
+/// within a budget of nodes.
+pub fn rank_with<E: Evaluator, W: Watch>(
+    workspace: &mut Workspace<E>,
+    site: &Site<'_>,
     count: u32,
-    budget: u32,
+    effort: Effort<W>,
 ) -> Ranked
-    requires graph { shape graph.now ≡ shape_of problem.now }
+    requires own { E.values site.now workspace.old.evaluator }
+    requires makers { AreMakersOf (shape_of site.now) workspace.old.makers.makers }
     requires asked { 1 ≤ count }
-    requires some { 1 ≤ budget }
-    ensures { IsRankedBy E.past problem.now count budget result }
+    requires some { 1 ≤ effort.budget }
+    ensures { IsRankedBy E.past site.now count effort.budget result }
 {
-    let mut evaluator = evaluator;
-    match ranked(alloc, &mut evaluator, problem, graph, count, budget) {
+    match ranked(workspace, site, count, effort) {
         Ok(ranked) => ranked,
         Err(_) => Ranked::Memory,
     }
 }
 
-/// Searches all structures of the problem for so many networks whose flows are cheapest, within a budget of nodes, each bounded by the
-/// simplex method. The graph is that of the problem.
+/// Searches as [`rank`] does, and reports how far it is.
+pub fn rank_watched<W: Watch>(
+    alloc: Global,
+    site: &Site<'_>,
+    count: u32,
+    effort: Effort<W>,
+) -> Ranked
+    requires asked { 1 ≤ count }
+    requires some { 1 ≤ effort.budget }
+    ensures { IsRankedTo site.now count effort.budget result }
+{
+    match workspace_of(alloc, site) {
+        Ok(mut workspace) => rank_with(&mut workspace, site, count, effort),
+        Err(_) => Ranked::Memory,
+    }
+}
+
+/// Searches all structures of the problem for so many networks whose flows are cheapest, within a
+/// budget of nodes, each bounded by the simplex method. The graph is that of the problem.
 pub fn rank(alloc: Global, problem: &Problem, graph: &Graph, count: u32, budget: u32) -> Ranked
     requires graph { shape graph.now ≡ shape_of problem.now }
     requires asked { 1 ≤ count }
     requires some { 1 ≤ budget }
     ensures { IsRankedTo problem.now count budget result }
 {
-    match FlowEvaluator::open(alloc, problem) {
-        Ok(evaluator) => rank_with(alloc, evaluator, problem, graph, count, budget),
-        Err(_) => Ranked::Memory,
-    }
+    let effort = Effort {
+        budget,
+        watch: NoWatch,
+    };
+    rank_watched(alloc, &Site::of(problem, graph), count, effort)
 }

@@ -41,6 +41,7 @@ bad_lines =
     (codes "unexclude X Y", BadLine) ∷
     (codes "payout", BadLine) ∷
     (codes "investment U 1", BadLine) ∷
+    (codes "price A 1 # 2", BadLine) ∷
     []
 
 bad_lines_told : Told bad_lines
@@ -62,6 +63,7 @@ bad_names =
     (codes "unexclude a,b", BadName) ∷
     (codes "investment 9 x 1", BadName) ∷
     (codes "fix A: 1", BadName) ∷
+    (codes "remove_unit #U", BadName) ∷
     []
 
 bad_names_told : Told bad_names
@@ -160,16 +162,20 @@ bad_members_told : Told bad_members
 unfolding bad_members
 bad_members_told = refl
 
--- whole texts: the least line is told, and an empty line is counted; a carriage return is dropped at a line's end alone, and
--- neither a byte order mark nor a tab is
+-- whole texts: the least line is told, and an empty line and a remark are counted; a carriage return is dropped at a line's end
+-- alone, and neither a byte order mark nor a tab is
 texts : List (List ℕ × Fault)
 texts =
     ([], (1, FileType))
     ∷ (10 ∷ body [], (1, FileType))
     ∷ (239 ∷ 187 ∷ 191 ∷ body [], (1, FileType))
+    ∷ (codes "# a remark" ++ 10 ∷ body [], (1, FileType))
+    ∷ (codes "#file_type=PNS_edits_v1", (1, FileType))
     ∷ (text_of (codes "file_type=PNS_problem_v1" ∷ []), (1, FileType))
     ∷ (text_of (codes "file_type=PNS_edits_v1 " ∷ []), (1, FileType))
     ∷ (body ([] ∷ [] ∷ codes "x" ∷ codes "price 9 x" ∷ []), (4, BadLine))
+    ∷ (body (codes "# a remark" ∷ (32 ∷ 9 ∷ codes "#") ∷ codes "x" ∷ codes "price 9 x" ∷ []), (4, BadLine))
+    ∷ (body ((13 ∷ codes "# a remark") ∷ []), (2, BadLine))
     ∷ (body (codes "exclude 0 X U1 U1" ∷ codes "x" ∷ []), (2, BadMembers))
     ∷ (body (codes "payout 0" ∷ codes "x" ∷ []), (2, BadNumber))
     ∷ (body [] ++ codes "remove_unit 9", (2, BadName))

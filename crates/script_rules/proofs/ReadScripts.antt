@@ -75,6 +75,14 @@ apart_read : read_script apart ≡ Ok (record { edits = remove_unit (codes "U") 
 unfolding apart
 apart_read = refl
 
+-- remarks, of which one stands behind blanks and one is a line that would have been an edit
+remarked : List ℕ
+remarked = body (codes "# a remark" ∷ codes "remove_unit U" ∷ (32 ∷ 9 ∷ codes "# 2") ∷ codes "#payout 3" ∷ (codes "payout 2" ++ 13 ∷ []) ∷ (35 ∷ 13 ∷ []) ∷ [])
+
+remarked_read : read_script remarked ≡ Ok (record { edits = remove_unit (codes "U") ∷ payout (pos 2) ∷ []; lines = 3 ∷ 6 ∷ [] })
+unfolding remarked
+remarked_read = refl
+
 -- the first line alone
 nothing_read : read_script (codes "file_type=PNS_edits_v1") ≡ Ok (script_of [])
 nothing_read = refl

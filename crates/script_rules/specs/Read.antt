@@ -1,5 +1,5 @@
 -- The script that a text stands for, or its first fault of form: the least line that has one, and of the faults there the one
--- with the least number. An empty line is skipped but counted.
+-- with the least number. An empty line is skipped but counted, and so is a remark.
 use Rattle.std.specs.Prelude.{◌+◌, ℤ, ℕ, List, [], ◌∷◌, map, codes, Option, Some, None, Result, Ok, Err, pos, if◌then◌else◌}
 use Rattle.std.specs.Str.{bytes_eq}
 use Rattle.edit_rules.specs.Edit.{Edit, price, bounds, kind, capacity, fix, proportional, rename_material, rename_unit, add_material, remove_material, add_unit, remove_unit, exclude, unexclude, investment, payout, Script}

@@ -20,6 +20,7 @@ use max_structure::maximal;
 use pgraph::Graph;
 use pns_io::{Outputs, Sink};
 use pns_problem::Problem;
+use progress::{Effort, Watch};
 use std::alloc::{AllocError, Global};
 use studio_rules::Status;
 use tree_laws::accepted_is_optimal;
@@ -93,22 +94,23 @@ fn say_summary<K: Sink, E: Sink>(
 }
 
 /// Says a summary of what the search solves; or how far it came.
-pub fn say_summed<K: Sink, E: Sink>(
+pub fn say_summed<K: Sink, E: Sink, W: Watch>(
     alloc: Global,
     out: &mut Outputs<K, E>,
     problem: &Problem,
-    budget: u64,
+    effort: Effort<W>,
 ) -> Status
-    requires some { 1 ≤ budget }
-    requires few { budget ≤ 1000000 }
-    ensures { Ends (Tells (SummaryWork budget problem.now)) out.old out.new result }
+    requires some { 1 ≤ effort.budget }
+    requires few { effort.budget ≤ 1000000 }
+    ensures { Ends (Tells (SummaryWork effort.budget problem.now)) out.old out.new result }
 {
     let Ok(graph) = Graph::of(alloc, problem) else {
         return say_memory(out);
     };
     problem.is_valid();
     accepted_is_optimal();
-    match search_all(alloc, problem, &graph, budget) {
+    let budget = u64::from(effort.budget);
+    match search_all(alloc, problem, &graph, effort) {
         Found::Solved { network, tree } => {
             say_summary(alloc, out, problem, &graph, &network, &tree)
         }

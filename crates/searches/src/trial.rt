@@ -7,25 +7,26 @@ use crate::summary::say_summed;
 use endings::say::say_memory;
 use generator::generate;
 use pns_io::{Outputs, Sink};
+use progress::{Effort, Watch};
 use std::alloc::Global;
 use studio_rules::Status;
 
 /// Says what the search of the problem of this number with so many operating units, 1 to 128, comes to.
-pub fn trial<K: Sink, E: Sink>(
+pub fn trial<K: Sink, E: Sink, W: Watch>(
     alloc: Global,
     number: u64,
     units: u64,
-    budget: u64,
+    effort: Effort<W>,
     out: &mut Outputs<K, E>,
 ) -> Status
     requires some { 1 ≤ units }
     requires few { units ≤ 128 }
-    requires some_nodes { 1 ≤ budget }
-    requires few_nodes { budget ≤ 1000000 }
-    ensures { Ends (Tells (TrialWork number units budget)) out.old out.new result }
+    requires some_nodes { 1 ≤ effort.budget }
+    requires few_nodes { effort.budget ≤ 1000000 }
+    ensures { Ends (Tells (TrialWork number units effort.budget)) out.old out.new result }
 {
     match generate(alloc, number, units as u32) {
-        Ok(problem) => say_summed(alloc, out, &problem, budget),
+        Ok(problem) => say_summed(alloc, out, &problem, effort),
         Err(_) => say_memory(out),
     }
 }

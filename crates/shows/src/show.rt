@@ -22,6 +22,7 @@ use network_commands::verdict_text;
 use pgraph::{Graph, Site};
 use pns_io::{Outputs, Shelf, Sink};
 use pns_problem::Problem;
+use progress::{Effort, Watch};
 use searches::{Certificate, certificate_of, claimed, search_all, stopped_notes};
 use std::alloc::Global;
 use studio_rules::Status;
@@ -99,22 +100,23 @@ fn say_found<K: Sink, E: Sink>(
 }
 
 /// Searches the problem, and says what was found.
-fn say_shown<K: Sink, E: Sink>(
+fn say_shown<K: Sink, E: Sink, W: Watch>(
     alloc: Global,
     out: &mut Outputs<K, E>,
     problem: &Problem,
-    budget: u64,
+    effort: Effort<W>,
 ) -> Status
-    requires some { 1 ≤ budget }
-    requires few { budget ≤ 1000000 }
-    ensures { Ends (Tells (ShowWork budget problem.now)) out.old out.new result }
+    requires some { 1 ≤ effort.budget }
+    requires few { effort.budget ≤ 1000000 }
+    ensures { Ends (Tells (ShowWork effort.budget problem.now)) out.old out.new result }
 {
     let Ok(graph) = Graph::of(alloc, problem) else {
         return say_memory(out);
     };
     problem.is_valid();
     accepted_is_optimal();
-    let found = search_all(alloc, problem, &graph, budget);
+    let budget = u64::from(effort.budget);
+    let found = search_all(alloc, problem, &graph, effort);
     let site = Site::of(problem, &graph);
     say_found(alloc, out, &site, found, budget)
 }
@@ -125,20 +127,20 @@ pub fn shown_is_proved()
 {}
 
 /// Says for people what the search of the file's problem finds and what its tree proves.
-pub fn show<F: Shelf, K: Sink, E: Sink>(
+pub fn show<F: Shelf, K: Sink, E: Sink, W: Watch>(
     alloc: Global,
     file: &str,
-    budget: u64,
+    effort: Effort<W>,
     shelf: &mut F,
     out: &mut Outputs<K, E>,
 ) -> Status
-    requires some { 1 ≤ budget }
-    requires few { budget ≤ 1000000 }
-    ensures ends { Ends (FileSays (ShowWork budget) file.now (F.state shelf.old) (F.state shelf.new)) out.old out.new result }
+    requires some { 1 ≤ effort.budget }
+    requires few { effort.budget ≤ 1000000 }
+    ensures ends { Ends (FileSays (ShowWork effort.budget) file.now (F.state shelf.old) (F.state shelf.new)) out.old out.new result }
     ensures keeps { Keeps (F.state shelf.old) (F.state shelf.new) }
 {
     match problem_of(alloc, shelf, out, file) {
-        Ok(problem) => say_shown(alloc, out, &problem, budget),
+        Ok(problem) => say_shown(alloc, out, &problem, effort),
         Err(status) => status,
     }
 }

@@ -11,13 +11,14 @@ use crate::desk::Desk;
 use crate::outcome::{Range, RangeFault};
 use branch_tree::Network;
 use pgraph::Site;
+use progress::{Effort, Watch};
 use stability_laws::{best_between, present_stays};
 use stability_rules::{Side, Spot};
 use std::alloc::Global;
 
 impl<'a> Case<'a> {
     /// The range of a network that is optimal now.
-    fn both_sides(&self, desk: &mut Desk) -> Result<Range, RangeFault>
+    fn both_sides<W: Watch>(&self, desk: &mut Desk<W>) -> Result<Range, RangeFault>
         requires desk { IsDesk self.now desk.old }
         requires best { IsBestAt self.now.problem self.now.spot self.now.network (value_at self.now.problem self.now.spot) }
         ensures range { IfOk result (λ r. IsRange self.now.problem self.now.spot self.now.network r.from r.to r.below r.above) }
@@ -36,7 +37,7 @@ impl<'a> Case<'a> {
     }
 
     /// The range, or why none is told, over a desk with the present value.
-    fn range(&self, desk: &mut Desk) -> Result<Range, RangeFault>
+    fn range<W: Watch>(&self, desk: &mut Desk<W>) -> Result<Range, RangeFault>
         requires problem { desk.old.problem ≡ self.now.problem }
         requires desk { IsDesk self.now desk.old }
         ensures range { IfOk result (λ r. IsRange self.now.problem self.now.spot self.now.network r.from r.to r.below r.above) }
@@ -51,26 +52,28 @@ impl<'a> Case<'a> {
     }
 }
 
-/// The largest interval of allowed values of the spot, round the present one, at which the network with its flows is optimal among
-/// the allowed ones: prices and proportional costs from -10^15 to 10^15 millionths, fixed costs from 0. The network passes as a claim. Each search has the whole budget of nodes. `NotBest` comes with a network of least cost
-/// that is cheaper now; `Spent` and `Past` as a search stops at their value, which is the present one or far away, and `PastCost`
-/// where the network's cost is past the range at a value far away. At a value far away the network is known to be optimal half the
-/// way there.
-pub fn range(
+/// The largest interval of allowed values of the spot, round the present one, at which the network
+/// with its flows is optimal among the allowed ones: prices and proportional costs from -10^15 to
+/// 10^15 millionths, fixed costs from 0. The network passes as a claim. Each search has the whole
+/// budget of nodes. `NotBest` comes with a network of least cost that is cheaper now; `Spent` and
+/// `Past` as a search stops at their value, which is the present one or far away, and `PastCost`
+/// where the network's cost overflows at a value far away. At a value far away the network is known
+/// to be optimal half the way there.
+pub fn range<W: Watch>(
     alloc: Global,
     site: &Site<'_>,
     network: &Network,
     spot: Spot,
-    budget: u32,
+    effort: Effort<W>,
 ) -> Result<Range, RangeFault>
     requires passes { IsFeasible site.now network.now }
     requires known { KnowsSpot site.now spot }
-    requires some { 1 ≤ budget }
+    requires some { 1 ≤ effort.budget }
     ensures range { IfOk result (λ r. IsRange site.now spot network.now r.from r.to r.below r.above) }
-    ensures refusal { IfErr result (IsRefusal site.now spot network.now budget) }
+    ensures refusal { IfErr result (IsRefusal site.now spot network.now effort.budget) }
 {
-    let case = Case::of(alloc, site, network, spot, budget);
-    let Ok(mut desk) = Desk::of(&case) else {
+    let case = Case::of(alloc, site, network, spot, effort.budget);
+    let Ok(mut desk) = Desk::of(&case, effort.watch) else {
         return Err(RangeFault::Memory);
     };
     case.range(&mut desk)

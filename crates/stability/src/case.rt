@@ -82,8 +82,8 @@ impl<'a> Case<'a> {
         }
     }
 
-    /// The problem is valid, the spot is one of it, its value is allowed, and the network passes as a claim. A call tells a proof so, and
-    /// does nothing.
+    /// The problem is valid, the spot is one of it, its value is allowed, and the network passes as
+    /// a claim. A call tells a proof so, and does nothing.
     pub(crate) fn is_known(&self)
         ensures valid { IsValid self.now.problem }
         ensures known { KnowsSpot self.now.problem self.now.spot }

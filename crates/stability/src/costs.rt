@@ -17,7 +17,8 @@ use pgraph::Graph;
 use pns_problem::Problem;
 use std::alloc::{AllocError, Global};
 
-/// What the network's flows cost in the problem, over its `d`; or the first step of this cost that is out of range.
+/// What the network's flows cost in the problem, over its `d`; or the first step of this cost that
+/// is out of range.
 pub(crate) fn cost_in(problem: &Problem, graph: &Graph, network: &Network) -> Result<i128, PastSum>
     requires graph { shape graph.now ≡ shape_of problem.now }
     requires known { (u : ℕ) → has network.now.units u ≡ true → u < (shape graph.now).units }

@@ -1,4 +1,5 @@
-//! The problem of a case with one value after the other in the spot, and what searches over it have in common.
+//! The problem of a case with one value after the other in the spot, and what searches over it have
+//! in common.
 ghost use Rattle.std.specs.Prelude.{◌≡◌, ◌≤◌, IfOk, Some};
 ghost use Rattle.pns_rules.specs.Shape.{shape_of};
 ghost use Rattle.pgraph.specs.Tables.{shape};
@@ -12,40 +13,71 @@ ghost use Rattle.stability.specs.Desk.{IsDesk};
 
 use crate::case::Case;
 use crate::setting::set;
-use abb_search::{Found, Workspace};
+use abb_search::{FlowWorkspace, Found, search_with, workspace_of};
 use branch_tree::Network;
-use pgraph::Graph;
+use pgraph::{Graph, Site};
 use pns_problem::Problem;
+use progress::{Effort, Watch};
 use stability_laws::{present_stays, valued_is_valid};
 use std::alloc::{AllocError, Global};
 use std::marker::Model;
 use unit_sets::{Node, UnitSet};
 
-/// A copy of a case's problem, of which the spot alone is set from value to value, with what its searches keep.
+/// A copy of a case's problem, of which the spot alone is set from value to value, with what its
+/// searches keep, and who watches them.
 #[derive(Drop)]
-pub(crate) struct Desk {
+pub(crate) struct Desk<W: Watch> {
     problem: Problem,
-    workspace: Workspace,
+    workspace: FlowWorkspace,
+    watch: W,
 }
 
-impl Model for Desk {
+impl<W: Watch> Model for Desk<W> {
     ghost use Rattle.stability.specs.Desk as desks;
 
     ghost Value = { desks.Desk };
 
-    ghost view = { λ d. record { problem = d.problem; makers = d.workspace } };
+    ghost view = { λ d. record { problem = d.problem; makers = d.workspace.makers.makers } };
 }
 
-impl Desk {
-    /// A desk with the present value. `Err` comes for want of memory alone.
-    pub(crate) fn of(case: &Case) -> Result<Desk, AllocError>
+/// Searches all structures of the site's problem for a network that is cheaper than this one.
+fn search_at<W: Watch>(
+    workspace: &mut FlowWorkspace,
+    site: &Site<'_>,
+    effort: Effort<W>,
+    network: Network,
+) -> Found
+    requires makers { AreMakersOf (shape_of site.now) workspace.old.makers.makers }
+    requires some { 1 ≤ effort.budget }
+    requires passes { IsFeasible site.now network }
+    ensures found { IsFound site.now first_node effort.budget result }
+    ensures against { IsAgainst (Some network) result }
+    ensures makers { workspace.new.makers.makers ≡ workspace.old.makers.makers }
+{
+    let start = Node {
+        inside: UnitSet::empty(),
+        outside: UnitSet::empty(),
+    };
+    match workspace.rebind(site) {
+        Ok(()) => search_with(workspace, site, start, effort, Some(network)),
+        Err(_) => Found::Memory,
+    }
+}
+
+impl<W: Watch> Desk<W> {
+    /// A desk with the present value. `Err` comes when memory is refused.
+    pub(crate) fn of(case: &Case, watch: W) -> Result<Desk<W>, AllocError>
         ensures problem { IfOk result (λ d. d.problem ≡ case.now.problem) }
         ensures desk { IfOk result (IsDesk case.now) }
     {
         present_stays();
         let problem = case.problem.copy(case.alloc)?;
-        let workspace = Workspace::open(case.alloc, &problem, case.graph)?;
-        Ok(Desk { problem, workspace })
+        let workspace = workspace_of(case.alloc, &Site::of(&problem, case.graph))?;
+        Ok(Desk {
+            problem,
+            workspace,
+            watch,
+        })
     }
 
     /// The case's problem with the value that was set last.
@@ -69,13 +101,7 @@ impl Desk {
     }
 
     /// Searches all structures of the problem for a network that is cheaper than this one.
-    pub(crate) fn search(
-        &mut self,
-        alloc: Global,
-        graph: &Graph,
-        budget: u32,
-        network: Network,
-    ) -> Found
+    pub(crate) fn search(&mut self, graph: &Graph, budget: u32, network: Network) -> Found
         requires graph { shape graph.now ≡ shape_of self.old.problem }
         requires own { AreMakersOf (shape graph.now) self.old.makers }
         requires some { 1 ≤ budget }
@@ -84,11 +110,11 @@ impl Desk {
         ensures against { IsAgainst (Some network) result }
         ensures same { self.new ≡ self.old }
     {
-        let start = Node {
-            inside: UnitSet::empty(),
-            outside: UnitSet::empty(),
+        let site = Site::of(&self.problem, graph);
+        let effort = Effort {
+            budget,
+            watch: &mut self.watch,
         };
-        self.workspace
-            .search(alloc, &self.problem, graph, start, budget, Some(network))
+        search_at(&mut self.workspace, &site, effort, network)
     }
 }

@@ -1,4 +1,5 @@
-//! Where the network costs as much as another one, as a guess: nothing is promised of it, and whoever takes it looks there.
+//! Where the network costs as much as another one, as a guess: nothing is promised of it, and
+//! whoever takes it looks there.
 ghost use Rattle.std.specs.Prelude.{◌≡◌, ◌<◌, ℕ, true};
 ghost use Rattle.number_sets.specs.Sets.{has};
 ghost use Rattle.pns_rules.specs.Shape.{shape_of};
@@ -13,6 +14,7 @@ use branch_tree::Network;
 use int_rows::{checked_difference, checked_product, lowest_terms};
 use pgraph::Graph;
 use pns_problem::Problem;
+use progress::Watch;
 use stability_laws::structures_stay;
 use stability_rules::Side;
 
@@ -58,7 +60,12 @@ fn steps_of(lead: i128, next: i128) -> Option<u64> {
 
 impl<'a> Case<'a> {
     /// How far away the other network is still no cheaper, on a side where it is in the end.
-    pub(crate) fn meeting(&self, desk: &mut Desk, side: Side, other: &Network) -> Option<u64>
+    pub(crate) fn meeting<W: Watch>(
+        &self,
+        desk: &mut Desk<W>,
+        side: Side,
+        other: &Network,
+    ) -> Option<u64>
         requires desk { IsDesk self.now desk.old }
         requires known { (u : ℕ) → has other.now.units u ≡ true → u < (shape_of self.now.problem).units }
         requires allowed { IsAllowedValue self.now.spot (value_on side (value_at self.now.problem self.now.spot) 1) }

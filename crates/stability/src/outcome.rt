@@ -2,8 +2,9 @@
 use branch_tree::{Columns, Network, Tree};
 use flow_rules::Place;
 
-/// The values of a spot at which a network is optimal, in millionths: each from `from` to `to`. One step below `from` the network
-/// `below` is cheaper, and one step above `to` the network `above`; none where that end is the limit of the values.
+/// The values of a spot at which a network is optimal, in millionths: each from `from` to `to`. One
+/// step below `from` the network `below` is cheaper, and one step above `to` the network `above`;
+/// none where that end is the limit of the values.
 #[derive(Drop)]
 pub struct Range {
     pub from: i64,
@@ -25,7 +26,7 @@ pub enum RangeFault {
         next: u32,
         options: u128,
     },
-    /// A number is past the range in the search at this value, as with `Found::Past`.
+    /// A number overflows in the search at this value, as with `Found::Past`.
     Past {
         value: i64,
         best: Option<Network>,
@@ -34,7 +35,7 @@ pub enum RangeFault {
         nonbasic: Columns,
         place: Place,
     },
-    /// A step of the network's cost is past the range at this value.
+    /// A step of the network's cost overflows at this value.
     PastCost {
         value: i64,
         at: u32,

@@ -16,6 +16,7 @@ use abb_search::Found;
 use branch_tree::Network;
 use frac128::CostOver;
 use pns_problem::Problem;
+use progress::Watch;
 use stability_laws::{present_stays, structures_stay};
 use stability_rules::Side;
 use std::alloc::AllocError;
@@ -47,10 +48,11 @@ impl<'a> Case<'a> {
         }
     }
 
-    /// Searches the problem with this value in the spot for a network that is cheaper than that of the case.
-    fn search(
+    /// Searches the problem with this value in the spot for a network that is cheaper than that of
+    /// the case.
+    fn search<W: Watch>(
         &self,
-        desk: &mut Desk,
+        desk: &mut Desk<W>,
         value: i64,
         network: Network,
     ) -> Result<Option<Network>, RangeFault>
@@ -70,7 +72,7 @@ impl<'a> Case<'a> {
             cost: network.cost(),
             d: network.d(),
         };
-        match desk.search(self.alloc, self.graph, self.budget, network) {
+        match desk.search(self.graph, self.budget, network) {
             Found::Solved { network, tree: _ } => {
                 network.is_sized();
                 if is_cheaper(&much, &network) {
@@ -118,7 +120,10 @@ impl<'a> Case<'a> {
     }
 
     /// A network of least cost that is cheaper now, if there is one.
-    pub(crate) fn probe_now(&self, desk: &mut Desk) -> Result<Option<Network>, RangeFault>
+    pub(crate) fn probe_now<W: Watch>(
+        &self,
+        desk: &mut Desk<W>,
+    ) -> Result<Option<Network>, RangeFault>
         requires problem { desk.old.problem ≡ self.now.problem }
         requires desk { IsDesk self.now desk.old }
         ensures probed { IfOk result (IsProbed self.now.problem self.now.spot self.now.network (value_at self.now.problem self.now.spot)) }
@@ -134,7 +139,11 @@ impl<'a> Case<'a> {
     }
 
     /// A network of least cost that is cheaper with this value in the spot, if there is one.
-    pub(crate) fn probe(&self, desk: &mut Desk, value: i64) -> Result<Option<Network>, RangeFault>
+    pub(crate) fn probe<W: Watch>(
+        &self,
+        desk: &mut Desk<W>,
+        value: i64,
+    ) -> Result<Option<Network>, RangeFault>
         requires desk { IsDesk self.now desk.old }
         requires allowed { IsAllowedValue self.now.spot value }
         ensures probed { IfOk result (IsProbed self.now.problem self.now.spot self.now.network value) }
@@ -149,9 +158,9 @@ impl<'a> Case<'a> {
     }
 
     /// The same so far away from the present value.
-    pub(crate) fn probe_at(
+    pub(crate) fn probe_at<W: Watch>(
         &self,
-        desk: &mut Desk,
+        desk: &mut Desk<W>,
         side: Side,
         away: u64,
     ) -> Result<Option<Network>, RangeFault>

@@ -1,4 +1,5 @@
-//! Whether the network's cost rises on a side as little as that of any structure can: then no search is needed there.
+//! Whether the network's cost rises on a side as little as that of any structure can: then no
+//! search is needed there.
 ghost use Rattle.std.specs.Prelude.{◌≡◌, ◌≤◌, ◌<◌, ◌^◌, ◌*ℤ◌, neg_ℤ, true, length, unsigned_abs, IfSome};
 ghost use Rattle.problem_rules.specs.Problem.{unit_at};
 ghost use Rattle.problem_rules.specs.WellFormed.{IsInRange};
@@ -16,6 +17,7 @@ use crate::costs::cost_in;
 use crate::desk::Desk;
 use int_rows::{checked_product, checked_sum};
 use pns_problem::{Kind, Problem};
+use progress::Watch;
 use stability_laws::structures_stay;
 use stability_rules::{Side, Spot};
 
@@ -131,7 +133,8 @@ fn least_rise(problem: &Problem, spot: Spot, side: Side) -> i128
 }
 
 impl<'a> Case<'a> {
-    /// What the network costs one step away if its cost rises as little as that of any structure can.
+    /// What the network costs one step away if its cost rises as little as that of any structure
+    /// can.
     fn least_cost(&self, side: Side) -> Option<i128>
         ensures { IfSome result (λ least. least ≡ least_cost self.now side) }
     {
@@ -157,7 +160,7 @@ impl<'a> Case<'a> {
     }
 
     /// What the network costs one step away.
-    fn cost_near(&self, desk: &mut Desk, side: Side) -> Option<i128>
+    fn cost_near<W: Watch>(&self, desk: &mut Desk<W>, side: Side) -> Option<i128>
         requires desk { IsDesk self.now desk.old }
         requires allowed { IsAllowedValue self.now.spot (there self.now side 1) }
         ensures cost { IfSome result (λ cost. cost ≡ cost_there self.now side 1) }
@@ -169,7 +172,7 @@ impl<'a> Case<'a> {
     }
 
     /// Whether the network costs as little more one step away as any structure can.
-    pub(crate) fn rises_least(&self, desk: &mut Desk, side: Side) -> bool
+    pub(crate) fn rises_least<W: Watch>(&self, desk: &mut Desk<W>, side: Side) -> bool
         requires desk { IsDesk self.now desk.old }
         requires allowed { IsAllowedValue self.now.spot (there self.now side 1) }
         ensures least { result ≡ true → cost_there self.now side 1 ≡ least_cost self.now side }

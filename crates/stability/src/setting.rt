@@ -42,7 +42,8 @@ pub(crate) fn value_at(problem: &Problem, spot: Spot) -> i64
     }
 }
 
-/// The problem with this value, in millionths, in the spot, and all else as it is. Its only refusal is want of memory.
+/// The problem with this value, in millionths, in the spot, and all else as it is. It fails only
+/// when memory is refused.
 pub fn valued(
     alloc: Global,
     problem: &Problem,

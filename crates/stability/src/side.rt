@@ -10,6 +10,7 @@ use crate::case::Case;
 use crate::desk::Desk;
 use crate::outcome::RangeFault;
 use branch_tree::Network;
+use progress::Watch;
 use stability_laws::{best_away, best_between};
 use stability_rules::Side;
 
@@ -28,7 +29,8 @@ pub(crate) struct Bracket {
     beyond: Beyond,
 }
 
-/// How far away the range ends, and the network that is cheaper a step beyond; none at the limit of the values.
+/// How far away the range ends, and the network that is cheaper a step beyond; none at the limit of
+/// the values.
 #[derive(Drop)]
 pub(crate) struct End {
     pub(crate) away: u64,
@@ -57,7 +59,8 @@ fn digits(number: u64) -> u32
     64 - number.leading_zeros()
 }
 
-/// A number between two others: in the middle by their lengths and at most half the greater, where that is above the lesser.
+/// A number between two others: in the middle by their lengths and at most half the greater, where
+/// that is above the lesser.
 fn middle(low: u64, high: u64) -> u64
     requires { low < high }
 {
@@ -104,9 +107,9 @@ impl Bracket {
 }
 
 impl<'a> Case<'a> {
-    /// A guess where to look next: where the lines of the two networks meet; on the way out, where a budget was spent, which costs all of
-    /// it; or, where a number was past the range, between by length.
-    fn guess(&self, desk: &mut Desk, side: Side, bracket: &Bracket) -> u64
+    /// A guess where to look next: where the lines of the two networks meet; on the way out, where
+    /// a budget was spent, which costs all of it; or, where a number overflowed, between by length.
+    fn guess<W: Watch>(&self, desk: &mut Desk<W>, side: Side, bracket: &Bracket) -> u64
         requires desk { IsDesk self.now desk.old }
         requires is_bracket { IsBracket self.now side bracket.now }
         requires open { bracket.now.good + 1 < bracket.now.bad }
@@ -123,7 +126,7 @@ impl<'a> Case<'a> {
     }
 
     /// Where to look next.
-    fn next(&self, desk: &mut Desk, side: Side, bracket: &Bracket) -> u64
+    fn next<W: Watch>(&self, desk: &mut Desk<W>, side: Side, bracket: &Bracket) -> u64
         requires desk { IsDesk self.now desk.old }
         requires is_bracket { IsBracket self.now side bracket.now }
         requires open { bracket.now.good + 1 < bracket.now.bad }
@@ -136,7 +139,7 @@ impl<'a> Case<'a> {
     }
 
     /// The bracket after one more search.
-    fn narrowed(&self, desk: &mut Desk, side: Side, bracket: Bracket) -> Bracket
+    fn narrowed<W: Watch>(&self, desk: &mut Desk<W>, side: Side, bracket: Bracket) -> Bracket
         requires desk { IsDesk self.now desk.old }
         requires is_bracket { IsBracket self.now side bracket }
         requires open { bracket.good + 1 < bracket.bad }
@@ -183,7 +186,12 @@ impl<'a> Case<'a> {
         }
     }
 
-    fn narrow(&self, desk: &mut Desk, side: Side, bracket: Bracket) -> Result<End, RangeFault>
+    fn narrow<W: Watch>(
+        &self,
+        desk: &mut Desk<W>,
+        side: Side,
+        bracket: Bracket,
+    ) -> Result<End, RangeFault>
         requires desk { IsDesk self.now desk.old }
         requires is_bracket { IsBracket self.now side bracket }
         ensures end { IfOk result (IsEnd self.now side) }
@@ -199,9 +207,10 @@ impl<'a> Case<'a> {
         }
     }
 
-    /// The end of the range on this side, where the network is optimal now: where its cost rises as little as any can the range goes to
-    /// the limit of the values, and else the limit is looked at first.
-    pub(crate) fn end(&self, desk: &mut Desk, side: Side) -> Result<End, RangeFault>
+    /// The end of the range on this side, where the network is optimal now: where its cost rises as
+    /// little as any can the range goes to the limit of the values, and else the limit is looked at
+    /// first.
+    pub(crate) fn end<W: Watch>(&self, desk: &mut Desk<W>, side: Side) -> Result<End, RangeFault>
         requires desk { IsDesk self.now desk.old }
         requires best { IsBestAt self.now.problem self.now.spot self.now.network (value_at self.now.problem self.now.spot) }
         ensures end { IfOk result (IsEnd self.now side) }

@@ -29,6 +29,7 @@ use network_commands::network_of;
 use pgraph::{Graph, Site};
 use pns_io::{Outputs, Shelf, Sink};
 use pns_problem::Problem;
+use progress::{Effort, Watch};
 use searches::certificate_of;
 use stability::{RangeFault, Spot, range, valued};
 use stability_laws::{structures_stay, valued_is_valid};
@@ -179,25 +180,25 @@ fn say_refusal<K: Sink, E: Sink>(
 }
 
 /// Says the range of a spot for a network, or why none is told.
-fn say_range<K: Sink, E: Sink>(
+fn say_range<K: Sink, E: Sink, W: Watch>(
     alloc: Global,
     out: &mut Outputs<K, E>,
     problem: &Problem,
     graph: &Graph,
     network: &Network,
     spot: Spot,
-    budget: u64,
+    effort: Effort<W>,
 ) -> Status
     requires graph { shape graph.now ≡ shape_of problem.now }
     requires passes { IsFeasible problem.now network.now }
     requires known { KnowsSpot problem.now spot }
-    requires some { 1 ≤ budget }
-    requires few { budget ≤ 1000000 }
-    ensures { Ends (Tells (SpotWork spot budget problem.now network.now)) out.old out.new result }
+    requires some { 1 ≤ effort.budget }
+    requires few { effort.budget ≤ 1000000 }
+    ensures { Ends (Tells (SpotWork spot effort.budget problem.now network.now)) out.old out.new result }
 {
     structures_stay();
     let site = Site::of(problem, graph);
-    match range(alloc, &site, network, spot, budget as u32) {
+    match range(alloc, &site, network, spot, effort) {
         Ok(range) => {
             let printed = print_range(alloc, problem, &range, &mut out.out);
             say_printed(out, printed, Status::Done)
@@ -207,73 +208,73 @@ fn say_range<K: Sink, E: Sink>(
 }
 
 /// Says the range for the network of a claim, of which each line is judged.
-fn say_claimed<K: Sink, E: Sink>(
+fn say_claimed<K: Sink, E: Sink, W: Watch>(
     alloc: Global,
     out: &mut Outputs<K, E>,
     problem: &Problem,
     claim: Claim,
     tree: &Tree,
     spot: Spot,
-    budget: u64,
+    effort: Effort<W>,
 ) -> Status
     requires known { KnowsSpot problem.now spot }
-    requires some { 1 ≤ budget }
-    requires few { budget ≤ 1000000 }
-    ensures { Ends (Tells (OnNetwork (SpotWork spot budget) problem.now (claim_of claim) tree.now)) out.old out.new result }
+    requires some { 1 ≤ effort.budget }
+    requires few { effort.budget ≤ 1000000 }
+    ensures { Ends (Tells (OnNetwork (SpotWork spot effort.budget) problem.now (claim_of claim) tree.now)) out.old out.new result }
 {
     let Ok(graph) = Graph::of(alloc, problem) else {
         return say_memory(out);
     };
     let site = Site::of(problem, &graph);
     match network_of(alloc, out, &site, claim) {
-        Ok(network) => say_range(alloc, out, problem, &graph, &network, spot, budget),
+        Ok(network) => say_range(alloc, out, problem, &graph, &network, spot, effort),
         Err(status) => status,
     }
 }
 
 /// Says the same, or that the name is none of the problem.
-fn say_named<K: Sink, E: Sink>(
+fn say_named<K: Sink, E: Sink, W: Watch>(
     alloc: Global,
     out: &mut Outputs<K, E>,
     problem: &Problem,
     claim: Claim,
     tree: &Tree,
     spot: Option<Spot>,
-    budget: u64,
+    effort: Effort<W>,
     notes: &Notes,
 ) -> Status
     requires known { IfSome spot (KnowsSpot problem.now) }
-    requires some { 1 ≤ budget }
-    requires few { budget ≤ 1000000 }
-    ensures { Ends (Tells (NamedWork spot budget problem.now (claim_of claim) tree.now)) out.old out.new result }
+    requires some { 1 ≤ effort.budget }
+    requires few { effort.budget ≤ 1000000 }
+    ensures { Ends (Tells (NamedWork spot effort.budget problem.now (claim_of claim) tree.now)) out.old out.new result }
 {
     match spot {
-        Some(spot) => say_claimed(alloc, out, problem, claim, tree, spot, budget),
+        Some(spot) => say_claimed(alloc, out, problem, claim, tree, spot, effort),
         None => tell(out, b"unknown name\n", notes.bytes(), Status::UnknownName),
     }
 }
 
 /// Says the same for the claim of a tree file.
-fn say_tree<F: Shelf, K: Sink, E: Sink>(
+fn say_tree<F: Shelf, K: Sink, E: Sink, W: Watch>(
     alloc: Global,
     problem: &Problem,
     file: &str,
     kind: SpotKind,
     name: &str,
-    budget: u64,
+    effort: Effort<W>,
     shelf: &mut F,
     out: &mut Outputs<K, E>,
 ) -> Status
-    requires some { 1 ≤ budget }
-    requires few { budget ≤ 1000000 }
-    ensures ends { Ends (Says (OnTree (StableWork kind name.now budget) (F.state shelf.old).held file.now problem.now) (λ other. other ≡ file.now) (F.state shelf.old) (F.state shelf.new)) out.old out.new result }
+    requires some { 1 ≤ effort.budget }
+    requires few { effort.budget ≤ 1000000 }
+    ensures ends { Ends (Says (OnTree (StableWork kind name.now effort.budget) (F.state shelf.old).held file.now problem.now) (λ other. other ≡ file.now) (F.state shelf.old) (F.state shelf.new)) out.old out.new result }
     ensures keeps { Keeps (F.state shelf.old) (F.state shelf.new) }
 {
     match tree_of(alloc, shelf, out, file, problem) {
         Ok((claim, tree)) => {
             let spot = spot_named(problem, kind, name);
             let notes = unknown_name(alloc, problem, kind, name);
-            say_named(alloc, out, problem, claim, &tree, spot, budget, &notes)
+            say_named(alloc, out, problem, claim, &tree, spot, effort, &notes)
         }
         Err(status) => status,
     }
@@ -281,23 +282,23 @@ fn say_tree<F: Shelf, K: Sink, E: Sink>(
 
 /// Says how far the price or the cost of this name may move while the network that the tree of the one file claims on the problem of
 /// the other stays optimal among the allowed ones, with a network that is cheaper one step beyond each end.
-pub fn stable<F: Shelf, K: Sink, E: Sink>(
+pub fn stable<F: Shelf, K: Sink, E: Sink, W: Watch>(
     alloc: Global,
     file: &str,
     tree: &str,
     kind: SpotKind,
     name: &str,
-    budget: u64,
+    effort: Effort<W>,
     shelf: &mut F,
     out: &mut Outputs<K, E>,
 ) -> Status
-    requires some { 1 ≤ budget }
-    requires few { budget ≤ 1000000 }
-    ensures ends { Ends (TwoFilesSay (OnTree (StableWork kind name.now budget)) file.now tree.now (F.state shelf.old) (F.state shelf.new)) out.old out.new result }
+    requires some { 1 ≤ effort.budget }
+    requires few { effort.budget ≤ 1000000 }
+    ensures ends { Ends (TwoFilesSay (OnTree (StableWork kind name.now effort.budget)) file.now tree.now (F.state shelf.old) (F.state shelf.new)) out.old out.new result }
     ensures keeps { Keeps (F.state shelf.old) (F.state shelf.new) }
 {
     match problem_of(alloc, shelf, out, file) {
-        Ok(problem) => say_tree(alloc, &problem, tree, kind, name, budget, shelf, out),
+        Ok(problem) => say_tree(alloc, &problem, tree, kind, name, effort, shelf, out),
         Err(status) => status,
     }
 }

@@ -60,7 +60,8 @@ fn told(problem: &Problem, set: UnitSet, certified: Certified) -> Option<Structu
     }
 }
 
-/// What is certified of the flows of the set, if anything. Only a set that is allowed is asked for, since a network that is certified is allowed.
+/// What is certified of the flows of the set, if anything. Only a set that is allowed is asked for,
+/// since a network that is certified is allowed.
 pub(crate) fn certified(
     alloc: Global,
     site: &Site<'_>,
@@ -76,7 +77,7 @@ pub(crate) fn certified(
         return Ok(None);
     }
     let node = node_of(problem, set);
-    let mut bounds = CertifiedBounds::open(alloc, problem)?;
+    let mut bounds = CertifiedBounds::open(alloc, site)?;
     let certified = bounds.look(alloc, site, node, true)?;
     Ok(told(problem, set, certified))
 }

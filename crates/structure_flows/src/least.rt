@@ -137,8 +137,8 @@ fn walked(alloc: Global, site: &Site<'_>, set: UnitSet) -> Result<StructureFlows
     }
 }
 
-/// The flows of a solution structure, allowed or not: what the path of its program gives, and where a number on the path is out of
-/// range, what is certified without it.
+/// The flows of a solution structure, allowed or not: what the path of its program gives, and where
+/// a number on the path is out of range, what is certified without it.
 pub fn flows_of(alloc: Global, site: &Site<'_>, set: UnitSet) -> Result<StructureFlows, AllocError>
     requires known { (u : ℕ) → has set u ≡ true → u < length site.now.units }
     requires structure { IsStructure (shape_of site.now) (has set) }

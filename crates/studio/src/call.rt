@@ -30,6 +30,7 @@ use part_text::parts_are_read_once;
 use period_searches::expansion::expand;
 use period_searches::planned::periods;
 use pns_io::{Outputs, Shelf, Sink};
+use progress::{Effort, Watch};
 use rank_commands::{accepted_are_best, rankcheck};
 use rank_searches::rank;
 use searches::solve::solve;
@@ -43,11 +44,12 @@ use structure_commands::max::max;
 use studio_rules::Status;
 use studio_words::{Command, command_of};
 
-fn perform<F: Shelf, K: Sink, E: Sink>(
+fn perform<F: Shelf, K: Sink, E: Sink, W: Watch>(
     alloc: Global,
     command: Command<'_>,
     shelf: &mut F,
     out: &mut Outputs<K, E>,
+    watch: W,
 ) -> Status
     requires { AreWithin (command_view command) }
     ensures ends { Ends (CommandSays (F.state shelf.old) (F.state shelf.new) (command_view command.entry)) out.old out.new result }
@@ -72,20 +74,62 @@ fn perform<F: Shelf, K: Sink, E: Sink>(
         Command::Drawing(file) => plant_graph(alloc, file, shelf, out),
         Command::DrawingNetwork(file, tree) => graph(alloc, file, tree, shelf, out),
         Command::Ranging(file, tree, kind, name, budget) => {
-            stable(alloc, file, tree, kind, name, budget, shelf, out)
+            let effort = Effort {
+                budget: budget as u32,
+                watch,
+            };
+            stable(alloc, file, tree, kind, name, effort, shelf, out)
         }
-        Command::Planning(file, plan, budget) => periods(alloc, file, plan, budget, shelf, out),
+        Command::Planning(file, plan, budget) => {
+            let effort = Effort {
+                budget: budget as u32,
+                watch,
+            };
+            periods(alloc, file, plan, effort, shelf, out)
+        }
         Command::Parting(file, inside, outside, budget) => {
-            part(alloc, file, inside, outside, budget, shelf, out)
+            let effort = Effort {
+                budget: budget as u32,
+                watch,
+            };
+            part(alloc, file, inside, outside, effort, shelf, out)
         }
         Command::PartingAgainst(file, inside, outside, budget, tree) => {
-            part_against(alloc, file, inside, outside, budget, tree, shelf, out)
+            let effort = Effort {
+                budget: budget as u32,
+                watch,
+            };
+            part_against(alloc, file, inside, outside, effort, tree, shelf, out)
         }
         Command::Merging(file, tree, parts) => merge(alloc, file, tree, parts, shelf, out),
-        Command::Solving(file, budget) => solve(alloc, file, budget, shelf, out),
-        Command::Showing(file, budget) => show(alloc, file, budget, shelf, out),
-        Command::Ranking(file, count, budget) => rank(alloc, file, count, budget, shelf, out),
-        Command::Trial(number, units, budget) => trial(alloc, number, units, budget, out),
+        Command::Solving(file, budget) => {
+            let effort = Effort {
+                budget: budget as u32,
+                watch,
+            };
+            solve(alloc, file, effort, shelf, out)
+        }
+        Command::Showing(file, budget) => {
+            let effort = Effort {
+                budget: budget as u32,
+                watch,
+            };
+            show(alloc, file, effort, shelf, out)
+        }
+        Command::Ranking(file, count, budget) => {
+            let effort = Effort {
+                budget: budget as u32,
+                watch,
+            };
+            rank(alloc, file, count, effort, shelf, out)
+        }
+        Command::Trial(number, units, budget) => {
+            let effort = Effort {
+                budget: budget as u32,
+                watch,
+            };
+            trial(alloc, number, units, effort, out)
+        }
         Command::Telling(text) => say_text(out, text, Status::Done),
     }
 }
@@ -98,11 +142,12 @@ fn tell_usage<K: Sink, E: Sink>(alloc: Global, words: &[String], out: &mut Outpu
     tell(out, b"usage\n", notes.bytes(), Status::Usage)
 }
 
-fn run<F: Shelf, K: Sink, E: Sink>(
+fn run<F: Shelf, K: Sink, E: Sink, W: Watch>(
     alloc: Global,
     words: &[String],
     shelf: &mut F,
     out: &mut Outputs<K, E>,
+    watch: W,
 ) -> Status
     ensures ends { Ends (WordsSay (F.state shelf.old) (F.state shelf.new) (map string_bytes words.now)) out.old out.new result }
     ensures keeps { Keeps (F.state shelf.old) (F.state shelf.new) }
@@ -111,7 +156,7 @@ fn run<F: Shelf, K: Sink, E: Sink>(
         return say_memory(out);
     };
     match found {
-        Some(command) => perform(alloc, command, shelf, out),
+        Some(command) => perform(alloc, command, shelf, out, watch),
         None => tell_usage(alloc, words, out),
     }
 }
@@ -119,13 +164,16 @@ fn run<F: Shelf, K: Sink, E: Sink>(
 /// Does what the words say over the shelf's files, and puts the text on the outputs line by line:
 /// an answer on `out`, and on `err` why there is none.
 ///
+/// To the watch it is reported how far a search is; what is put does not depend on it.
+///
 /// The clause `ends` says which text is out with which status, and `keeps` and `later` what is left
 /// of the shelf. The others are parts of `ends` in words of their own.
-pub fn studio<F: Shelf, K: Sink, E: Sink>(
+pub fn studio<F: Shelf, K: Sink, E: Sink, W: Watch>(
     alloc: Global,
     words: &[String],
     shelf: &mut F,
     out: &mut Outputs<K, E>,
+    watch: W,
 ) -> Status
     ensures ends { Ends (WordsSay (F.state shelf.old) (F.state shelf.new) (map string_bytes words.now)) out.old out.new result }
     // The shelf tells the same of each file as before, and no count of its faults fell.
@@ -164,5 +212,5 @@ pub fn studio<F: Shelf, K: Sink, E: Sink>(
     accepted_is_best();
     accepted_are_best();
     parts_are_read_once();
-    run(alloc, words, shelf, out)
+    run(alloc, words, shelf, out, watch)
 }

@@ -8,7 +8,7 @@ edit_page =
     codes "  FILE    the plant, PNS_problem_v1" ∷
     codes "  SCRIPT  an edit script, PNS_edits_v1" ∷
     codes "Prints the plant after the edits, in canonical form: defaults are written out," ∷
-    codes "measurement units are not kept." ∷
+    codes "measurement units and remarks are not kept." ∷
     codes "Ends with" ∷
     codes "  0   The text is out, whole." ∷
     codes "  11  script line L KIND: line L of SCRIPT has a fault; pns help KIND explains" ∷
@@ -25,7 +25,7 @@ undo_page =
     codes "Writes the script that leads from the edited plant back to FILE." ∷
     codes "  FILE    the plant, PNS_problem_v1" ∷
     codes "  SCRIPT  an edit script, PNS_edits_v1" ∷
-    codes "Prints an edit script." ∷
+    codes "Prints an edit script, without remarks." ∷
     codes "Ends with" ∷
     codes "  0   The text is out, whole." ∷
     codes "  11  script line L KIND: line L of SCRIPT has a fault; pns help KIND explains" ∷
@@ -44,7 +44,7 @@ migrate_page =
     codes "a payout period. Least networks stay the same." ∷
     codes "  FILE   the plant, PNS_problem_v1" ∷
     codes "  YEARS  the payout period, 1 to 100" ∷
-    codes "Prints an edit script; pns edit FILE SCRIPT applies it." ∷
+    codes "Prints an edit script, without remarks; pns edit FILE SCRIPT applies it." ∷
     codes "Ends with" ∷
     codes "  0   The text is out, whole." ∷
     codes "  16  has payout: FILE has a payout period or an investment already. out of" ∷

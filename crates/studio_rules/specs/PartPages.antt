@@ -58,6 +58,7 @@ part_page =
     codes "  BUDGET   the most nodes, 1 to 1000000; 10k is 10000; 1M where it is left out" ∷
     codes "  TREE     a tree text, as solve prints it" ∷
     codes "Prints a part text for pns merge." ∷
+    codes "Standard error shows how far it is, unless PNS_QUIET is set." ∷
     part_ends
 
 unfoldable pub merge_page : List (List ℕ)

@@ -8,8 +8,8 @@ expand_page =
     codes "and check read." ∷
     codes "  FILE  the plant, PNS_problem_v1" ∷
     codes "  PLAN  a plan text, PNS_plan_v1" ∷
-    codes "Prints a plant, PNS_problem_v1. Unit b0 builds the first unit, u0.1 runs it in" ∷
-    codes "period 1, and so on." ∷
+    codes "Prints a plant, PNS_problem_v1, without remarks. Unit b0 builds the first unit," ∷
+    codes "u0.1 runs it in period 1, and so on." ∷
     codes "Ends with" ∷
     codes "  0   The text is out, whole." ∷
     codes "  19  plan line L KIND: line L of PLAN has a fault. Mend the line." ∷
@@ -28,6 +28,7 @@ periods_page =
     codes "  BUDGET  the most nodes, 1 to 1000000; 10k is 10000; 1M where it is left out" ∷
     codes "Prints built NAMES, capacities D C C, cost N (N / D / G / 10^18), and for each" ∷
     codes "period its units and sizes (X / D / 10^6); or infeasible." ∷
+    codes "Standard error shows how far it is, unless PNS_QUIET is set." ∷
     codes "Ends with" ∷
     codes "  0   The text is out, whole." ∷
     codes "  4   a tree text of the expanded plant: a number on the way left the range of" ∷

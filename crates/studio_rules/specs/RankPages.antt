@@ -11,6 +11,7 @@ rank_page =
     codes "  BUDGET  the most nodes, 1 to 1000000; 10k is 10000; 1M where it is left out" ∷
     codes "Prints a rank text: count N, networks K, three lines for each network from the" ∷
     codes "cheapest on, then the tree. K is less than N only where there are no more." ∷
+    codes "Standard error shows how far it is, unless PNS_QUIET is set." ∷
     codes "Ends with" ∷
     codes "  0   The text is out, whole." ∷
     codes "  4   a rank text that ends with past, nonbasic and place lines: a number on the" ∷

@@ -121,8 +121,7 @@ stable_ends =
     codes "  4   at V, then a tree text or a place line: a number on the way left the range" ∷
     codes "      of 128 bits; the plant need not be wrong. Write rates and costs with fewer" ∷
     codes "      digits, or bounds and capacities nearer to what can come, and call again." ∷
-    codes "  5   at V, then a tree text: BUDGET was reached. At this value the search did" ∷
-    codes "      not end. Call again with a greater BUDGET." ∷
+    codes "  5   at V, then a tree text: BUDGET was reached. Call with a greater BUDGET." ∷
     codes "  10  tree line L KIND: line L of TREE has a fault; pns help KIND explains it." ∷
     codes "      Have the text printed anew." ∷
     codes "  13  not best, then a cheaper network: solve anew." ∷
@@ -148,4 +147,5 @@ stable_page =
     codes "  BUDGET  the most nodes, 1 to 1000000; 10k is 10000; 1M where it is left out" ∷
     codes "Prints from V, then below and a network that is cheaper under V, or below limit;" ∷
     codes "to V, then above in the same way. V is in millionths." ∷
+    codes "Standard error shows how far it is, unless PNS_QUIET is set." ∷
     stable_ends

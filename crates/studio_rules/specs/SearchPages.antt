@@ -10,6 +10,7 @@ solve_page =
     codes "  BUDGET  the most nodes, 1 to 1000000; 10k is 10000; 1M where it is left out" ∷
     codes "Prints a tree text. Lines 2 to 4 are the network; sizes and cost as in pns help" ∷
     codes "flows. Or infeasible: no allowed network meets the bounds." ∷
+    codes "Standard error shows how far it is, unless PNS_QUIET is set." ∷
     codes "Ends with" ∷
     codes "  0   The text is out, whole." ∷
     codes "  4   a tree text that ends with past, nonbasic and place lines: a number on the" ∷
@@ -33,6 +34,7 @@ show_page =
     codes "  BUDGET  the most nodes, 1 to 1000000; 10k is 10000; 1M where it is left out" ∷
     codes "Prints what pns report prints of the tree of pns solve: a line that begins with" ∷
     codes "PROVED or NOT FINISHED, and then the network in tables, if there is one." ∷
+    codes "Standard error shows how far it is, unless PNS_QUIET is set." ∷
     codes "Ends with" ∷
     codes "  0   PROVED: no network costs less, or no network meets the bounds." ∷
     codes "  4   NOT FINISHED: a number on the way left the range of 128 bits; the plant" ∷
@@ -66,6 +68,7 @@ trial_page =
     codes "  BUDGET  the most nodes, 1 to 1000000; 10k is 10000; 1M where it is left out" ∷
     codes "Prints units, maximal (units of the maximal structure), network NAMES, cost N D" ∷
     codes "(N / D / 10^18), nodes." ∷
+    codes "Standard error shows how far it is, unless PNS_QUIET is set." ∷
     codes "Ends with" ∷
     codes "  0   The text is out, whole." ∷
     codes "  4   a tree text that ends with past, nonbasic and place lines: a number on the" ∷

@@ -26,7 +26,7 @@ payout_period=YEARS under defaults: investment_fix_cost and
 investment_proportional_cost. What is left out is intermediate, 0, or
 1000000000 for an upper bound. Names have letters, digits, _ - and . alone;
 numbers up to 6 places behind a point. A unit of size z uses and makes z times
-its rates. There are no remarks.
+its rates. A line that begins with # is a remark, but line 1 cannot be one.
 ",
     ),
     (
@@ -77,8 +77,8 @@ cut or changed.
     (
         b"BadName",
         b"BadName: what stands for a name is none. A name is a letter or _, then letters,
-digits, _ - or . and at most 64 of them; no blanks and no accents. A line that
-begins with # is none: there are no remarks. In rates a number and its name are
+digits, _ - or . and at most 64 of them; no blanks and no accents. A remark has
+a line of its own, which begins with #. In rates a number and its name are
 parted by a blank.
   Fault  hot water: raw_material
   Cure   hot_water: raw_material

@@ -5,6 +5,7 @@ ghost use Rattle.studio_rules.specs.declared.status.Status.TheVariants.{Done, Re
 
 use crate::one_unit::{plant_shelf, solve_words};
 use pns_io::{Outputs, Sink};
+use progress::NoWatch;
 use std::alloc::{AllocError, Global};
 use studio::{Status, studio};
 use sure_laws::{one_unit_is_sure, sure_call_is_done};
@@ -21,5 +22,5 @@ pub fn solve_one_unit<K: Sink, E: Sink>(
     sure_call_is_done();
     let mut shelf = plant_shelf(alloc)?;
     let words = solve_words(alloc)?;
-    Ok(studio(alloc, &words, &mut shelf, out))
+    Ok(studio(alloc, &words, &mut shelf, out, NoWatch))
 }

@@ -97,11 +97,11 @@ record IsHeader (section : Section) : Type 0 where
 header_is : (section : Section) → is_meant section ≡ true → IsHeader section
 header_is Preamble is = absurd (true≢false (sym is))
 header_is MeasurementUnits is = absurd (true≢false (sym is))
-header_is Defaults is = record { line = record { feed = refl; ret = refl; front = refl; back = refl }; placed = λ n old rest. refl }
-header_is Materials is = record { line = record { feed = refl; ret = refl; front = refl; back = refl }; placed = λ n old rest. refl }
-header_is OperatingUnits is = record { line = record { feed = refl; ret = refl; front = refl; back = refl }; placed = λ n old rest. refl }
-header_is Rates is = record { line = record { feed = refl; ret = refl; front = refl; back = refl }; placed = λ n old rest. refl }
-header_is Exclusions is = record { line = record { feed = refl; ret = refl; front = refl; back = refl }; placed = λ n old rest. refl }
+header_is Defaults is = record { line = record { feed = refl; ret = refl; sign = refl; front = refl; back = refl }; placed = λ n old rest. refl }
+header_is Materials is = record { line = record { feed = refl; ret = refl; sign = refl; front = refl; back = refl }; placed = λ n old rest. refl }
+header_is OperatingUnits is = record { line = record { feed = refl; ret = refl; sign = refl; front = refl; back = refl }; placed = λ n old rest. refl }
+header_is Rates is = record { line = record { feed = refl; ret = refl; sign = refl; front = refl; back = refl }; placed = λ n old rest. refl }
+header_is Exclusions is = record { line = record { feed = refl; ret = refl; sign = refl; front = refl; back = refl }; placed = λ n old rest. refl }
 
 entry_placed : (n : ℕ) (section : Section) (text : List ℕ) (rest : List (List ℕ)) → IsEntry text → standing (placed_from n section (text ∷ rest)) ≡ placed_at n section text ∷ standing (placed_from (n + 1) section rest)
 entry_placed n section text rest is =
@@ -134,7 +134,7 @@ parts_lines : (parts : List Part) → Each IsPart parts → Each IsLine (spelled
 parts_lines [] each = tt
 parts_lines (part ∷ parts) each = each-append IsLine (if shown part then [] ∷ (title part.section ++ 58 ∷ []) ∷ [] else []) (part.texts ++ spelled parts)
     (cond_both (shown part) ([] ∷ (title part.section ++ 58 ∷ []) ∷ []) [] (λ lines. Each IsLine lines)
-    (λ e. (record { feed = refl; ret = refl; front = refl; back = refl }, ((header_is part.section each.0.0).line, tt))) (λ e. tt))
+    (λ e. (record { feed = refl; ret = refl; sign = refl; front = refl; back = refl }, ((header_is part.section each.0.0).line, tt))) (λ e. tt))
     (each-append IsLine part.texts (spelled parts) (each-to IsEntry IsLine (λ text is. is.line) part.texts each.0.1) (parts_lines parts each.1))
 
 -- what a test keeps of entries, which all pass or all fail
@@ -306,7 +306,7 @@ module _ (p : Problem) (is : IsWellFormed p) where
   -- the lines of the canonical text, those that stand, and those that have a meaning
   pub canonical_read : lines_of (canonical p) ≡ file_type ∷ spelled (parts_of p)
   canonical_read =
-      let first : IsLine file_type = record { feed = refl; ret = refl; front = refl; back = refl } in
+      let first : IsLine file_type = record { feed = refl; ret = refl; sign = refl; front = refl; back = refl } in
       lines_read (canonical_lines p) (subst (Each IsLine) (sym (canonical_spelled p)) (first, parts_lines (parts_of p) are_parts)) refl ∙ canonical_spelled p
 
   pub canonical_laid : body_of (file_type ∷ spelled (parts_of p)) ≡ laid 2 (parts_of p)

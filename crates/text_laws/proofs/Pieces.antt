@@ -84,6 +84,7 @@ pub record IsTail (text : List ℕ) : Type 0 where
   pub back : suffix_len is_blank text ≡ 0
   pub feed : list_any (λ c. c == 10) text ≡ false
   pub ret : list_any (λ c. c == 13) text ≡ false
+  pub sign : list_any (λ c. c == 35) text ≡ false
 
 pub items_tail : (item : List ℕ) (items : List (List ℕ)) → IsPiece item → Each IsPiece items → IsTail (joined 44 (spaced (item ∷ items)))
 items_tail item items one each =
@@ -95,6 +96,7 @@ items_tail item items one each =
       back = end.back;
       feed = joined_none (λ c. c == 10) 44 (spaced (item ∷ items)) refl (piece_none (λ c. c == 10) (off_mark 10 refl) item one, spaced_none (λ c. c == 10) refl (off_mark 10 refl) items each);
       ret = joined_none (λ c. c == 13) 44 (spaced (item ∷ items)) refl (piece_none (λ c. c == 13) (off_mark 13 refl) item one, spaced_none (λ c. c == 13) refl (off_mark 13 refl) items each);
+      sign = joined_none (λ c. c == 35) 44 (spaced (item ∷ items)) refl (piece_none (λ c. c == 35) (off_mark 35 refl) item one, spaced_none (λ c. c == 35) refl (off_mark 35 refl) items each);
     }
 
 pub tokens_tail : (token : List ℕ) (tokens : List (List ℕ)) → IsPiece token → Each IsPiece tokens → IsTail (joined 32 (token ∷ tokens))
@@ -108,6 +110,7 @@ tokens_tail token tokens one each =
       back = end.back;
       feed = none (λ c. c == 10) refl (off_mark 10 refl);
       ret = none (λ c. c == 13) refl (off_mark 13 refl);
+      sign = none (λ c. c == 35) refl (off_mark 35 refl);
     }
 
 -- a line as it is printed that is no header and not empty
@@ -126,6 +129,7 @@ piece_entry text is = record {
   line = record {
     feed = piece_none (λ c. c == 10) (off_mark 10 refl) text is;
     ret = piece_none (λ c. c == 13) (off_mark 13 refl) text is;
+    sign = piece_none (λ c. c == 35) (off_mark 35 refl) text is;
     front = prefix_none is_blank text (piece_none is_blank no_blank text is);
     back = (piece_end text is).back;
   };
@@ -158,6 +162,7 @@ named_apart name text word rest =
         line = record {
           feed = none (λ c. c == 10) refl refl (piece_none (λ c. c == 10) (off_mark 10 refl) name piece) rest.feed;
           ret = none (λ c. c == 13) refl refl (piece_none (λ c. c == 13) (off_mark 13 refl) name piece) rest.ret;
+          sign = none (λ c. c == 35) refl refl (piece_none (λ c. c == 35) (off_mark 35 refl) name piece) rest.sign;
           front = named_front name text piece;
           back = end.back;
         };

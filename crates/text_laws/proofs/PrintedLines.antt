@@ -1,17 +1,18 @@
 -- Lines that are printed one behind the other are read back.
-use Rattle.std.proofs.Common.{◌≡◌, ◌+◌, ◌-◌, ◌==◌, Bool, true, false, ℕ, zero, suc, List, [], ◌∷◌, ◌++◌, length, take, get_or, map, flat_map, refl, ◌∙◌, ap, arith, append_assoc, length-append}
+use Rattle.std.proofs.Common.{◌≡◌, ◌+◌, ◌-◌, ◌==◌, Bool, true, false, ℕ, zero, suc, List, [], ◌∷◌, ◌++◌, length, take, drop, get_or, map, flat_map, refl, ◌∙◌, ap, arith, append_assoc, length-append}
 use Rattle.std.specs.List.{list_any, prefix_len, suffix_len, slice_split}
 use Rattle.std.proofs.lemmas.Bool.{cond-false, cond-true, or_parts}
 use Rattle.text_rules.specs.Blanks.{is_blank, trim}
-use Rattle.text_rules.specs.Line.{without_return, without_empty_last, lines_of, without_mark}
+use Rattle.text_rules.specs.Line.{without_return, without_empty_last, is_remark, without_remark, lines_of, without_mark}
 use Rattle.text_laws.proofs.Cuts.{split_at, take_front, trim_solid}
 use Rattle.problem_rules.specs.Each.{Each}
 use Rattle.text_laws.proofs.Each.{each-to, map_same}
 
--- a line as it is printed: no line feed and no return, and no blank at its ends
+-- a line as it is printed: no line feed, no return and no number sign, and no blank at its ends
 pub record IsLine (text : List ℕ) : Type 0 where
   pub feed : list_any (λ c. c == 10) text ≡ false
   pub ret : list_any (λ c. c == 13) text ≡ false
+  pub sign : list_any (λ c. c == 35) text ≡ false
   pub front : prefix_len is_blank text ≡ 0
   pub back : suffix_len is_blank text ≡ 0
 
@@ -44,16 +45,31 @@ at_none p off (x ∷ xs) zero none = (or_parts (p x) (list_any p xs) none).0
 at_none p off (x ∷ xs) (suc i) none = at_none p off xs i ((or_parts (p x) (list_any p xs) none).1)
 
 -- a line without a return is kept
-pub line_kept : (text : List ℕ) → list_any (λ c. c == 13) text ≡ false → without_return text ≡ text
+line_kept : (text : List ℕ) → list_any (λ c. c == 13) text ≡ false → without_return text ≡ text
 line_kept text none = cond-false (get_or text (length text - 1) 0 == 13) (take (length text - 1) text) text (at_none (λ c. c == 13) refl text (length text - 1) none)
 
-same_line : (text : List ℕ) → IsLine text → trim (without_return text) ≡ text
-same_line text is = ap trim (line_kept text is.ret) ∙ trim_solid text is.front is.back
+none_behind : (p : ℕ → Bool) (n : ℕ) (xs : List ℕ) → list_any p xs ≡ false → list_any p (drop n xs) ≡ false
+none_behind p zero xs none = none
+none_behind p (suc n) [] none = none
+none_behind p (suc n) (x ∷ xs) none = none_behind p n xs ((or_parts (p x) (list_any p xs) none).1)
+
+-- a line without a number sign is no remark
+no_remark : (text : List ℕ) → list_any (λ c. c == 35) text ≡ false → is_remark text ≡ false
+no_remark text none =
+    let blanks : ℕ = prefix_len is_blank text in
+    at_none (λ c. c == 35) refl (drop blanks text) 0 (none_behind (λ c. c == 35) blanks text none)
+
+-- and one without a return either is kept
+pub plain_kept : (text : List ℕ) → list_any (λ c. c == 13) text ≡ false → list_any (λ c. c == 35) text ≡ false → without_remark (without_return text) ≡ text
+plain_kept text ret sign = ap without_remark (line_kept text ret) ∙ cond-false (is_remark text) [] text (no_remark text sign)
+
+same_line : (text : List ℕ) → IsLine text → trim (without_remark (without_return text)) ≡ text
+same_line text is = ap trim (plain_kept text is.ret is.sign) ∙ trim_solid text is.front is.back
 
 -- without a mark in front, the lines come back
 pub lines_read : (lines : List (List ℕ)) → Each IsLine lines → without_mark (flat_map printed_line lines) ≡ flat_map printed_line lines → lines_of (flat_map printed_line lines) ≡ lines
 lines_read lines each plain =
-    ap (λ text. map (λ part. trim (without_return part)) (without_empty_last (slice_split (λ c. c == 10) text))) plain
-    ∙ ap (λ parts. map (λ part. trim (without_return part)) (without_empty_last parts)) (split_lines lines (each-to IsLine (λ line. list_any (λ c. c == 10) line ≡ false) (λ line is. is.feed) lines each))
-    ∙ ap (map (λ part. trim (without_return part))) (without_last lines)
-    ∙ map_same (λ part. trim (without_return part)) lines (each-to IsLine (λ t. trim (without_return t) ≡ t) same_line lines each)
+    ap (λ text. map (λ part. trim (without_remark (without_return part))) (without_empty_last (slice_split (λ c. c == 10) text))) plain
+    ∙ ap (λ parts. map (λ part. trim (without_remark (without_return part))) (without_empty_last parts)) (split_lines lines (each-to IsLine (λ line. list_any (λ c. c == 10) line ≡ false) (λ line is. is.feed) lines each))
+    ∙ ap (map (λ part. trim (without_remark (without_return part)))) (without_last lines)
+    ∙ map_same (λ part. trim (without_remark (without_return part))) lines (each-to IsLine (λ t. trim (without_remark (without_return t)) ≡ t) same_line lines each)

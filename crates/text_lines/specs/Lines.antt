@@ -3,14 +3,14 @@ use Rattle.std.specs.Prelude.{◌≡◌, ◌==◌, ◌⊎◌, ℕ, false, List, 
 use Rattle.std.specs.List.{slice_split}
 use Rattle.std.specs.Str.{bytes_eq}
 use Rattle.text_rules.specs.Blanks.{trim}
-use Rattle.text_rules.specs.Line.{without_return, without_empty_last}
+use Rattle.text_rules.specs.Line.{without_return, without_empty_last, without_remark}
 use Rattle.script_rules.specs.Line.{script_lines}
 use Rattle.text_lines.specs.declared.lines.Drops.{Drops}
 use Rattle.text_lines.specs.declared.lines.Drops.TheVariants.{Return, ReturnAndBlanks}
 
--- a line without the carriage return at its end, and then without blanks at both ends
+-- a line without the carriage return at its end, empty where it is a remark, and then without blanks at both ends
 abbrev pub cleaned : List ℕ → List ℕ
-cleaned part = trim (without_return part)
+cleaned part = trim (without_remark (without_return part))
 
 -- the lines behind a byte order mark, or behind lines that follow it
 abbrev pub lines_from : List ℕ → List (List ℕ)
@@ -18,7 +18,7 @@ lines_from rest = map cleaned (without_empty_last (slice_split (λ c. c == 10) r
 
 -- a line, and the lines of what is left, by what is dropped at their ends
 abbrev pub line_by : Drops → List ℕ → List ℕ
-line_by Return part = without_return part
+line_by Return part = without_remark (without_return part)
 line_by ReturnAndBlanks part = cleaned part
 
 abbrev pub lines_by : Drops → List ℕ → List (List ℕ)

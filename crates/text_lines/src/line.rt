@@ -1,8 +1,8 @@
 //! Lines, and what stands before and behind a mark in them.
 ghost use Rattle.std.specs.Prelude.{◌≡◌, ◌≤◌, ◌==◌, length};
 ghost use Rattle.std.specs.List.{prefix_len, suffix_len, list_any, position_or_len};
-ghost use Rattle.text_rules.specs.Blanks.{is_blank, trim};
-ghost use Rattle.text_rules.specs.Line.{is_colon, head_of, tail_of, without_return, without_mark};
+ghost use Rattle.text_rules.specs.Blanks.{is_blank, trim_front, trim};
+ghost use Rattle.text_rules.specs.Line.{is_colon, head_of, tail_of, without_return, without_mark, is_remark, without_remark};
 
 fn is_blank(c: u8) -> bool
     ensures { result ≡ is_blank c }
@@ -24,12 +24,19 @@ fn blanks_behind(text: &[u8]) -> usize
     text.iter().rev().take_while(|c| is_blank(**c)).count()
 }
 
+fn trim_front(text: &[u8]) -> &[u8]
+    ensures within { length result.now ≤ length text.now }
+    ensures value { result.now ≡ trim_front text.now }
+{
+    &text[blanks_in_front(text)..]
+}
+
 /// The text without the blanks at its ends.
 pub fn trim(text: &[u8]) -> &[u8]
     ensures within { length result.now ≤ length text.now }
     ensures value { result.now ≡ trim text.now }
 {
-    let rest = &text[blanks_in_front(text)..];
+    let rest = trim_front(text);
     &rest[..rest.len() - blanks_behind(rest)]
 }
 
@@ -48,6 +55,26 @@ pub fn without_return(text: &[u8]) -> &[u8]
     match text {
         [rest @ .., b'\r'] => rest,
         _ => text,
+    }
+}
+
+fn is_remark(line: &[u8]) -> bool
+    ensures { result ≡ is_remark line.now }
+{
+    match trim_front(line) {
+        [first, ..] => *first == b'#',
+        [] => false,
+    }
+}
+
+/// The line, or an empty one where its first byte behind blanks is a number sign.
+pub fn without_remark(line: &[u8]) -> &[u8]
+    ensures { result.now ≡ without_remark line.now }
+{
+    if is_remark(line) {
+        &[]
+    } else {
+        line
     }
 }
 

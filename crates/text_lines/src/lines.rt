@@ -2,10 +2,10 @@
 ghost use Rattle.std.specs.Prelude.{◌≡◌, ◌<◌, ◌≤◌, ◌+◌, ◌-◌, ◌^◌, ◌∷◌, [], IfSome, IsNone, length};
 ghost use Rattle.text_lines.specs.Lines.{line_by, lines_by, Coming, IsUntyped};
 
-use crate::line::{place_of, trim, without_return};
+use crate::line::{place_of, trim, without_remark, without_return};
 use std::marker::Model;
 
-/// What a format drops at the ends of its lines.
+/// What a format drops at the ends of its lines. An empty line stands in the place of a remark in each.
 #[derive(Clone, Copy)]
 pub enum Drops {
     /// One carriage return behind it.
@@ -81,8 +81,8 @@ fn dropped(drops: Drops, part: &[u8]) -> &[u8]
     ensures { result.now ≡ line_by drops part.now }
 {
     match drops {
-        Drops::Return => without_return(part),
-        Drops::ReturnAndBlanks => trim(without_return(part)),
+        Drops::Return => without_remark(without_return(part)),
+        Drops::ReturnAndBlanks => trim(without_remark(without_return(part))),
     }
 }
 

@@ -1,6 +1,6 @@
 -- Texts and the problems that they stand for: defaults of every key, units with and without a line of their own, exclusions in
 -- any order, and payout periods in any spelling.
-use Rattle.std.proofs.Common.{◌≡◌, ℕ, List, [], ◌∷◌, map, codes, refl, Result, Ok, Err, pos, negsuc, ℤ}
+use Rattle.std.proofs.Common.{◌≡◌, ℕ, List, [], ◌∷◌, map, flat_map, codes, refl, Result, Ok, Err, pos, negsuc, ℤ}
 use Rattle.problem_rules.specs.Problem.{raw_material, intermediate, product, Problem}
 use Rattle.text_rules.specs.Fault.{Fault}
 use Rattle.text_rules.specs.Value.{read_text}
@@ -67,6 +67,14 @@ reversed_problem = record {
 reversed_reads : read_text (body reversed) ≡ Ok reversed_problem
 unfolding reversed reversed_problem
 reversed_reads = refl
+
+-- each line behind a remark that says the same
+remarked : List (List ℕ) → List (List ℕ)
+remarked = flat_map (λ line. (32 ∷ 9 ∷ 35 ∷ line) ∷ line ∷ [])
+
+remarked_reads : read_text (body (remarked reversed)) ≡ Ok reversed_problem
+unfolding reversed reversed_problem remarked
+remarked_reads = refl
 
 -- the values that stand where neither a line nor the defaults have one
 bare : Problem

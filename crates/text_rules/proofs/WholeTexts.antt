@@ -1,7 +1,7 @@
 -- Whole small texts, each with its first fault, and texts that have none.
 use Rattle.std.proofs.Common.{◌≡◌, ◌+◌, ◌/◌, ◌%◌, ◌++◌, ℕ, List, [], ◌∷◌, map, codes, refl, Err}
 use Rattle.std.specs.List.{range_with_len}
-use Rattle.text_rules.specs.declared.TextKind.TheVariants.{FileType, UnknownSection, DoubleSection, BadLine, BadName, UnknownKey, DoubleKey, Negative, DoubleTerm, DoubleMaterial, DoubleUnit, DoubleRates, TooMany, LowAboveHigh, UnknownMaterial, NoRates, NoProduct, DoubleExclusion, DoubleMember, FewMembers, UnknownUnit}
+use Rattle.text_rules.specs.declared.TextKind.TheVariants.{FileType, UnknownSection, DoubleSection, BadLine, BadName, UnknownKey, DoubleKey, Negative, UnknownKind, DoubleTerm, DoubleMaterial, DoubleUnit, DoubleRates, TooMany, LowAboveHigh, UnknownMaterial, NoRates, NoProduct, DoubleExclusion, DoubleMember, FewMembers, UnknownUnit}
 use Rattle.text_rules.specs.Fault.{Fault}
 use Rattle.text_rules.specs.Value.{read_text}
 use Rattle.text_rules.proofs.Texts.{First, Read}
@@ -16,6 +16,8 @@ file_types =
     ∷ codes "file_type=PNS_problem_v2"
     ∷ codes "materials:"
     ∷ (239 ∷ 187 ∷ 191 ∷ 239 ∷ 187 ∷ 191 ∷ codes "file_type=PNS_problem_v1")
+    ∷ codes "#file_type=PNS_problem_v1"
+    ∷ (codes " # a remark" ++ 10 ∷ codes "file_type=PNS_problem_v1")
     ∷ []
 
 file_types_told : map read_text file_types ≡ map (λ text. Err (1, FileType)) file_types
@@ -42,6 +44,24 @@ section_rows =
 sections_told : First section_rows
 unfolding section_rows
 sections_told = refl
+
+-- remarks are counted; a number sign behind other text makes none
+remark_rows : List (List (List ℕ) × Fault)
+remark_rows =
+    (codes "# a remark" ∷ codes "name" ∷ [], (3, BadLine))
+    ∷ (codes "name # a remark" ∷ [], (2, BadLine))
+    ∷ ((13 ∷ codes "# a remark") ∷ [], (2, BadLine))
+    ∷ (codes "materials:" ∷ codes "# A: foo=1" ∷ (32 ∷ 9 ∷ codes "#") ∷ codes "9" ∷ [], (5, BadName))
+    ∷ (codes "materials:" ∷ codes "A # a remark" ∷ [], (3, BadName))
+    ∷ (codes "materials:" ∷ codes "A: # a remark" ∷ [], (3, UnknownKind))
+    ∷ (codes "materials:" ∷ codes "A: raw_material # a remark" ∷ [], (3, UnknownKind))
+    ∷ (codes "materials: # a remark" ∷ [], (2, BadLine))
+    ∷ (codes "materials:" ∷ codes "#materials:" ∷ codes "# P: product" ∷ [], (5, NoProduct))
+    ∷ []
+
+remarks_told : First remark_rows
+unfolding remark_rows
+remarks_told = refl
 
 -- names that come again, and faults of form before those of meaning
 order_rows : List (List (List ℕ) × Fault)
@@ -103,6 +123,7 @@ good_rows : List (List (List ℕ))
 good_rows =
     (codes "materials :" ∷ codes "P : product" ∷ [])
     ∷ ((9 ∷ codes "materials:" ++ 32 ∷ 9 ∷ 13 ∷ []) ∷ (codes "  P: product" ++ 13 ∷ []) ∷ (32 ∷ 9 ∷ []) ∷ [])
+    ∷ (codes "# a remark" ∷ codes "materials:" ∷ (32 ∷ 9 ∷ codes "# what is made") ∷ codes "P: product" ∷ (35 ∷ 13 ∷ []) ∷ codes "#P: product" ∷ [])
     ∷ (codes "materials:" ∷ codes "P: product, price=000000000000000000000000000001" ∷ [])
     ∷ (codes "materials:" ∷ codes "P: product, price=-1e9" ∷ [])
     ∷ (codes "materials:" ∷ codes "P: product, flow_rate_lower_bound=-0" ∷ [])

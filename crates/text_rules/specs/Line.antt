@@ -1,11 +1,11 @@
--- The lines of a text, each with its number and its section. Lines count from 1, empty ones too.
+-- The lines of a text, each with its number and its section. Lines count from 1, empty ones and remarks too.
 use Rattle.std.specs.Prelude.{◌==◌, ◌&&◌, ◌+◌, ◌-◌, ℕ, Bool, true, false, List, [], ◌∷◌, Option, Some, None, length, take, drop, map, codes, not, nat_eq, slice_index, slice_index_or, unwrap_or, filter, if◌then◌else◌}
 use Rattle.std.specs.List.{list_any, before_first, after_first, slice_split, starts_with}
 use Rattle.std.specs.Str.{bytes_eq, byte}
 use Rattle.text_rules.specs.declared.Section.{Section}
 use Rattle.text_rules.specs.declared.Section.TheVariants.{Preamble, MeasurementUnits, Defaults, Materials, OperatingUnits, Rates, Exclusions}
 use Rattle.problem_rules.specs.Names.{is_name}
-use Rattle.text_rules.specs.Blanks.{trim}
+use Rattle.text_rules.specs.Blanks.{trim_front, trim}
 
 -- one byte order mark is dropped, at the very start
 abbrev pub byte_order_mark : List ℕ
@@ -22,9 +22,17 @@ without_return text = if slice_index text (length text - 1) == 13 then take (len
 abbrev pub without_empty_last : List (List ℕ) → List (List ℕ)
 without_empty_last parts = if length (slice_index_or parts (length parts - 1) (0 ∷ [])) == 0 then take (length parts - 1) parts else parts
 
--- the lines, without the carriage return at their end and without blanks at both ends
+-- A remark is a line whose first byte behind blanks is a number sign. An empty line stands in its place, so that it is skipped
+-- and counted, and no first line is one.
+abbrev pub is_remark : List ℕ → Bool
+is_remark line = slice_index (trim_front line) 0 == byte "#"
+
+abbrev pub without_remark : List ℕ → List ℕ
+without_remark line = if is_remark line then [] else line
+
+-- the lines, without the carriage return at their end and without blanks at both ends, and empty where they are remarks
 abbrev pub lines_of : List ℕ → List (List ℕ)
-lines_of bytes = map (λ part. trim (without_return part)) (without_empty_last (slice_split (λ c. c == 10) (without_mark bytes)))
+lines_of bytes = map (λ part. trim (without_remark (without_return part))) (without_empty_last (slice_split (λ c. c == 10) (without_mark bytes)))
 
 abbrev pub is_section : Section → Section → Bool
 is_section Preamble Preamble = true

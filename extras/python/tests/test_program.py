@@ -52,6 +52,12 @@ class Reading(unittest.TestCase):
                 self.assertEqual(plant.to_text(), text)
                 self.assertEqual(pns.Plant.from_dict(plant.to_dict()), plant)
 
+    def test_remarks_change_nothing(self):
+        text = pns.Plant.from_dict(SHIPPED).to_text()
+        first, *lines = text.splitlines()
+        both = [first] + [part for line in lines for part in (f"  # {line}", line)]
+        self.assertEqual(pns.Plant.from_text("\n".join(both)).to_text(), text)
+
     def test_faults_have_line_and_kind(self):
         text = pns.Plant.from_dict(SHIPPED).to_text().replace("upper_bound=20", "upper_bound=4")
         with self.assertRaises(pns.PlantFault) as caught:

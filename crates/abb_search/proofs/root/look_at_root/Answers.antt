@@ -15,8 +15,8 @@ returns-clause-root g c =
     let l = c.in_ok-looked.looked in
     record {
       looked = l;
-      is_looked = subst (λ (n : starts.Node). IsLooked g.E.Evaluator.past c.args.problem.now (node_of n) [] l) c.copy_of-node.ensures
-          (subst (λ (o : List ℕ). IsLooked g.E.Evaluator.past c.args.problem.now (node_of c.copy_of-node.result) o l) c.empty.ensures c.in_ok-looked.ensures.looked);
+      is_looked = subst (λ (n : starts.Node). IsLooked g.E.Evaluator.past c.args.site.now (node_of n) [] l) c.copy_of-node.ensures
+          (subst (λ (o : List ℕ). IsLooked g.E.Evaluator.past c.args.site.now (node_of c.copy_of-node.result) o l) c.empty.ensures c.in_ok-looked.ensures.looked);
       start_is = refl;
       budget_is = refl;
       nodes_are = refl;
@@ -35,7 +35,7 @@ returns-clause-root g c =
 
 pub returns-clause-solved : goal.returns-clause-solved
 returns-clause-solved g c = λ none.
-    let p = c.args.problem.now in
+    let p = c.args.site.now in
     let l = c.in_ok-looked.looked in
     let seen = c.in_ok-looked.ensures.looked.seen in
     let root = solved_one p (record { cell = l.cell; value = l.value }) c.place-root.result l.ready c.reserve.new.self c.place-root.new.hand l.network c.place-root.ensures.placed

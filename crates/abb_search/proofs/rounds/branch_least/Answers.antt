@@ -2,12 +2,16 @@ use Rattle.std.proofs.Common.{length, true≢false, refl, sym, ap, ◌∙◌, ar
 use Rattle.branch_choice.specs.declared.choice.Choice.{Choice}
 use Rattle.branch_choice.specs.Choices.{option_count}
 use Rattle.abb_search.specs.Growing.{choice_of, ready_at}
+use Rattle.abb_search.specs.Rounds.{undercut_of}
 use Rattle.abb_search.proofs.TurnLemmas.{there, within_budget}
 use Rattle.abb_search.proofs.SameLemmas.{same_refl}
 use Rattle.abb_search.proofs.rounds.branch_least.Goals as goal
 
 pub choice_at-choice-requires : goal.choice_at-choice-requires
-choice_at-choice-requires g c = there c.args.problem.now c.is_valid.ensures.valid c.args.growing.now c.requires.growing c.args.leaf c.requires.next.is_open c.is_pool.ensures.payloads c.is_pool.ensures.leaves
+choice_at-choice-requires g c = there c.args.site.now c.problem.ensures.valid c.args.growing.now c.requires.growing c.args.leaf c.requires.next.is_open c.is_pool.ensures.payloads c.is_pool.ensures.leaves
+
+pub spend-requires-clause-growing : goal.spend-requires-clause-growing
+spend-requires-clause-growing g c = (undercut_of c.args.goal.now c.args.growing.now, c.requires.growing)
 
 pub spend-requires-clause-options : goal.spend-requires-clause-options
 spend-requires-clause-options g c = c.options-options.ensures ∙ ap (λ (m : Choice). option_count m) c.choice_at-choice.ensures
@@ -28,4 +32,7 @@ returns-clause-holds g c =
     )
 
 pub returns-clause-same : goal.returns-clause-same
-returns-clause-same g c = same_refl g.E.Evaluator.past c.args.problem.now c.args.growing.now
+returns-clause-same g c = same_refl g.E.Evaluator.past c.args.site.now c.args.growing.now
+
+pub returns-then-is_over-clause-holds : goal.returns-then-is_over-clause-holds
+returns-then-is_over-clause-holds g c = c.spend.ensures.holds (undercut_of c.args.goal.now c.args.growing.now) c.requires.growing c.requires.next

@@ -10,20 +10,20 @@ use Rattle.abb_search.proofs.rounds.round.Goals as goal
 
 pub returns-in_default-clause-holds : goal.returns-in_default-clause-holds
 returns-in_default-clause-holds g c =
-    let p = c.args.problem.now in
+    let p = c.args.site.now in
     let s = c.args.growing.now in
     let undercut = undercut_of c.args.goal.now c.args.growing.now in
     refuted_all p s c.requires.growing c.in_ok-proofs.proofs.items c.in_ok-proofs.ensures (whole p s c.requires.growing (sym c.least.ensures ∙ c.in_default.is)) undercut
 
 pub returns-in_default-clause-same : goal.returns-in_default-clause-same
-returns-in_default-clause-same g c = same_refl g.E.Evaluator.past c.args.problem.now c.args.growing.now
+returns-in_default-clause-same g c = same_refl g.E.Evaluator.past c.args.site.now c.args.growing.now
 
 pub close-requires-clause-leaf : goal.close-requires-clause-leaf
 close-requires-clause-leaf g c = sym c.least.ensures ∙ c.in-Some.is
 
 pub is_settled-requires : goal.is_settled-requires
 is_settled-requires g c =
-    there c.args.problem.now c.is_valid.ensures.valid c.args.growing.now c.requires.growing c.in-Some.leaf (first_has c.args.growing.now.pool.leaves c.in-Some.leaf (sym c.least.ensures ∙ c.in-Some.is)) c.is_pool.ensures.payloads c.is_pool.ensures.leaves
+    there c.args.site.now c.problem.ensures.valid c.args.growing.now c.requires.growing c.in-Some.leaf (first_has c.args.growing.now.pool.leaves c.in-Some.leaf (sym c.least.ensures ∙ c.in-Some.is)) c.is_pool.ensures.payloads c.is_pool.ensures.leaves
 
 pub take_least-requires-clause-leaf : goal.take_least-requires-clause-leaf
 take_least-requires-clause-leaf g c = sym c.least.ensures ∙ c.in-Some.is
@@ -41,7 +41,7 @@ settle_leaf-requires-clause-waits g c =
 
 pub returns-clause-holds : goal.returns-clause-holds
 returns-clause-holds g c =
-    let p = c.args.problem.now in
+    let p = c.args.site.now in
     let s = c.args.growing.now in
     let t = c.settle_leaf.new.growing in
     let undercut = undercut_of c.args.goal.now c.args.growing.now in

@@ -10,7 +10,7 @@ use Rattle.abb_search.proofs.rounds.take_least.Goals.{then-leads+else-may_be_und
 
 pub may_be_undercut-requires : goal.may_be_undercut-requires
 may_be_undercut-requires g c =
-    there c.args.problem.now c.is_valid.ensures.valid c.args.growing.now c.requires.growing c.args.leaf (first_has c.args.growing.now.pool.leaves c.args.leaf c.requires.leaf) c.is_pool.ensures.payloads c.is_pool.ensures.leaves
+    there c.args.site.now c.problem.ensures.valid c.args.growing.now c.requires.growing c.args.leaf (first_has c.args.growing.now.pool.leaves c.args.leaf c.requires.leaf) c.is_pool.ensures.payloads c.is_pool.ensures.leaves
 
 pub branch_least-requires-clause-next : goal.branch_least-requires-clause-next
 branch_least-requires-clause-next g c = record {
@@ -25,7 +25,7 @@ settle_leaf-requires-clause-growing g c = (undercut_of c.args.goal.now c.args.gr
 
 pub returns-in-Some-clause-holds : goal.returns-in-Some-clause-holds
 returns-in-Some-clause-holds g c =
-    let p = c.args.problem.now in
+    let p = c.args.site.now in
     let s = c.args.growing.now in
     let t = c.settle_leaf.new.growing in
     let undercut = undercut_of c.args.goal.now s in
@@ -49,4 +49,4 @@ returns-clause-holds g c =
     }
 
 pub returns-clause-same : goal.returns-clause-same
-returns-clause-same g c = same_refl g.E.Evaluator.past c.args.problem.now c.args.growing.now
+returns-clause-same g c = same_refl g.E.Evaluator.past c.args.site.now c.args.growing.now

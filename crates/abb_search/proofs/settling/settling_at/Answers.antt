@@ -14,29 +14,29 @@ pub unreachable-requires : goal.unreachable-requires
 unreachable-requires g c =
     let s = c.args.growing.now in
     let e : ready_at s c.args.leaf ≡ None = ap (λ k. get s.ready k) (sym c.key_at.ensures) ∙ (sym c.get.ensures ∙ ap option_copied c.in_default.is) in
-    never_none c.args.problem.now s c.requires.growing.1 c.args.leaf c.requires.leaf c.requires.waits e
+    never_none c.args.site.now s c.requires.growing.1 c.args.leaf c.requires.leaf c.requires.waits e
 
 pub unreachable-requires-in-Settled : goal.unreachable-requires-in-Settled
 unreachable-requires-in-Settled g c =
     let s = c.args.growing.now in
     let q = c.in-Some.ready.now in
     let e : ready_at s c.args.leaf ≡ Some q = ap (λ k. get s.ready k) (sym c.key_at.ensures) ∙ (sym c.get.ensures ∙ ap option_copied c.in-Some.is) in
-    never_settled c.args.problem.now s c.requires.growing.1 c.args.leaf c.requires.leaf c.requires.waits q c.in-Settled.field-0 e c.in-Settled.is
+    never_settled c.args.site.now s c.requires.growing.1 c.args.leaf c.requires.leaf c.requires.waits q c.in-Settled.field-0 e c.in-Settled.is
 
 pub settle-requires-clause-sound : goal.settle-requires-clause-sound
 settle-requires-clause-sound g c =
-    subst (λ (k : Node). IsSound (shape_of c.args.problem.now) (node_of k)) (sym c.requires.node) (c.requires.growing.1.tree.kept.sound c.args.leaf c.requires.leaf)
+    subst (λ (k : Node). IsSound (shape_of c.args.site.now) (node_of k)) (sym c.requires.node) (c.requires.growing.1.tree.kept.sound c.args.leaf c.requires.leaf)
 
 pub settle-requires-clause-reduced : goal.settle-requires-clause-reduced
 settle-requires-clause-reduced g c =
     let s = c.args.growing.now in
     let gr = c.requires.growing.1 in
-    subst (λ (k : Node). IsReduced (shape_of c.args.problem.now) (node_of k)) (sym c.requires.node)
-    (reduced_there c.args.problem.now s gr c.args.leaf c.requires.leaf (waits_open c.args.problem.now s gr c.args.leaf c.requires.leaf c.requires.waits))
+    subst (λ (k : Node). IsReduced (shape_of c.args.site.now) (node_of k)) (sym c.requires.node)
+    (reduced_there c.args.site.now s gr c.args.leaf c.requires.leaf (waits_open c.args.site.now s gr c.args.leaf c.requires.leaf c.requires.waits))
 
-pub returns-in_ok-copy-in-Refuted : goal.returns-in_ok-copy-in-Refuted
-returns-in_ok-copy-in-Refuted g c =
-    let p = c.args.problem.now in
+pub returns-in_ok-copy-in-Refuted-clause-settled : goal.returns-in_ok-copy-in-Refuted-clause-settled
+returns-in_ok-copy-in-Refuted-clause-settled g c =
+    let p = c.args.site.now in
     let s = c.args.growing.now in
     let q = c.in-Some.ready.now in
     let e : ready_at s c.args.leaf ≡ Some q = ap (λ k. get s.ready k) (sym c.key_at.ensures) ∙ (sym c.get.ensures ∙ ap option_copied c.in-Some.is) in

@@ -8,7 +8,6 @@ use Rattle.abb_search.specs.declared.outcome.Found.{Found}
 use Rattle.abb_search.specs.declared.outcome.Found.TheVariants as founds
 use Rattle.abb_search.specs.declared.growing.Growing.{Growing}
 use Rattle.abb_search.specs.declared.rounds.Ending.{Ending}
-use Rattle.abb_search.specs.declared.rounds.Ending.TheVariants as endings
 use Rattle.abb_search.specs.Found.{found_with}
 use Rattle.abb_search.specs.Rounds.{EndsWith}
 use Rattle.abb_search.specs.Answers.{past_with, IsEnd, StepHolds}
@@ -20,7 +19,7 @@ use Rattle.abb_search.proofs.step.found_by.Goals as goal
 
 pub returns-in_ok-whole-in-Whole-clause-holds : goal.returns-in_ok-whole-in-Whole-clause-holds
 returns-in_ok-whole-in-Whole-clause-holds g c =
-    let p = c.args.problem.now in
+    let p = c.args.site.now in
     let s = c.args.growing.now in
     let t = c.requires.kept in
     let new : Growing = record { start = s.start; budget = s.budget; nodes = s.nodes; pool = s.pool; ready = s.ready; best = c.take.new.self; stop = s.stop } in
@@ -38,7 +37,7 @@ shut_tree-requires-clause-leaf g c = c.requires.kept.kept.grown.linked.some
 
 pub returns-in_ok-placed-in-Spent-clause-holds : goal.returns-in_ok-placed-in-Spent-clause-holds
 returns-in_ok-placed-in-Spent-clause-holds g c =
-    let p = c.args.problem.now in
+    let p = c.args.site.now in
     let s = c.args.growing.now in
     let t = c.requires.kept in
     let at = c.in-Spent.leaf in
@@ -50,18 +49,18 @@ returns-in_ok-placed-in-Spent-clause-holds g c =
     let of : IsTreeOf (shut_cells ms s.pool.payloads) at w.tree w.place = search rules in
     subst (λ (b : Option claims.Network). IsEnd g.E.Evaluator.past p s new (founds.Spent b w.tree w.place count)) (sym c.take-in-Spent.ensures.value)
     (ends_with g.E.Evaluator.past p s new (founds.Spent s.best w.tree w.place count) t
-    (spent_found p (spent p s t ms at count f) (closed_tree p s t ms f.shut) at w.place w.tree of c.in_ok-placed-in-Spent.ensures.sized c.is_valid.ensures.valid count s.budget s.start refl refl
+    (spent_found p (spent p s t ms at count f) (closed_tree p s t ms f.shut) at w.place w.tree of c.in_ok-placed-in-Spent.ensures.sized c.problem.ensures.valid count s.budget s.start refl refl
     (spent_here p s t ms at count f))
     (λ (q : founds.Spent s.best w.tree w.place count ≡ founds.Memory). cc) refl refl refl refl refl)
 
 pub tree_with-requires-clause-leaf : goal.tree_with-requires-clause-leaf
 tree_with-requires-clause-leaf g c =
-    let at = subst (λ (x : Ending). EndsWith g.E.Evaluator.past c.args.problem.now c.args.growing.now (claimed_cost (claim_with c.args.growing.now.best)) x) c.in-Past.is c.requires.ends in
+    let at = subst (λ (x : Ending). EndsWith g.E.Evaluator.past c.args.site.now c.args.growing.now (claimed_cost (claim_with c.args.growing.now.best)) x) c.in-Past.is c.requires.ends in
     at.there
 
 pub returns-in_ok-placed-in-Past-clause-holds : goal.returns-in_ok-placed-in-Past-clause-holds
 returns-in_ok-placed-in-Past-clause-holds g c =
-    let p = c.args.problem.now in
+    let p = c.args.site.now in
     let s = c.args.growing.now in
     let t = c.requires.kept in
     let h = c.in-Past.stopped in

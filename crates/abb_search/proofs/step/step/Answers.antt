@@ -12,7 +12,7 @@ use Rattle.abb_search.proofs.step.step.Goals as goal
 
 pub returns-clause-holds : goal.returns-clause-holds
 returns-clause-holds g c =
-    let p = c.args.problem.now in
+    let p = c.args.site.now in
     let s = c.args.growing.now in
     let w = c.in_ok-placed.placed in
     let hb = stopped_by s.stop c.in-Some.leaf (sym c.stopped_leaf.ensures ∙ c.in-Some.is) in

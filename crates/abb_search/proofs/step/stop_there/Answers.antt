@@ -13,14 +13,14 @@ use Rattle.abb_search.proofs.TurnLemmas.{there, hand, stops_there}
 use Rattle.abb_search.proofs.step.stop_there.Goals as goal
 
 pub tree_with-requires-clause-leaf : goal.tree_with-requires-clause-leaf
-tree_with-requires-clause-leaf g c = there c.args.problem.now c.is_valid.ensures.valid c.args.growing.now c.requires.growing c.args.leaf c.requires.stop.is_open c.is_pool.ensures.payloads c.is_pool.ensures.leaves
+tree_with-requires-clause-leaf g c = there c.args.site.now c.problem.ensures.valid c.args.growing.now c.requires.growing c.args.leaf c.requires.stop.is_open c.is_pool.ensures.payloads c.is_pool.ensures.leaves
 
 pub take_stop-stop-requires : goal.take_stop-stop-requires
-take_stop-stop-requires g c = there c.args.problem.now c.is_valid.ensures.valid c.args.growing.now c.requires.growing c.args.leaf c.requires.stop.is_open c.is_pool.ensures.payloads c.is_pool.ensures.leaves
+take_stop-stop-requires g c = there c.args.site.now c.problem.ensures.valid c.args.growing.now c.requires.growing c.args.leaf c.requires.stop.is_open c.is_pool.ensures.payloads c.is_pool.ensures.leaves
 
 pub returns-clause-holds : goal.returns-clause-holds
 returns-clause-holds g c =
-    let p = c.args.problem.now in
+    let p = c.args.site.now in
     let s = c.args.growing.now in
     let leaf = c.args.leaf in
     let found = c.requires.stop.past in
@@ -28,8 +28,8 @@ returns-clause-holds g c =
     let r = c.take_stop-stop.ensures.rest in
     let i = found.interval in
     let h : StoppedLeaf = record { leaf = leaf; stop = i.stop } in
-    let at = stops_there p c.is_valid.ensures.valid s c.requires.growing leaf c.requires.stop.is_open c.is_pool.ensures.payloads c.is_pool.ensures.leaves
-    (hand p c.is_valid.ensures.valid s c.requires.growing leaf c.requires.stop.is_open c.is_pool.ensures.payloads c.is_pool.ensures.leaves) i found.is in
+    let at = stops_there p c.problem.ensures.valid s c.requires.growing leaf c.requires.stop.is_open c.is_pool.ensures.payloads c.is_pool.ensures.leaves
+    (hand p c.problem.ensures.valid s c.requires.growing leaf c.requires.stop.is_open c.is_pool.ensures.payloads c.is_pool.ensures.leaves) i found.is in
     let after = c.take_stop-stop.new.growing in
     let new : Growing = record { start = after.start; budget = after.budget; nodes = after.nodes; pool = after.pool; ready = after.ready; best = c.take.new.self; stop = after.stop } in
     let stop_is : c.take_stop-stop.result ≡ Some h = c.take_stop-stop.ensures.stop ∙ ap (λ (o : Option Interval). interval_stop leaf o) found.is in

@@ -13,13 +13,13 @@ use Rattle.abb_search.proofs.step.take_turn.Goals as goal
 pub step-requires-2-clause-going : goal.step-requires-2-clause-going
 step-requires-2-clause-going g c =
     let old = c.args.growing.now in
-    let stands = subst (λ b. StandsAt g.E.Evaluator.past c.args.problem.now old b) c.if-looked.false c.requires.stands in
-    let given = subst (λ (w : Option claims.Network). IsBest c.args.problem.now w) (sym c.in_ok-copy_of_network.ensures) (best_of c.args.problem.now old stands.0) in
-    root_after g.E.Evaluator.past c.args.problem.now old.start old.budget c.in_ok-copy_of_network.field-0 given c.in_ok-root.root c.in_ok-root.ensures.root c.requires.some
+    let stands = subst (λ b. StandsAt g.E.Evaluator.past c.args.site.now old b) c.if-looked.false c.requires.stands in
+    let given = subst (λ (w : Option claims.Network). IsBest c.args.site.now w) (sym c.in_ok-copy_of_network.ensures) (best_of c.args.site.now old stands.0) in
+    root_after g.E.Evaluator.past c.args.site.now old.start old.budget c.in_ok-copy_of_network.field-0 given c.in_ok-root.root c.in_ok-root.ensures.root c.requires.some
 
 pub returns-clause-holds : goal.returns-clause-holds
 returns-clause-holds g c =
-    let p = c.args.problem.now in
+    let p = c.args.site.now in
     let old = c.args.growing.now in
     let root = c.in_ok-root.root in
     let looked = c.in_ok-root.ensures.root in

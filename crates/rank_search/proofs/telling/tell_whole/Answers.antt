@@ -17,12 +17,12 @@ tell-requires-clause-within c =
 
 pub returns-clause-tells : goal.returns-clause-tells
 returns-clause-tells c =
-    let p = c.args.problem.now in
+    let p = c.args.site.now in
     let s = c.args.growing.now in
     let fs = c.args.found.found in
     let ms = c.args.proofs.now in
     with_three c.tell.result
     (λ t n of sized. subst (λ (ws : List Network). IsTelling false p c.args.found.count ws t.tree (map mark_of t.marks.items)) (sym n)
-    (is_telling p c.is_valid.ensures.valid c.args.found.count s fs c.requires.kept c.requires.start c.requires.best ms 0 t.place t.tree (map mark_of t.marks.items) of false
+    (is_telling p c.problem.ensures.valid c.args.found.count s fs c.requires.kept c.requires.start c.requires.best ms 0 t.place t.tree (map mark_of t.marks.items) of false
     (all_close p s (undercut_by c.args.found.count fs) ms c.requires.shut) sized c.tell.ensures.asked))
     c.tell.ensures.networks c.tell.ensures.tree c.tell.ensures.sized

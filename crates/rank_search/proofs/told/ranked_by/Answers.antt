@@ -15,23 +15,23 @@ use Rattle.rank_search.proofs.told.ranked_by.Goals as goal
 pub tell_whole-requires-clause-shut : goal.tell_whole-requires-clause-shut
 tell_whole-requires-clause-shut g c =
     let found = c.args.found in
-    subst (λ (ms : List (Option Shut)). ShutAll c.args.problem.now c.args.growing.now (undercut_by found.count found.found) ms) (sym c.deref.ensures.value)
-    (subst (λ (e : Ending). EndsWith g.E.Evaluator.past c.args.problem.now c.args.growing.now (undercut_by found.count found.found) e) c.in-Whole.is c.requires.ends)
+    subst (λ (ms : List (Option Shut)). ShutAll c.args.site.now c.args.growing.now (undercut_by found.count found.found) ms) (sym c.deref.ensures.value)
+    (subst (λ (e : Ending). EndsWith g.E.Evaluator.past c.args.site.now c.args.growing.now (undercut_by found.count found.found) e) c.in-Whole.is c.requires.ends)
 
 pub tell_stopped-requires-clause-shut : goal.tell_stopped-requires-clause-shut
 tell_stopped-requires-clause-shut g c =
     let found = c.args.found in
-    let ends = subst (λ (e : Ending). EndsWith g.E.Evaluator.past c.args.problem.now c.args.growing.now (undercut_by found.count found.found) e) c.in-Spent.is c.requires.ends in
-    subst (λ (ms : List (Option Shut)). ShutSome c.args.problem.now c.args.growing.now (undercut_by found.count found.found) ms) (sym c.deref-in-Spent.ensures.value) ends.shut
+    let ends = subst (λ (e : Ending). EndsWith g.E.Evaluator.past c.args.site.now c.args.growing.now (undercut_by found.count found.found) e) c.in-Spent.is c.requires.ends in
+    subst (λ (ms : List (Option Shut)). ShutSome c.args.site.now c.args.growing.now (undercut_by found.count found.found) ms) (sym c.deref-in-Spent.ensures.value) ends.shut
 
 pub tell_stopped-requires-clause-stays : goal.tell_stopped-requires-clause-stays
 tell_stopped-requires-clause-stays g c =
-    let ends = subst (λ (e : Ending). EndsWith g.E.Evaluator.past c.args.problem.now c.args.growing.now (undercut_by c.args.found.count c.args.found.found) e) c.in-Spent.is c.requires.ends in
+    let ends = subst (λ (e : Ending). EndsWith g.E.Evaluator.past c.args.site.now c.args.growing.now (undercut_by c.args.found.count c.args.found.found) e) c.in-Spent.is c.requires.ends in
     subst (λ (ms : List (Option Shut)). slice_index_or ms c.in-Spent.leaf None ≡ None) (sym c.deref-in-Spent.ensures.value) ends.stays
 
 pub returns-in_ok-told-in-Spent : goal.returns-in_ok-told-in-Spent
 returns-in_ok-told-in-Spent g c =
-    let p = c.args.problem.now in
+    let p = c.args.site.now in
     let s = c.args.growing.now in
     let found = c.args.found in
     let told = c.in_ok-told-in-Spent.told in
@@ -49,7 +49,7 @@ tell_stopped-requires-in-Past-clause-stays g c = refl
 
 pub returns-in_ok-told-in-Past : goal.returns-in_ok-told-in-Past
 returns-in_ok-told-in-Past g c =
-    let p = c.args.problem.now in
+    let p = c.args.site.now in
     let s = c.args.growing.now in
     let found = c.args.found in
     let told = c.in_ok-told-in-Past.told in

@@ -4,8 +4,9 @@ use Rattle.rank_search.proofs.turns.run.Given as goal
 
 abbrev pub invariant-turns : goal.invariant-turns
 invariant-turns g l = record {
-  ranking : IsRanking g.E.Evaluator.past l.problem l.fn.growing.budget l.growing l.found;
-  makers : l.makers.makers ≡ l.fn.makers.makers;
+  ranking : IsRanking g.E.Evaluator.past l.site l.fn.growing.budget l.growing l.found;
+  own : g.E.Evaluator.values l.site l.workspace.evaluator;
+  makers : l.workspace.makers.makers ≡ l.fn.workspace.makers.makers;
   count : l.found.count ≡ l.fn.found.count;
 }
 

@@ -13,7 +13,7 @@ returns-in-Ok-network_of g c =
     let p = c.args.problem.now in
     let claim = claim_of c.args.claim in
     let w = c.in-Ok-network_of.network in
-    let work = SpotWork c.args.spot c.args.budget in
+    let work = SpotWork c.args.spot c.args.effort.budget in
     let Q : Status → List ℕ → Type 0 = Tells (OnNetwork work p claim c.args.tree.now) in
     Ends-from (Tells (work p w)) Q c.args.out.now _ _ _ c.in-Ok-network_of.ensures.silent
     (Tells-map (work p w) (OnNetwork work p claim c.args.tree.now) (λ s lines h. inr (w, subst (λ (q : Problem). ClaimsNetwork q claim w) c.of-site.ensures c.in-Ok-network_of.ensures.network, h))) c.say_range.ensures
@@ -22,7 +22,7 @@ pub returns : goal.returns
 returns g c =
     let p = c.args.problem.now in
     let claim = claim_of c.args.claim in
-    let work = SpotWork c.args.spot c.args.budget in
+    let work = SpotWork c.args.spot c.args.effort.budget in
     let Q : Status → List ℕ → Type 0 = Tells (OnNetwork work p claim c.args.tree.now) in
     Ends-map (Tells (ClaimRefusal p claim)) Q c.args.out.now _ _ (Tells-map (ClaimRefusal p claim) (OnNetwork work p claim c.args.tree.now) (λ s lines h. inl h))
     (subst (λ (q : Problem). Ends (Tells (ClaimRefusal q claim)) c.args.out.now c.network_of.new.out c.in-Err.status) c.of-site.ensures c.in-Err.ensures.told)

@@ -31,15 +31,15 @@ returns-in-Ok g c =
     let w : Network = c.args.network.now in
     let r = c.in-Ok.range in
     let lines : List (List Token) = range_lines p r.from r.to r.below r.above in
-    Ends-from _ _ c.args.out.now _ c.say_printed.new.out _ c.out.view_is (Tells-map (OneAnswer Done lines) (SpotWork c.args.spot c.args.budget p w) (range_told p c.args.spot w c.args.budget r.from r.to r.below r.above (subst (λ (q : Problem). IsRange q c.args.spot w r.from r.to r.below r.above) c.of-site.ensures c.in-Ok.ensures.range)))
+    Ends-from _ _ c.args.out.now _ c.say_printed.new.out _ c.out.view_is (Tells-map (OneAnswer Done lines) (SpotWork c.args.spot c.args.effort.budget p w) (range_told p c.args.spot w c.args.effort.budget r.from r.to r.below r.above (subst (λ (q : Problem). IsRange q c.args.spot w r.from r.to r.below r.above) c.of-site.ensures c.in-Ok.ensures.range)))
     (c.say_printed.ensures lines _ refl c.print_range-printed.ensures.later c.print_range-printed.ensures.prints)
 
 pub say_refusal-requires-clause-refusal : goal.say_refusal-requires-clause-refusal
-say_refusal-requires-clause-refusal g c = (c.args.network.now, c.args.budget, subst (λ (q : Problem). IsRefusal q c.args.spot c.args.network.now c.args.budget c.in-Err.fault) c.of-site.ensures c.in-Err.ensures.refusal)
+say_refusal-requires-clause-refusal g c = (c.args.network.now, c.args.effort.budget, subst (λ (q : Problem). IsRefusal q c.args.spot c.args.network.now c.args.effort.budget c.in-Err.fault) c.of-site.ensures c.in-Err.ensures.refusal)
 
 pub returns-in-Err : goal.returns-in-Err
 returns-in-Err g c =
-    c.say_refusal.ensures c.args.network.now c.args.budget (subst (λ (q : Problem). IsRefusal q c.args.spot c.args.network.now c.args.budget c.in-Err.fault) c.of-site.ensures c.in-Err.ensures.refusal)
+    c.say_refusal.ensures c.args.network.now c.args.effort.budget (subst (λ (q : Problem). IsRefusal q c.args.spot c.args.network.now c.args.effort.budget c.in-Err.fault) c.of-site.ensures c.in-Err.ensures.refusal)
 
 pub range-requires-clause-passes : goal.range-requires-clause-passes
 range-requires-clause-passes g c = subst (λ (q : Problem). IsFeasible q c.args.network.now) (sym c.of-site.ensures) c.requires.passes

@@ -16,7 +16,7 @@ returns-in-Ok-clause-ends g c =
     let new = g.F.Shelf.state c.say_tree.new.shelf in
     let file = c.args.file.now in
     let tree = c.args.tree.now in
-    let work = StableWork c.args.kind c.args.name.now c.args.budget in
+    let work = StableWork c.args.kind c.args.name.now c.args.effort.budget in
     let P : Status → List ℕ → Type 0 = Says (OnTree work mid.held tree c.in-Ok.problem) (λ other. other ≡ tree) mid new in
     let Q : Status → List ℕ → Type 0 = TwoFilesSay (OnTree work) file tree old new in
     Ends-from P Q c.args.out.now _ _ _ c.in-Ok.ensures.silent
@@ -28,7 +28,7 @@ returns-in-Err-clause-ends g c =
     let new = g.F.Shelf.state c.problem_of.new.shelf in
     let file = c.args.file.now in
     let tree = c.args.tree.now in
-    let work = StableWork c.args.kind c.args.name.now c.args.budget in
+    let work = StableWork c.args.kind c.args.name.now c.args.effort.budget in
     let Q : Status → List ℕ → Type 0 = TwoFilesSay (OnTree work) file tree old new in
     Ends-map _ Q c.args.out.now _ _ (on_both-faults (TreeSays work tree) file tree old new) c.in-Err.ensures.told
 

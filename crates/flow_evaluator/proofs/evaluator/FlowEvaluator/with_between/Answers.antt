@@ -8,8 +8,8 @@ use Rattle.tree_rules.specs.Past.{IsPastAt}
 use Rattle.flow_evaluator.proofs.ToldLemmas.{between_is}
 use Rattle.flow_evaluator.proofs.evaluator.FlowEvaluator.with_between.Goals as goal
 
-pub returns-in-Some : goal.returns-in-Some
-returns-in-Some c =
+pub returns-in-Some-clause-evaluated : goal.returns-in-Some-clause-evaluated
+returns-in-Some-clause-evaluated c =
     let p = c.args.site.now in
     let n = node_of c.args.node in
     let past : IsEvaluated IsPastAt p n c.args.decided (Stopped c.in-Stopped.stop) = subst (IsEvaluated IsPastAt p n c.args.decided) c.in-Stopped.is c.requires.told in

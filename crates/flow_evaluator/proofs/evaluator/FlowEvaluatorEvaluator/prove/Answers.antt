@@ -1,4 +1,5 @@
+use Rattle.node_evaluation.specs.Evaluated.{cost_in}
 use Rattle.flow_evaluator.proofs.evaluator.FlowEvaluatorEvaluator.prove.Goals as goal
 
-pub returns : goal.returns
-returns c = simp c.of-site.ensures at (c.prove_on.ensures.proved (record { cost = c.args.cost; d = c.args.d }) c.requires.positive (rw c.of-site.ensures c.requires.worth))
+pub returns-clause-proved : goal.returns-clause-proved
+returns-clause-proved c = c.prove_on.ensures.proved (cost_in c.args.network.now) c.is_sized.ensures.sized.positive c.requires.worth

@@ -8,7 +8,7 @@ use Rattle.stability.proofs.RangeLemmas.{range_from}
 use Rattle.stability.proofs.case.Case.both_sides.Goals as goal
 
 pub returns-clause-range : goal.returns-clause-range
-returns-clause-range c =
+returns-clause-range g c =
     let k = c.args.self.now in
     let below = c.in_ok-below.below in
     let above = c.in_ok-above.above in

@@ -4,13 +4,13 @@ use Rattle.stability.proofs.SideLemmas.{nearer_allowed}
 use Rattle.stability.proofs.case.Case.narrowed.Goals as goal
 
 pub probe_at-requires-clause-allowed : goal.probe_at-requires-clause-allowed
-probe_at-requires-clause-allowed c =
+probe_at-requires-clause-allowed g c =
     let k = c.args.self.now in
     let h = c.requires.is_bracket in
     nearer_allowed k.spot c.args.side (value_at k.problem k.spot) c.next-next.result c.args.bracket.bad h.now_allowed h.allowed (omega arith)
 
 pub returns-in-Err-clause-is_bracket : goal.returns-in-Err-clause-is_bracket
-returns-in-Err-clause-is_bracket c =
+returns-in-Err-clause-is_bracket g c =
     let k = c.args.self.now in
     let h = c.requires.is_bracket in
     record {

@@ -7,7 +7,7 @@ use Rattle.stability.specs.Refusal.{IsProbed}
 use Rattle.stability.proofs.case.Case.probe_at.Goals as goal
 
 pub returns-clause-probed : goal.returns-clause-probed
-returns-clause-probed c =
+returns-clause-probed g c =
     let k = c.args.self.now in
     let fits : SFits w64 c.value.result = search rules in
     let at : to_z w64 (of_z w64 c.value.result) ≡ value_on c.args.side (value_at k.problem k.spot) c.args.away = simp to_z-of_z c.value.ensures in

@@ -9,7 +9,7 @@ use Rattle.stability.specs.Refusal.{IsProbed}
 use Rattle.stability.proofs.case.Case.probe_now.Goals as goal
 
 pub search-requires-clause-passes : goal.search-requires-clause-passes
-search-requires-clause-passes c =
+search-requires-clause-passes g c =
     let k = c.args.self.now in
     let fits : SFits w64 c.value_now.result = search rules in
     let at : to_z w64 (of_z w64 c.value_now.result) ≡ value_at k.problem k.spot = simp to_z-of_z c.value_now.ensures in
@@ -17,7 +17,7 @@ search-requires-clause-passes c =
     subst (λ (q : Problem). IsFeasible q c.in-Ok.network) same (subst (λ (w : Network). IsFeasible k.problem w) (sym c.in-Ok.ensures) c.is_known.ensures.feasible)
 
 pub returns-in-Ok-clause-probed : goal.returns-in-Ok-clause-probed
-returns-in-Ok-clause-probed c =
+returns-in-Ok-clause-probed g c =
     let k = c.args.self.now in
     let fits : SFits w64 c.value_now.result = search rules in
     let at : to_z w64 (of_z w64 c.value_now.result) ≡ value_at k.problem k.spot = simp to_z-of_z c.value_now.ensures in

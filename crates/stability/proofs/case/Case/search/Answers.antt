@@ -10,7 +10,7 @@ use Rattle.stability.proofs.ProbeLemmas.{cheaper_found, best_found}
 use Rattle.stability.proofs.case.Case.search.Goals as goal
 
 pub returns-then-is_cheaper-clause-probed : goal.returns-then-is_cheaper-clause-probed
-returns-then-is_cheaper-clause-probed c =
+returns-then-is_cheaper-clause-probed g c =
     let k = c.args.self.now in
     let n = c.in-Solved.network in
     let fc : SFits w128 c.cost.result = search rules in
@@ -23,7 +23,7 @@ returns-then-is_cheaper-clause-probed c =
     (cheaper_found c.accepted_is_optimal.ensures c.accepted_has_flows.ensures c.args.desk.now.problem (subst IsValid c.problem.ensures c.is_valid.ensures.valid) much n c.in-Solved.tree c.in-Solved.ensures.found c.is_sized.ensures.sized less))
 
 pub returns-in-Solved-clause-probed : goal.returns-in-Solved-clause-probed
-returns-in-Solved-clause-probed c =
+returns-in-Solved-clause-probed g c =
     let k = c.args.self.now in
     let n = c.in-Solved.network in
     let fc : SFits w128 c.cost.result = search rules in

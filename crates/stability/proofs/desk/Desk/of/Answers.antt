@@ -7,13 +7,15 @@ use Rattle.stability_rules.specs.Spot.{value_at}
 use Rattle.stability.specs.Case.{Case}
 use Rattle.stability.proofs.desk.Desk.of.Goals as goal
 
+pub of-requires : goal.of-requires
+of-requires g c = c.case.invariant.graph ∙ ap (λ (p : Problem). shape_of p) (sym c.in_ok-problem.ensures)
+
 pub returns-clause-desk : goal.returns-clause-desk
-returns-clause-desk c =
+returns-clause-desk g c =
     let k = c.args.case.now in
     let at : c.case.inside.problem.now ≡ k.problem = ap (λ (x : Case). x.problem) c.case.view_is in
-    let graph : shape c.case.inside.graph.now ≡ shape_of k.problem = c.case.invariant.graph ∙ ap (λ (p : Problem). shape_of p) at in
     record {
       value = value_at k.problem k.spot;
       problem = c.in_ok-problem.ensures ∙ (at ∙ sym (c.present_stays.ensures.same k.problem k.spot));
-      makers = subst (λ (g : Shape). AreMakersOf g c.in_ok-workspace.workspace) graph c.in_ok-workspace.ensures;
+      makers = subst (λ (q : Problem). AreMakersOf (shape_of q) c.in_ok-workspace.workspace.makers.makers) (c.of.ensures ∙ (c.in_ok-problem.ensures ∙ at)) c.in_ok-workspace.ensures.makers;
     }

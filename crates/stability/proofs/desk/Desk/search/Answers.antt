@@ -1,14 +1,26 @@
-use Rattle.std.proofs.Common.{◌≡◌, subst}
-use Rattle.number_sets.specs.Sets.{has}
-use Rattle.pns_rules.specs.Nodes.{Node}
-use Rattle.pgraph.specs.View.{node_of}
+use Rattle.std.proofs.Common.{◌≡◌, sym, ap, ◌∙◌, subst}
+use Rattle.problem_rules.specs.Problem.{Problem}
+use Rattle.pns_rules.specs.Shape.{Shape, shape_of}
+use Rattle.pgraph.specs.Tables.{shape}
+use Rattle.neutral_extension.specs.Candidates.{AreMakersOf}
 use Rattle.tree_rules.specs.Accepted.{first_node}
+use Rattle.tree_rules.specs.Claim.{IsFeasible}
 use Rattle.abb_search.specs.Found.{IsFound}
 use Rattle.stability.specs.Desk.{Desk}
 use Rattle.stability.proofs.desk.Desk.search.Goals as goal
 
+pub search_at-requires-clause-makers : goal.search_at-requires-clause-makers
+search_at-requires-clause-makers g c =
+    let site : c.of-site.result ≡ c.args.self.now.problem = c.of-site.ensures ∙ ap (λ (d : Desk). d.problem) c.self.view_is in
+    subst (λ (s : Shape). AreMakersOf s c.self.inside.workspace.makers.makers) (c.requires.graph ∙ ap (λ (p : Problem). shape_of p) (sym site))
+    (subst (λ (d : Desk). AreMakersOf (shape c.args.graph.now) d.makers) (sym c.self.view_is) c.requires.own)
+
+pub search_at-requires-clause-passes : goal.search_at-requires-clause-passes
+search_at-requires-clause-passes g c =
+    let site : c.of-site.result ≡ c.args.self.now.problem = c.of-site.ensures ∙ ap (λ (d : Desk). d.problem) c.self.view_is in
+    subst (λ (p : Problem). IsFeasible p c.args.network) (sym site) c.requires.passes
+
 pub returns-clause-found : goal.returns-clause-found
-returns-clause-found c =
-    let start : node_of (record { inside = c.empty.result; outside = c.empty-2.result }) ≡ first_node = λ i. record { inside = has (c.empty.ensures i); outside = has (c.empty-2.ensures i) } in
-    subst (λ (d : Desk). IsFound d.problem first_node c.args.budget c.search.result) c.self.view_is
-    (subst (λ (n : Node). IsFound c.self.inside.problem n c.args.budget c.search.result) start c.search.ensures.found)
+returns-clause-found g c =
+    let site : c.of-site.result ≡ c.args.self.now.problem = c.of-site.ensures ∙ ap (λ (d : Desk). d.problem) c.self.view_is in
+    subst (λ (p : Problem). IsFound p first_node c.args.budget c.search_at.result) site c.search_at.ensures.found

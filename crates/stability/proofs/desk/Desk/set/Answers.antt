@@ -12,7 +12,7 @@ use Rattle.stability.proofs.DeskLemmas.{set_again, set_knows, set_valid}
 use Rattle.stability.proofs.desk.Desk.set.Goals as goal
 
 pub set-requires-clause-known : goal.set-requires-clause-known
-set-requires-clause-known c =
+set-requires-clause-known g c =
     let k = c.args.case.now in
     let p = c.self.inside.problem in
     let spot : c.case.inside.spot ≡ k.spot = ap (λ (x : Case). x.spot) c.case.view_is in
@@ -20,7 +20,7 @@ set-requires-clause-known c =
     subst (λ (s : Spot). KnowsSpot p s) (sym spot) (set_knows k.problem p k.spot c.is_known.ensures.known c.requires.desk.value is)
 
 pub set-requires-clause-valid : goal.set-requires-clause-valid
-set-requires-clause-valid c =
+set-requires-clause-valid g c =
     let k = c.args.case.now in
     let p = c.self.inside.problem in
     let fits : SFits w64 c.args.value = search rules in
@@ -32,7 +32,7 @@ set-requires-clause-valid c =
     (set_valid c.valued_is_valid.ensures k.problem p c.is_known.ensures.valid k.spot c.is_known.ensures.known c.requires.desk.value c.args.value is c.requires.allowed)
 
 pub returns-clause-problem : goal.returns-clause-problem
-returns-clause-problem c =
+returns-clause-problem g c =
     let k = c.args.case.now in
     let p = c.self.inside.problem in
     let fits : SFits w64 c.args.value = search rules in
@@ -43,8 +43,8 @@ returns-clause-problem c =
     c.set.ensures ∙ (same ∙ set_again k.problem p k.spot c.is_known.ensures.known c.requires.desk.value c.args.value is)
 
 pub returns-clause-own : goal.returns-clause-own
-returns-clause-own c = subst (λ (d : Desk). AreMakersOf (shape_of c.args.case.now.problem) d.makers) (sym c.self.view_is) c.requires.desk.makers
+returns-clause-own g c = subst (λ (d : Desk). AreMakersOf (shape_of c.args.case.now.problem) d.makers) (sym c.self.view_is) c.requires.desk.makers
 
 pub returns-clause-desk : goal.returns-clause-desk
-returns-clause-desk c =
-    record { value = c.args.value; problem = returns-clause-problem c; makers = returns-clause-own c }
+returns-clause-desk g c =
+    record { value = c.args.value; problem = returns-clause-problem g c; makers = returns-clause-own g c }

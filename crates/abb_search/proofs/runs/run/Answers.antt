@@ -4,17 +4,18 @@ use Rattle.node_evaluation.specs.Looks.{cost_of}
 use Rattle.abb_search.specs.declared.outcome.Found.{Found}
 use Rattle.abb_search.specs.Answers.{IsMore, IsEnd, StepHolds}
 use Rattle.abb_search.proofs.StepLemmas.{going_positive, fallen_trans, against_after}
-use Rattle.abb_search.proofs.workspace.run.Goals as goal
+use Rattle.abb_search.proofs.runs.run.Goals as goal
 
 pub turns-preserved : goal.turns-preserved
 turns-preserved g c =
     let Past = g.E.Evaluator.past in
-    let p = c.args.problem.now in
+    let p = c.args.site.now in
     let root = c.args.root in
     let s = c.turns.growing in
     let inv = c.turns.invariant in
     let more : IsMore Past p s c.step.new.growing = subst (λ (o : Option Found). StepHolds Past p s c.step.new.growing o) c.in-Ok-None.field-0-is c.in-Ok-None.ensures.holds in
     record {
+      own = c.step.ensures.own;
       makers = c.step.ensures.makers ∙ inv.makers;
       going = more.going;
       start = more.start ∙ inv.start;
@@ -25,7 +26,7 @@ turns-preserved g c =
 pub returns-in-Ok-Some-clause-against : goal.returns-in-Ok-Some-clause-against
 returns-in-Ok-Some-clause-against g c =
     let Past = g.E.Evaluator.past in
-    let p = c.args.problem.now in
+    let p = c.args.site.now in
     let root = c.args.root in
     let s = c.turns.growing in
     let inv = c.turns.invariant in

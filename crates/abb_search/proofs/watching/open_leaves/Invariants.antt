@@ -1,0 +1,6 @@
+use Rattle.std.proofs.Common.{◌≡◌, ℕ, true, Some}
+use Rattle.link_lists.specs.Lists.{has}
+use Rattle.abb_search.proofs.watching.open_leaves.Given as goal
+
+abbrev pub invariant-leaves : goal.invariant-leaves
+invariant-leaves l = (leaf : ℕ) → l.next ≡ Some leaf → has l.growing.pool.leaves leaf ≡ true
