@@ -5,7 +5,7 @@ use Rattle.text_rules.specs.Outside.{Told}
 use Rattle.problem_rules.specs.Problem.{Problem}
 use Rattle.edit_rules.specs.Edit.{Edit}
 use Rattle.studio_rules.specs.Lines.{line, text_of}
-use Rattle.studio_rules.specs.Ending.{Ends, Writes}
+use Rattle.studio_rules.specs.Ending.{Finishes, Writes}
 use Rattle.endings.proofs.Ending.{writes_as}
 use Rattle.studio_rules.specs.declared.status.Status.{Status}
 use Rattle.studio_rules.specs.declared.status.Status.TheVariants.{Done, ReadFault, TooLong}
@@ -72,7 +72,7 @@ module _ (c : Call) (p : Problem) (script : File) where
   by_end command calls law = at c.status refl calls.call.ends
     where
       at : (s : Status) → c.status ≡ s
-          → Ends (WordsSay c.shelf_before c.shelf_after c.words) c.out_before c.out_after s
+          → Finishes (WordsSay c.shelf_before c.shelf_after c.words) c.out_before c.out_after s
           → GivesBack c p script ⊎ HasFailed c
       at ReadFault is e = inr (inl is)
       at WriteFault is e = inr (inr (inl is))

@@ -18,7 +18,7 @@ use Rattle.part_text.specs.Laws.{PartsAreReadOnce}
 use Rattle.studio_rules.specs.Answers.{AnswersTo, CommandAnswers, WordsSay}
 use Rattle.studio_rules.specs.Command.{Command, Splitting, Parting, PartingAgainst, Merging}
 use Rattle.studio_rules.specs.Command.{command_of}
-use Rattle.studio_rules.specs.Ending.{Ends, Writes}
+use Rattle.studio_rules.specs.Ending.{Finishes, Writes}
 use Rattle.studio_rules.specs.Lines.{line, text_of}
 use Rattle.studio_rules.specs.Merge.{MergeWork}
 use Rattle.studio_rules.specs.Part.{PartWork, AgainstWork, part_from}
@@ -69,7 +69,7 @@ printed c command text calls finds =
         finds.before finds.after (text_out c.out_before c.out_after s other goes writes)
 
     at : (s : Status) → IsPrinted s
-        → Ends (WordsSay c.shelf_before c.shelf_after c.words) c.out_before c.out_after s
+        → Finishes (WordsSay c.shelf_before c.shelf_after c.words) c.out_before c.out_after s
         → LinesOf c text s
     at Done is_printed e = (e.1.0, e.1.1, is Done tt e.0 e.2 ∙ e.1.2)
     at Spent is_printed e = (e.1.0, e.1.1, is Spent tt e.0 e.2 ∙ e.1.2)

@@ -1,7 +1,7 @@
 //! A sink in memory, with a room and a put that fails.
 ghost use Rattle.std.specs.Prelude.{◌≡◌, ◌≤◌, ◌↔◌, ◌++◌, [], Some, length, take, IsErr, OnOk, OnErr, IfOk};
 ghost use Rattle.std.specs.Io.KnownBytes.{Appends};
-ghost use Rattle.text_rules.specs.Outside.{HasRisen, AppendsFront, counted};
+ghost use Rattle.text_rules.specs.Outside.{HasRisen, AppendsFront, counted, last_count};
 ghost use Rattle.pns_io.specs.MemorySink.{taken, Fails};
 
 use crate::{Failed, Sink};
@@ -60,6 +60,7 @@ impl Sink for MemSink {
         ensures err { OnErr result (AppendsFront (Some self.old.bytes) (Some self.new.bytes) bytes.now) }
         ensures cause { OnErr result (HasRisen self.old.failed self.new.failed) }
         ensures later { self.old.failed ≤ self.new.failed }
+        ensures few { self.new.failed ≤ last_count }
         ensures takes { self.new.bytes ≡ self.old.bytes ++ take (taken self.old (length bytes.now)) bytes.now }
         ensures fails { IsErr result ↔ Fails self.old (length bytes.now) }
         ensures good { OnOk result (self.new ≡ record self.old { bytes = self.new.bytes; puts = counted self.old.puts }) }

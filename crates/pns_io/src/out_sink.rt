@@ -1,7 +1,7 @@
 //! An output of the system.
 ghost use Rattle.std.specs.Prelude.{◌≡◌, ◌≤◌, OnOk, OnErr, None};
 ghost use Rattle.std.specs.Io.KnownBytes.{Appends};
-ghost use Rattle.text_rules.specs.Outside.{HasRisen, AppendsFront, counted};
+ghost use Rattle.text_rules.specs.Outside.{HasRisen, AppendsFront, counted, last_count};
 
 use crate::{Failed, Sink};
 use std::marker::Model;
@@ -41,6 +41,7 @@ impl<'a, R: Print> Sink for OutSink<'a, R> {
         ensures bad { OnErr result (self.new ≡ counted self.old) }
         ensures cause { OnErr result (HasRisen self.old self.new) }
         ensures later { self.old ≤ self.new }
+        ensures few { self.new ≤ last_count }
     {
         match self.rt.write_all(bytes) {
             Ok(()) => Ok(()),

@@ -21,7 +21,7 @@ use Rattle.studio_rules.specs.Rank.{RankWork}
 use Rattle.studio_rules.specs.Solve.{SolveWork}
 use Rattle.studio_rules.specs.Command.{Command, Listing, Checking, RankChecking, Solving, Ranking, command_of}
 use Rattle.studio_rules.specs.Lines.{line, text_of}
-use Rattle.studio_rules.specs.Ending.{Ends}
+use Rattle.studio_rules.specs.Ending.{Finishes}
 use Rattle.endings.proofs.Ending.{writes_as, one_line}
 use Rattle.endings.proofs.Put.{text_out}
 use Rattle.studio_rules.specs.declared.status.Status.{Status}
@@ -60,7 +60,7 @@ appended old new front text other before after appends =
 
 pub answered : (c : Call) (command : Command) (text : List ℕ) → Calls c command → Puts c text → Answered c command text
 answered c command text calls puts =
-    let ends = subst (λ (s : Status). Ends (WordsSay c.shelf_before c.shelf_after c.words) c.out_before c.out_after s) puts.done calls.call.ends in
+    let ends = subst (λ (s : Status). Finishes (WordsSay c.shelf_before c.shelf_after c.words) c.out_before c.out_after s) puts.done calls.call.ends in
     record {
       lines = ends.1.0;
       answers = subst (λ (f : Option Command). AnswersTo c.shelf_before.held f Done ends.1.0) calls.form ends.1.1;
@@ -72,7 +72,7 @@ module _ (c : Call) (command : Command) (calls : Calls c command) (Q : Status �
   pub ended : ((status : Status) × (text : List ℕ) × EndsWith c status text × Q status text) ⊎ HasFailed c
   ended = at c.status refl calls.call.ends
     where
-      at : (s : Status) → c.status ≡ s → Ends (WordsSay c.shelf_before c.shelf_after c.words) c.out_before c.out_after s → ((status : Status) × (text : List ℕ) × EndsWith c status text × Q status text) ⊎ HasFailed c
+      at : (s : Status) → c.status ≡ s → Finishes (WordsSay c.shelf_before c.shelf_after c.words) c.out_before c.out_after s → ((status : Status) × (text : List ℕ) × EndsWith c status text × Q status text) ⊎ HasFailed c
       at ReadFault is e = inr (inl is)
       at WriteFault is e = inr (inr (inl is))
       at Memory is e = inr (inr (inr (inl is)))

@@ -1,5 +1,6 @@
 pub mod Statuses
 mod Finished
+mod Noted
 pub mod Accepted
 mod RankAccepted
 pub mod Causes

@@ -5,7 +5,7 @@ use Rattle.io_rules.specs.State.{ShelfState, OutputsState}
 use Rattle.studio_rules.specs.TreeFile.{tree_limit}
 use Rattle.studio_rules.specs.Command.{Command, Listing, Checking, RankChecking, Solving, Ranking, Splitting, Merging, command_of}
 use Rattle.studio_rules.specs.Lines.{line, text_of}
-use Rattle.studio_rules.specs.Ending.{Ends, Writes, IsOneOf}
+use Rattle.studio_rules.specs.Ending.{Finishes, Writes, IsOneOf}
 use Rattle.studio_rules.specs.Keeps.{Keeps}
 use Rattle.studio_rules.specs.declared.status.Status.{Status}
 use Rattle.studio_rules.specs.declared.status.Status.TheVariants.{Done, ReadFault, WriteFault, Memory, TooLong}
@@ -22,7 +22,7 @@ pub record Call : Type 0 where
 
 -- what `studio` says of it: the clause `ends`, and the clauses `keeps` and `later`
 pub record IsCall (c : Call) : Type 0 where
-  pub ends : Ends (WordsSay c.shelf_before c.shelf_after c.words) c.out_before c.out_after c.status
+  pub ends : Finishes (WordsSay c.shelf_before c.shelf_after c.words) c.out_before c.out_after c.status
   pub keeps : Keeps c.shelf_before c.shelf_after
 
 -- a call of the command

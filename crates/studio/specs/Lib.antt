@@ -1,3 +1,4 @@
 pub mod Calls
+pub mod Noted
 pub mod RankLaws
 pub mod SolveLaws

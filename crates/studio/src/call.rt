@@ -4,11 +4,12 @@ ghost use Rattle.text_rules.specs.Outside.{HasRisen};
 ghost use Rattle.studio_rules.specs.Lines.{line};
 ghost use Rattle.studio_rules.specs.Command as rules;
 ghost use Rattle.studio_rules.specs.Command.{command_of, AreWithin, IsFileWord};
-ghost use Rattle.studio_rules.specs.Ending.{Ends, Only, IsOneOf, HasFault};
+ghost use Rattle.studio_rules.specs.Ending.{Ends, Finishes, Only, IsOneOf, HasFault};
 ghost use Rattle.studio_rules.specs.Keeps.{Keeps};
 ghost use Rattle.studio_rules.specs.Answers.{CommandSays, WordsSay, IsUndisturbed, IsNotStopped, SearchCanFinish, first_file, statuses_of};
 ghost use Rattle.studio_rules.specs.Causes.{EndsExactly};
 ghost use Rattle.studio_words.specs.View.{command_view};
+ghost use Rattle.studio.specs.Noted.{ShowsFault, IsNoted};
 ghost use Rattle.studio_rules.specs.Best.{FilesClaimBest};
 ghost use Rattle.studio_rules.specs.Rankcheck.{FilesListBest};
 
@@ -161,10 +162,28 @@ fn run<F: Shelf, K: Sink, E: Sink, W: Watch>(
     }
 }
 
+// Puts the line `write fault` on standard error, or as much of it as it takes.
+fn show_fault<K: Sink, E: Sink>(out: &mut Outputs<K, E>)
+    ensures { ShowsFault out.old out.new }
+{
+    let _ = out.err.put(b"write fault\n");
+}
+
+// If an output failed, says so on standard error.
+fn note_fault<K: Sink, E: Sink>(out: &mut Outputs<K, E>, status: Status)
+    ensures { IsNoted status out.old out.new }
+{
+    if let Status::WriteFault = status {
+        show_fault(out);
+    }
+}
+
 /// Does what the words say over the shelf's files, and puts the text on the outputs line by line:
 /// an answer on `out`, and on `err` why there is none.
 ///
 /// To the watch it is reported how far a search is; what is put does not depend on it.
+///
+/// If an output fails, the line `write fault` follows on `err`, as far as `err` takes it.
 ///
 /// The clause `ends` says which text is out with which status, and `keeps` and `later` what is left
 /// of the shelf. The others are parts of `ends` in words of their own.
@@ -175,7 +194,7 @@ pub fn studio<F: Shelf, K: Sink, E: Sink, W: Watch>(
     out: &mut Outputs<K, E>,
     watch: W,
 ) -> Status
-    ensures ends { Ends (WordsSay (F.state shelf.old) (F.state shelf.new) (map string_bytes words.now)) out.old out.new result }
+    ensures ends { Finishes (WordsSay (F.state shelf.old) (F.state shelf.new) (map string_bytes words.now)) out.old out.new result }
     // The shelf tells the same of each file as before, and no count of its faults fell.
     ensures keeps { (name : List ℕ) → (F.state shelf.new).held name ≡ (F.state shelf.old).held name }
     ensures later { (name : List ℕ) → (F.state shelf.old).faults name ≤ (F.state shelf.new).faults name }
@@ -212,5 +231,7 @@ pub fn studio<F: Shelf, K: Sink, E: Sink, W: Watch>(
     accepted_is_best();
     accepted_are_best();
     parts_are_read_once();
-    run(alloc, words, shelf, out, watch)
+    let status = run(alloc, words, shelf, out, watch);
+    note_fault(out, status);
+    status
 }

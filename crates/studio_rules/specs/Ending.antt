@@ -63,6 +63,14 @@ abbrev pub Ends : (Status → List ℕ → Type 0) → (old new : OutputsState) 
 Ends P old new WriteFault = HasFault old new × (status : Status) × (whole : List ℕ) × P status whole × WritesFront old new status whole
 Ends P old new status = (text : List ℕ) × P status text × Writes old new status text
 
+-- How a call of the program ends: as its command ends. If an output failed, the line `write fault`
+-- follows on standard error, or as much of it as that output takes.
+abbrev pub Finishes : (Status → List ℕ → Type 0) → (old new : OutputsState) → Status → Type 0
+Finishes P old new WriteFault =
+    (mid : OutputsState) × Ends P old mid WriteFault × (new.out ≡ mid.out)
+    × AppendsFront mid.err.written new.err.written (line (codes "write fault"))
+Finishes P old new status = Ends P old new status
+
 -- the statuses of an answer that is finished, of one that is not, and of a line that says why there is none
 abbrev pub IsAnswer : Status → Type 0
 IsAnswer Done = Unit {0}

@@ -5,7 +5,7 @@ use Rattle.pns_io.specs.MemoryShelf.{Shelved}
 use Rattle.pns_io.specs.NamedFiles.{file_of}
 use Rattle.studio_rules.specs.Answers.{WordsSay}
 use Rattle.studio_rules.specs.Command.{Solving, command_of}
-use Rattle.studio_rules.specs.Ending.{Ends, IsOneOf}
+use Rattle.studio_rules.specs.Ending.{Finishes, IsOneOf}
 use Rattle.studio_rules.specs.declared.status.Status.{Status}
 use Rattle.studio_rules.specs.declared.status.Status.TheVariants.{Done, ReadFault, WriteFault, Memory}
 use Rattle.sure_laws.specs.Calls.{SureCallIsDone}
@@ -24,7 +24,7 @@ solve_words = codes "solve" ∷ codes "a.pns" ∷ codes "4" ∷ []
 pub solved : (shelf new : Shelved) (before after : OutputsState) (words : List (List ℕ))
     (status : Status) → OneUnitIsSure → SureCallIsDone
     → file_of shelf.files (codes "a.pns") ≡ Some one_unit_text → words ≡ solve_words
-    → Ends (WordsSay (state_of shelf) (state_of new) words) before after status
+    → Finishes (WordsSay (state_of shelf) (state_of new) words) before after status
     → IsOneOf (Done ∷ ReadFault ∷ WriteFault ∷ Memory ∷ []) status
 solved shelf new before after words status sure done held are ends =
     let form : command_of solve_words ≡ Some (Solving (codes "a.pns") 4) = refl in

@@ -11,7 +11,7 @@ use Rattle.tree_rules.specs.Tail.{Tail, whole, spent, past}
 use Rattle.rank_rules.specs.Text.{Text}
 use Rattle.studio_rules.specs.Command.{command_of, IsFileWord}
 use Rattle.studio_rules.specs.Reading.{AreHeld, FileFault, GivesProblem, OnFile}
-use Rattle.studio_rules.specs.Ending.{Ends, Says, IsOneOf}
+use Rattle.studio_rules.specs.Ending.{Finishes, Says, IsOneOf}
 use Rattle.studio_rules.specs.Answers.{AnswersTo}
 use Rattle.studio_rules.specs.Solve as solving
 use Rattle.studio_rules.specs.Solve.{SolveWork, CanFinish, status_of}
@@ -78,7 +78,7 @@ sure_search_can_finish held name budget sure = (can_finish held name budget sure
 
 -- a call whose answers have status 0 alone
 done_or_failed : (answers : Status → List (List ℕ) → Type 0) (is_file : List ℕ → Type 0) (old new : ShelfState) (before after : OutputsState) → ((s : Status) (lines : List (List ℕ)) → answers s lines → s ≡ Done)
-    → (s : Status) → Ends (Says answers is_file old new) before after s
+    → (s : Status) → Finishes (Says answers is_file old new) before after s
     → IsOneOf (Done ∷ ReadFault ∷ WriteFault ∷ Memory ∷ []) s
 done_or_failed answers is_file old new before after done Done h = inl refl
 done_or_failed answers is_file old new before after done ReadFault h = inr (inl refl)

@@ -6,7 +6,7 @@ use Rattle.text_rules.specs.Outside.{Told}
 use Rattle.io_rules.specs.State.{ShelfState, OutputsState}
 use Rattle.studio_rules.specs.Command.{Solving, Ranking, command_of}
 use Rattle.studio_rules.specs.Reading.{GivesProblem}
-use Rattle.studio_rules.specs.Ending.{Ends, IsOneOf}
+use Rattle.studio_rules.specs.Ending.{Finishes, IsOneOf}
 use Rattle.studio_rules.specs.Answers.{WordsSay, SearchCanFinish}
 use Rattle.studio_rules.specs.declared.status.Status.{Status}
 use Rattle.studio_rules.specs.declared.status.Status.TheVariants.{Done, ReadFault, WriteFault, Memory}
@@ -40,5 +40,5 @@ abbrev pub SureCallIsDone : Type 0
 SureCallIsDone =
     (old new : ShelfState) (before after : OutputsState) (words : List (List ℕ)) (name : List ℕ)
     (budget : ℕ) (status : Status) → IsSure old.held name budget → Searches words name budget
-    → Ends (WordsSay old new words) before after status
+    → Finishes (WordsSay old new words) before after status
     → IsOneOf (Done ∷ ReadFault ∷ WriteFault ∷ Memory ∷ []) status

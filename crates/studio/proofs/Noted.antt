@@ -1,0 +1,34 @@
+-- A fault of an output that standard error shows.
+use Rattle.std.proofs.Common.{◌≡◌, ◌≤◌, ℕ, List, sym, subst, arith, inl, inr}
+use Rattle.text_rules.specs.Outside.{HasRisen, last_count}
+use Rattle.io_rules.specs.State.{SinkState, OutputsState}
+use Rattle.studio_rules.specs.Ending.{Ends, Finishes, HasFault}
+use Rattle.studio_rules.specs.declared.status.Status.{Status}
+use Rattle.studio_rules.specs.declared.status.Status.TheVariants.{WriteFault}
+use Rattle.studio.specs.Noted.{ShowsFault, IsNoted}
+
+-- a count that rose and did not fall rose
+still_risen : (before mid after : ℕ) → HasRisen before mid → mid ≤ after → after ≤ last_count
+    → HasRisen before after
+still_risen before mid after (inl rose) later few = inl (omega (arith, rose, later))
+still_risen before mid after (inr last) later few = inr (omega (arith, last, later, few))
+
+fault_shown : (before mid after : OutputsState) → ShowsFault mid after → HasFault before mid
+    → HasFault before after
+fault_shown before mid after shown (inl rose) =
+    inl (subst (λ (s : SinkState). HasRisen before.out.faults s.faults) (sym shown.quiet) rose)
+fault_shown before mid after shown (inr rose) =
+    inr (still_risen before.err.faults mid.err.faults after.err.faults rose shown.later shown.few)
+
+pub still_fault : (before mid after : OutputsState) (status : Status) → IsNoted status mid after
+    → HasFault before mid → HasFault before after
+still_fault before mid after WriteFault shown fault = fault_shown before mid after shown fault
+still_fault before mid after status same fault =
+    subst (λ (o : OutputsState). HasFault before o) (sym same) fault
+
+pub finished_as : (P : Status → List ℕ → Type 0) (before mid after : OutputsState)
+    (status : Status) → Ends P before mid status → IsNoted status mid after
+    → Finishes P before after status
+finished_as P before mid after WriteFault ends shown = (mid, ends, shown.quiet, shown.front)
+finished_as P before mid after status ends same =
+    subst (λ (o : OutputsState). Ends P before o status) (sym same) ends
