@@ -15,11 +15,14 @@ pub struct OutSink<'a, R> {
 }
 
 impl<'a, R> Model for OutSink<'a, R> {
-    ghost use Rattle.std.specs.Prelude.{ℕ};
+    ghost use Rattle.std.specs.Prelude.{◌≤◌, ℕ};
+    ghost use Rattle.text_rules.specs.Outside.{last_count};
 
     ghost Value = { ℕ };
 
     ghost view = { λ s. s.failed };
+
+    ghost invariant = { λ s. s.failed ≤ last_count };
 }
 
 impl<'a, R: Print> OutSink<'a, R> {

@@ -71,11 +71,7 @@ fn is_remark(line: &[u8]) -> bool
 pub fn without_remark(line: &[u8]) -> &[u8]
     ensures { result.now ≡ without_remark line.now }
 {
-    if is_remark(line) {
-        &[]
-    } else {
-        line
-    }
+    if is_remark(line) { &[] } else { line }
 }
 
 /// The text behind its byte order mark, where it has one.
