@@ -1,4 +1,4 @@
-//! Second lines, which are printable and follow two blanks; their wording has no clause.
+//! Second lines, printable, after two blanks; their wording has no clause.
 //!
 //! They follow the first line of a refusal, for people: what was wrong, in which place, and how to
 //! mend it. [`Notes`] has the lines. Contracts promise their shape, `Seconds` of `studio_rules`. No

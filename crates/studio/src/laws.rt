@@ -52,8 +52,8 @@ pub fn rankcheck_accepts_ranked()
     ranked_is_accepted();
 }
 
-/// `check` accepts what a call of `merge` printed, if `split` finds no open leaf in it. The text is
-/// kept as TREE, and the problem file stays the same.
+/// `check` accepts what `merge` printed, if `split` finds no open leaf in it. These are calls: the
+/// text is kept as TREE, and the problem file stays the same.
 pub fn check_accepts_merged()
     ensures { CheckAcceptsMerged }
 {
@@ -67,8 +67,8 @@ pub fn check_accepts_merged()
     tree_has_one_fault();
 }
 
-/// Two calls of `list`, the second after the last token of the first, print what one call does. The
-/// text of the second is put in the place of the line `more` of the first.
+/// Two calls of `list`, the second after the last token of the first, print what one does. The text
+/// of the second is put in the place of the line `more` of the first.
 pub fn listings_join()
     ensures { ListingsJoin }
 {
