@@ -191,10 +191,10 @@ pub fn studio<F: Shelf, K: Sink, E: Sink, W: Watch>(
     // A command whose first file is missing says so, unless an output or memory fails.
     ensures missing { (command : rules.Command) (name : List ℕ) → command_of (map string_bytes words.now) ≡ Some command → first_file command ≡ Some name
         → (F.state shelf.old).held name ≡ Some None → IsOneOf (Status.ReadFault ∷ Status.WriteFault ∷ Status.Memory ∷ []) result }
-    // Each status of `caused` comes only if it has its cause, and if it has, it comes, unless a
-    // read, an output or memory fails. The causes are a file above its limit, the first fault of
-    // its text, a bad token, an unknown name, words of no sound node, and a problem that can't be
-    // migrated.
+    // Each status of `caused` comes only if it has its cause. If it has, and the shelf knows the
+    // files of the command, it comes, unless a read, an output or memory fails. The causes are a
+    // file above its limit, the first fault of its text, a bad token, an unknown name, words of no
+    // sound node, and a problem that can't be migrated.
     ensures exact { (command : rules.Command) → command_of (map string_bytes words.now) ≡ Some command → EndsExactly (F.state shelf.old).held command result }
     // If the files of a command are there, within their limits, and no count of faults rises, the
     // call ends with a status of the command.

@@ -148,8 +148,8 @@ CauseOf held command status = ⊥
 abbrev pub AreTold : (List ℕ → Told) → Command → Type 0
 AreTold held command = (name : List ℕ) → IsFileOf command name → IsSome (held name)
 
--- The call ends with the status only if the status has its cause. If it has, the call ends with it,
--- unless reading, the sink or memory fails.
+-- The call ends with the status only if the status has its cause. If it has, and the shelf knows
+-- the files of the command, the call ends with it, unless reading, the sink or memory fails.
 pub record IsExact (held : List ℕ → Told) (command : Command) (result status : Status) : Type 0 where
   pub only : result ≡ status → CauseOf held command status
   pub always : AreTold held command → CauseOf held command status → IsOneOf (status ∷ ReadFault ∷ WriteFault ∷ Memory ∷ []) result

@@ -3,7 +3,7 @@
 /// How a call ended.
 #[derive(Clone, Copy, Debug, PartialEq, Eq)]
 pub enum Status {
-    /// The command's text is out, whole.
+    /// The whole text of the command is written.
     Done = 0,
     /// The answer is no: units break an axiom, or a tree proves nothing.
     Refused = 1,
