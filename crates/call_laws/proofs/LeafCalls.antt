@@ -100,7 +100,7 @@ no_space [] r (c ∷ s) word e = let h = ap head e in let w = word.0 in omega (a
 no_space (a ∷ l) r [] word e = cc
 no_space (a ∷ l) r (c ∷ s) word e = no_space l r s word.1 (ap (drop 1) e)
 
--- what stands behind the first words of one line
+-- what follows the first words of one line
 behind_words : (l x r s : List ℕ) → IsWord l → IsWord x → l ++ 32 ∷ r ≡ x ++ 32 ∷ s → r ≡ s
 behind_words [] [] r s one other e = ap (drop 1) e
 behind_words [] (b ∷ x) r s one other e =
@@ -110,7 +110,7 @@ behind_words (a ∷ l) [] r s one other e =
 behind_words (a ∷ l) (b ∷ x) r s one other e =
     behind_words l x r s one.1 other.1 (ap (drop 1) e)
 
--- a line of two words is cut in one way at a space
+-- a line of two words is split in one way at a space
 two_words : (l x r s : List ℕ) → IsWord x → IsWord s → l ++ 32 ∷ r ≡ x ++ 32 ∷ s
     → (l ≡ x) × (r ≡ s)
 two_words [] [] r s one other e = (refl, ap (drop 1) e)
@@ -165,7 +165,7 @@ told_by (l ∷ ls) number inside outside (inr h) =
 
 -- ---- the node of the leaf
 
--- each open leaf stands at a sound node
+-- each open leaf is at a sound node
 abbrev AreSound : Problem → Tree → Type 0
 AreSound p tree =
     (k : ℕ) (n : Node) → IsOpenAt p IsUntried first_node tree k n → IsSound (shape_of p) n
@@ -232,7 +232,7 @@ module _ (p : Problem) (proper : IsProper (shape_of p)) (few : length p.units �
 
 -- ---- what `part` answers
 
--- a bad node is told only where the words name no start
+-- a bad node is reported only if the words name no start
 no_start : (work : List ℕ → List ℕ → Problem → Status → List (List ℕ) → Type 0) (p : Problem)
     (word other : List ℕ) (lines : List (List ℕ))
     → ((ins outs : List ℕ) → work ins outs p BadNode lines → ⊥)
@@ -283,7 +283,7 @@ no_start_answered held file bytes inside outside p lines holds given
 -- ---- the three calls
 
 module _ (stand : OpenLeavesStand) (proper : ValidIsProper) (formed : ValidIsWellFormed) where
-  -- the node of an open leaf that `split` tells of the tree of a certificate
+  -- the node of an open leaf that `split` lists of the tree of a certificate
   started : (p : Problem) (c : Certificate) (splitting : List ℕ → Told) (tree text : List ℕ)
       (before behind : List (List ℕ)) (number : ℕ) (inside outside : List ℕ) → IsValid p
       → read_text p text ≡ Ok c → AreSound p c.tree → splitting tree ≡ Some (Some text)

@@ -1,4 +1,4 @@
--- A line that stands in a text is one of its lines, where each of these is one line.
+-- A line in a text is one of its lines, if each of these is one line.
 use Rattle.std.proofs.Common.{◌≡◌, ◌⊎◌, ◌+◌, ◌/◌, ◌%◌, ◌==◌, ◌++◌, ◌∷◌, [], ℕ, zero}
 use Rattle.std.proofs.Common.{suc, Bool, true, false, List, nat_lt, decimal, if◌then◌else◌, refl}
 use Rattle.std.proofs.Common.{sym, ap, subst, ◌∙◌, arith, inl, inr, append_assoc}
@@ -50,7 +50,7 @@ first_line (a ∷ l) (b ∷ x) r s one other e =
     let h = heads a b (l ++ 10 ∷ r) (x ++ 10 ∷ s) e in
     let rest = first_line l x r s one.1 other.1 h.1 in λ i. h.0 i ∷ rest i
 
--- what stands behind the first line of whole lines
+-- what follows the first line of whole lines
 behind_line : (a x r s : List ℕ) → IsOneLine x → IsWhole a → (a ≡ [] → ⊥) → a ++ r ≡ x ++ 10 ∷ s
     → (b : List ℕ) × IsWhole b × (b ++ r ≡ s)
 behind_line [] x r s one h some e = absurd (some refl)
@@ -60,7 +60,7 @@ behind_line (c ∷ []) (d ∷ x) r s one h some e =
 behind_line (c ∷ k ∷ a) (d ∷ x) r s one h some e =
     behind_line (k ∷ a) x r s one.1 h (λ q. cc) (heads c d (k ∷ a ++ r) (x ++ 10 ∷ s) e).1
 
--- a line that stands behind whole lines
+-- a line that follows whole lines
 among : (xs : List (List ℕ)) (a l r : List ℕ) → Each IsOneLine xs → IsOneLine l → IsWhole a
     → a ++ (l ++ 10 ∷ r) ≡ text_of xs → IsLineOf l xs
 among [] a l r all one h e = absurd (not_empty a l r e)

@@ -32,7 +32,7 @@ use Rattle.call_laws.proofs.UnitNames.{IsSolid, name_solid, names_solid, names_o
 
 -- ---- lines of tokens
 
--- tokens without a space are told by their line
+-- tokens without a space are known from their line
 one_line : (x y : List ℕ) (xs ys : List (List ℕ)) → Each IsSolid (x ∷ xs) → Each IsSolid (y ∷ ys)
     → joined 32 (x ∷ xs) ≡ joined 32 (y ∷ ys) → ◌≡◌ {A = List (List ℕ)} (x ∷ xs) (y ∷ ys)
 one_line x y xs ys solid other e =
@@ -43,7 +43,7 @@ heads : (x y : List ℕ) (xs ys : List (List ℕ)) → ◌≡◌ {A = List (List
     × (xs ≡ ys)
 heads x y xs ys e = let front : x ≡ y = cc in let rest : xs ≡ ys = cc in (front, rest)
 
--- a name behind a space for each is the rest of a line
+-- a space and a name for each is the rest of a line
 spaced_line : (token : List ℕ) (names : List (List ℕ)) → token ++ spaced_names names
     ≡ joined 32 (token ∷ names)
 spaced_line token [] = append-nil token

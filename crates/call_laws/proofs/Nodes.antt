@@ -1,5 +1,5 @@
--- At each node of a tree that passes, only units of the problem are taken in or left out, where it
--- is so at its start.
+-- At each node of a tree that passes, only units of the problem are taken in or left out, if it is
+-- so at its start.
 use Rattle.std.proofs.Common.{◌≡◌, ◌<◌, ◌||◌, ◌&&◌, ◌==◌, ℕ, zero, suc, Bool, true, false, not}
 use Rattle.std.proofs.Common.{nat_lt, List, [], ◌∷◌, ◌++◌, map, refl, sym, subst, ◌∙◌, inl, inr}
 use Rattle.std.proofs.Common.{ltb-true, eq-eqb}

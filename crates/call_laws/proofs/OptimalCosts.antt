@@ -1,4 +1,4 @@
--- What `flows`, `solve` and `rank` tell of costs.
+-- What `flows`, `solve` and `rank` say of costs.
 use Rattle.std.proofs.Common.{◌≡◌, ◌⊎◌, ◌==◌, ◌++◌, ◌∷◌, [], Bool, true, false, cond, ℕ}
 use Rattle.std.proofs.Common.{zero, suc, ℤ, pos, ◌*ℤ◌, ◌≤ℤ◌, List, Option, Some, None, length}
 use Rattle.std.proofs.Common.{map, drop, codes, decimal, flat_map, refl, sym, ap, ◌∙◌, subst, arith}
@@ -144,7 +144,7 @@ feasible_enough p claimed w enough flows is =
     fallen claimed w.cost w.d (subst (λ (n : ℤ). IsAtLeast claimed n w.d) is
     (enough (size_in w) w.d flows))
 
--- flows of a set that costs enough tell a cost that has fallen to the claimed one
+-- flows of a set that costs enough have a cost that has fallen to that of the claim
 flows_tell : (p : Problem) (us : List ℕ) (claimed : Option CostOver) (lines : List (List ℕ))
     → CostsEnough p claimed (has us) → FlowsSay p us Done lines → (v : Option CostOver)
     × FlowsTell lines v × HasFallen v claimed
@@ -159,12 +159,12 @@ flows_tell p us claimed lines enough (inr (ys, none, e)) =
 
 -- ---- rank
 
--- the first network, if there is one, is told
+-- the cost of the first network, if there is one
 abbrev first_cost : List Network → Option CostOver
 first_cost [] = None
 first_cost (w ∷ ws) = Some (cost_of w)
 
--- the lines behind those of the file type and the count
+-- the lines after those of the file type and the count
 abbrev ranked_lines : Problem → Text → List Network → List (List ℕ)
 ranked_lines p t ws = spelled ((networks_word ∷ decimal (length ws) ∷ []) ∷
     (flat_map (network_lines p) ws ++ grown_lines p t))
@@ -227,7 +227,7 @@ module _ (p : Problem) (valid : IsValid p) (t : Text) (proves : IsRanked p (rank
       (other_costs_enough p valid (ranking_of t) proves
       (has v.units) feasible.structure feasible.allowed other (size_in v) v.d feasible.flows))
 
-  -- where no network is listed, none has flows
+  -- if no network is listed, none has flows
   none_feasible : (v : Network) → t.networks ≡ [] → IsFeasible p v → ⊥
   none_feasible v none feasible = at (length t.networks == t.count) refl
     where

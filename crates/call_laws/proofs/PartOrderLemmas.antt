@@ -44,7 +44,7 @@ use Rattle.call_laws.proofs.Merges.{no_fault}
 
 -- ---- the parts that files give
 
--- of each file the shelf tells the bytes, or that there is none
+-- of each file the shelf knows the bytes, or that there is none
 abbrev AreToldOf : (List ℕ → Told) → List (List ℕ) → Type 0
 AreToldOf held names = (name : List ℕ) → Contains names name → IsSome (held name)
 
@@ -118,7 +118,7 @@ module _ (once : PartsAreReadOnce) (spelt : ReadPartsAreSpelled) (held : List �
 
 -- ---- a call that ends with status 0
 
--- the parts, and what comes of them
+-- the parts, and the tree that results
 record PutsBack (held : List ℕ → Told) (p : Problem) (claim : Claim) (tree : Tree)
     (names lines : List (List ℕ)) : Type 0 where
   parts : List Part
@@ -235,7 +235,7 @@ module _ (order : AnyOrder) (p : Problem) (valid : IsValid p) where
       let claims = ap (λ (ts : Tree). claim_of_both claim part.claim ts) trees in
       (h.claim_is ∙ (claims ∙ sym k.claim_is), trees)
 
-  -- where all are put back, so is the part at this place behind those before it
+  -- if all are put back, so is the part at this place after those before it
   merged_at : (claim both claimed : Claim) (tree grown so_far : Tree) (ps : List Part) (k : ℕ)
       (part : Part) → Each (λ (q : Part). IsTree q.tree) ps → AreMerged p claim tree ps both grown
       → k < length ps → part ≡ get_or ps k part → AreMerged p claim tree (take k ps) claimed so_far

@@ -83,7 +83,7 @@ module _ (plans_read : ReadIsPlan) (valid : ExpandedIsValid) (canonical : Canoni
       }
 
 module _ (reads : ExpandedIsRead) (one : OneCost) where
-  -- the cost of a proof, against what `periods` prints
+  -- the cost of a proof, compared with what `periods` prints
   plans_claim : (other : ℕ) (p : Problem) (plan : Plan) (claim : Claim) (tree : Tree)
       (lines : List (List ℕ)) → Solves (expanded p plan) claim tree
       → PeriodsWork other p plan Done lines → PlansClaim p plan claim lines

@@ -1,4 +1,4 @@
--- What `solve` prints of the plant after an edit of a number, against the range that `stable`
+-- What `solve` prints of the plant after an edit of a number, compared with the range that `stable`
 -- prints.
 use Rattle.std.proofs.Common.{◌≡◌, ℕ, zero, suc, ◌≤◌, Bool, cond, List, [], ◌∷◌, Option, Some, None}
 use Rattle.std.proofs.Common.{IfSome, Result, Ok, Err, length, ℤ, ◌*ℤ◌, ◌≤ℤ◌, refl, sym, ap, ◌∙◌}
@@ -52,7 +52,7 @@ use Rattle.call_laws.proofs.ScriptLengths.{script-le}
 
 -- ---- the claim
 
--- a proof claims what no structure undercuts, where the proof claims no more
+-- a proof claims a cost that no structure undercuts, if the proof claims no more
 claims : (p : Problem) (claim : Claim) (tree : Tree) (much : CostOver) → Solves p claim tree
     → IsAtLeast (claimed_cost claim) much.cost much.d → IsLeast p much → ClaimsCost claim much
 claims p (network n) tree much solves low least =

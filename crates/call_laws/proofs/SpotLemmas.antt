@@ -28,7 +28,7 @@ use Rattle.stability_rules.specs.Spot.{KnowsSpot, valued, IsAllowedValue}
 use Rattle.studio_rules.specs.Stable.{spot_named}
 use Rattle.call_laws.specs.Ranges.{SettingsSetSpots}
 
--- ---- where a name stands
+-- ---- the place of a name
 
 -- the spot is made of the place of the name among the names
 pub record Stands (names : List (List ℕ)) (make : ℕ → Spot) (name : List ℕ)

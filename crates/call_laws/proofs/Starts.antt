@@ -1,4 +1,4 @@
--- The two words by which `split` tells an open leaf name the leaf's node.
+-- The two words by which `split` lists an open leaf name the leaf's node.
 use Rattle.std.proofs.Common.{◌≡◌, ◌≤◌, ◌<◌, ◌+◌, ◌&&◌, ◌++◌, ◌∷◌, [], ℕ, Bool, true, false}
 use Rattle.std.proofs.Common.{List, codes, decimal, nat_lt, cond, suc, length, get_or}
 use Rattle.std.proofs.Common.{refl, sym, ap, subst, ◌∙◌, arith, inl, inr, lt-ltb}

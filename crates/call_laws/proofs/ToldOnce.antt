@@ -1,4 +1,4 @@
--- Lines tell one cost.
+-- Lines give one cost.
 use Rattle.std.proofs.Common.{◌≡◌, ◌<◌, ◌^◌, ◌==◌, ◌++◌, ◌∷◌, [], true, ℕ, suc}
 use Rattle.std.proofs.Common.{ℤ, pos, negsuc, List, Some, None, map, drop, codes}
 use Rattle.std.proofs.Common.{decimal, get_or, refl, sym, ap, ap₂, ◌∙◌, arith, append-nil}
@@ -74,7 +74,7 @@ cut (x ∷ xs) (y ∷ ys) r q solid other stops ends e =
     (cut xs ys r q (or_parts (is_space x) (list_any is_space xs) solid).1
     (or_parts (is_space y) (list_any is_space ys) other).1 stops ends rest)
 
--- what stands behind the first token
+-- what follows the first token
 behind : List (List ℕ) → List ℕ
 behind [] = []
 behind (x ∷ xs) = 32 ∷ joined 32 (x ∷ xs)

@@ -1,5 +1,5 @@
--- The cost that a proof tells: all proofs of one problem claim networks of one cost, or all that no
--- network has flows.
+-- The cost of the claim of a proof: all proofs of one problem claim networks of one cost, or all
+-- that no network has flows.
 use Rattle.std.specs.Prelude.{◌≡◌, ℕ, ◌*ℤ◌, List, Some}
 use Rattle.text_rules.specs.Outside.{Told}
 use Rattle.problem_rules.specs.Problem.{Problem}

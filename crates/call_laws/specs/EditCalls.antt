@@ -9,17 +9,16 @@ use Rattle.studio_rules.specs.Command.{Editing, Undoing}
 use Rattle.studio.specs.Calls.{Call, Calls, Puts, Holds, EndsWith, HasFailed}
 use Rattle.call_laws.specs.EditLaws.{File, IsShort}
 
--- the call tells that the file is above the limit
+-- the call says that the file is above the limit
 abbrev pub EndsTooLong : Call → File → Type 0
 EndsTooLong c file =
     (file_limit < length file.bytes) × EndsWith c TooLong (line (codes "too long " ++ file.name))
 
--- it puts out the canonical text of the plant, or that the plant file, or else the script, is too
 -- it puts out the canonical text of the plant, or that the script is too long
 abbrev pub GivesBack : Call → Problem → File → Type 0
 GivesBack c p script = (IsShort script × EndsWith c Done (canonical p)) ⊎ EndsTooLong c script
 
--- Where what `edit` and `undo` put out for one plant and one script is kept, a call of `edit` with
+-- If what `edit` and `undo` put out for one plant and one script is kept, a call of `edit` with
 -- these files gives the plant back.
 abbrev pub CallGivesBack : Type 0
 CallGivesBack =

@@ -19,7 +19,7 @@ pub record File : Type 0 where
 abbrev pub IsShort : File → Type 0
 IsShort file = length file.bytes ≤ file_limit
 
--- the file is above the limit, and that is told
+-- the file is above the limit, and the lines say so
 abbrev pub IsTooLong : File → Status → List (List ℕ) → Type 0
 IsTooLong file status lines = (status ≡ TooLong) × IsLong file.name file_limit file.bytes lines
 
@@ -28,8 +28,8 @@ abbrev pub IsPlantOrLong : Problem → File → Status → List (List ℕ) → T
 IsPlantOrLong p script status lines =
     (IsShort script × (status ≡ Done) × (lines ≡ canonical_lines p)) ⊎ IsTooLong script status lines
 
--- Let `edit` and `undo` print something for one plant and one script, each with status 0, and let
--- both texts be kept as files later, be it under the same names. Then `edit` with these two files
+-- Let `edit` and `undo` print something for one plant and one script, each with status 0. Let both
+-- texts be kept as files later, which may have the same names. Then `edit` with these two files
 -- prints the canonical text of the plant, or that the script is too long.
 abbrev pub EditIsUndone : Type 0
 EditIsUndone =

@@ -19,7 +19,7 @@ PartAnswers held file inside outside status lines =
     × CommandAnswers held (PartingAgainst file inside outside budget known) status lines)
 
 -- Let `solve` print the text of a search whose budget is spent, and let TREE be this text. Let
--- `split` tell an open leaf of TREE, and let FILE hold the same bytes at each of the three calls.
+-- `split` list an open leaf of TREE, and let FILE have the same bytes at each of the three calls.
 -- Then `part` from the two words of this leaf does not answer `bad node`.
 abbrev pub SpentLeavesAreNodes : Type 0
 SpentLeavesAreNodes =

@@ -9,13 +9,13 @@ use Rattle.studio_rules.specs.Command.{Flows, Listing, Solving}
 use Rattle.studio.specs.Calls.{Call, Calls, Puts, Holds}
 use Rattle.call_laws.specs.OptimumLaws.{FlowsTell, SolveTells, Lists}
 
--- the text has lines that tell the cost
+-- the text has lines that give the cost
 abbrev pub TextTells : (List (List ℕ) → Option CostOver → Type 0) → List ℕ → Option CostOver
     → Type 0
 TextTells Tell text v = (lines : List (List ℕ)) × (text ≡ text_of lines) × Tell lines v
 
--- What a call of `list` puts out has lines, and for the units of each that is one of a structure a
--- call of `flows` tells a cost that is at least that of a call of `solve`.
+-- What a call of `list` puts out has lines. For the units of each line that is one of a structure,
+-- a call of `flows` prints a cost that is at least that of a call of `solve`.
 abbrev pub CallsAgree : Type 0
 CallsAgree =
     (solving listing : Call) (file bytes after : List ℕ) (count budget : ℕ) (solved listed : List ℕ)

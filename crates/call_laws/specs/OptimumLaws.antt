@@ -18,7 +18,7 @@ use Rattle.studio_rules.specs.declared.status.Status.TheVariants.{Done}
 use Rattle.studio_rules.specs.Command.{Flows, Listing, Solving, Ranking}
 use Rattle.studio_rules.specs.Answers.{CommandAnswers}
 
--- ---- what lines tell
+-- ---- which costs lines give
 
 -- the lines begin with those of a network: the names of its units, their sizes over d, and its cost
 -- over d
@@ -27,19 +27,19 @@ TellNetwork lines names c =
     (sizes : List ℤ) × (rest : List (List ℕ))
     × (lines ≡ spelled ((word_text words.Network ∷ names) ∷ sizes_lines c.d sizes c.cost) ++ rest)
 
--- what the network costs with which the lines begin; or no cost, where they begin with `infeasible`
+-- what the network costs with which the lines begin; or no cost, if they begin with `infeasible`
 abbrev pub TellCost : List (List ℕ) → Option CostOver → Type 0
 TellCost lines (Some c) = (names : List (List ℕ)) × TellNetwork lines names c
 TellCost lines None = (rest : List (List ℕ)) × (lines ≡ codes "infeasible" ∷ rest)
 
--- `flows` prints its network first, `solve` behind the first line
+-- `flows` prints its network first, `solve` after the first line
 abbrev pub FlowsTell : List (List ℕ) → Option CostOver → Type 0
 FlowsTell lines = TellCost lines
 
 abbrev pub SolveTells : List (List ℕ) → Option CostOver → Type 0
 SolveTells lines = TellCost (drop 1 lines)
 
--- `rank` prints its first network behind the third line, which says how many there are
+-- `rank` prints its first network after the third line, which says how many there are
 abbrev pub RankTells : List (List ℕ) → Option CostOver → Type 0
 RankTells lines (Some c) = TellCost (drop 3 lines) (Some c)
 RankTells lines None = (rest : List (List ℕ)) × (drop 2 lines ≡ codes "networks 0" ∷ rest)
@@ -59,14 +59,14 @@ IsInRange (Some c) = InRange c.cost × InRange c.d
 
 -- ---- the laws
 
--- lines tell one cost, where its numbers are in range
+-- lines give one cost, if its numbers are in range
 abbrev pub OneCostIsTold : Type 0
 OneCostIsTold =
     (lines : List (List ℕ)) (v w : Option CostOver) → IsInRange v → IsInRange w
     → TellCost lines v → TellCost lines w → v ≡ w
 
--- No listed structure has cheaper flows: for the units of a line of `list`, `flows` tells a cost
--- that is at least that of `solve`; where `solve` says that no network has flows, `flows` says so.
+-- No listed structure has cheaper flows. For the units of a line of `list`, `flows` prints a cost
+-- that is at least that of `solve`. If `solve` says that no network has flows, `flows` says so too.
 abbrev pub ListedCostEnough : Type 0
 ListedCostEnough =
     (held : List ℕ → Told) (file bytes after : List ℕ) (count budget : ℕ)
@@ -77,7 +77,7 @@ ListedCostEnough =
     → (flowed : List (List ℕ)) → CommandAnswers held (Flows file names) Done flowed
     → (v w : Option CostOver) × FlowsTell flowed v × SolveTells solved w × HasFallen v w
 
--- the network that `solve` prints has a line in the list, and `flows` of its units tells the same
+-- the network that `solve` prints has a line in the list, and `flows` of its units prints the same
 -- cost
 pub record IsReached (held : List ℕ → Told) (file : List ℕ)
     (solved listed : List (List ℕ)) : Type 0 where
@@ -88,7 +88,7 @@ pub record IsReached (held : List ℕ → Told) (file : List ℕ)
   pub same : (flowed : List (List ℕ)) → CommandAnswers held (Flows file names) Done flowed
       → (v : CostOver) × TellNetwork flowed names v × IsSameCost (Some v) (Some cost)
 
--- A listed structure reaches the optimum: where `list` from the start is whole, the network that
+-- A listed structure reaches the optimum: if `list` from the start is whole, the network that
 -- `solve` prints, if any, is reached.
 abbrev pub OptimumIsListed : Type 0
 OptimumIsListed =
@@ -99,8 +99,8 @@ OptimumIsListed =
     → Contains listed (codes "end")
     → SolveTells solved None ⊎ IsReached held file solved listed
 
--- The first of the best networks is an optimum: `rank` tells the cost of `solve` first, and no
--- network where `solve` tells none.
+-- The first of the best networks is an optimum: `rank` prints first a network of the cost of
+-- `solve`, and no network if `solve` prints none.
 abbrev pub FirstIsOptimal : Type 0
 FirstIsOptimal =
     (held : List ℕ → Told) (file bytes : List ℕ) (count budget most : ℕ)

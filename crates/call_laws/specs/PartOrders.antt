@@ -26,8 +26,8 @@ use Rattle.studio_rules.specs.Answers.{CommandAnswers}
 abbrev pub GiveApart : (List ℕ → Told) → Problem → List (List ℕ) → Type 0
 GiveApart held p names = (parts : List Part) → GiveParts held p names parts → StartApart parts
 
--- What is held for a call of `merge`: FILE, which gives the problem, TREE, and the files of the
--- parts, no two of which start at one node.
+-- What the shelf has for a call of `merge`: FILE, which gives the problem, TREE, and the files of
+-- the parts, no two of which start at one node.
 pub record HoldsFiles (held : List ℕ → Told) (file tree : List ℕ) (names : List (List ℕ))
     (p : Problem) : Type 0 where
   pub bytes : List ℕ
@@ -65,8 +65,8 @@ MergesAgree =
     → CommandAnswers held (Merging file tree others) Done two
     → PrintOneTree p one two
 
--- Where each part is for an open leaf of TREE itself, and `merge` ends with status 0 for one order
--- of the parts, it does so for each other order, and prints what agrees.
+-- If each part is for an open leaf of TREE itself, and `merge` ends with status 0 for one order of
+-- the parts, it does so for each other order, and prints what agrees.
 abbrev pub EachOrderMerges : Type 0
 EachOrderMerges =
     (held : List ℕ → Told) (file tree : List ℕ) (names others : List (List ℕ)) (p : Problem)

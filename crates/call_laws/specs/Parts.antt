@@ -9,7 +9,7 @@ use Rattle.studio_rules.specs.Ending.{IsOneOf}
 use Rattle.studio_rules.specs.declared.status.Status.TheVariants.{Done, Spent, Past, TooLong}
 use Rattle.studio.specs.Calls.{Call, Calls, Puts, Holds, Keep, EndsWith, HasFailed}
 
--- the line by which `split` tells an open leaf, with the two words of its node
+-- the line by which `split` lists an open leaf, with the two words of its node
 abbrev pub leaf_line : ℕ → List ℕ → List ℕ → List ℕ
 leaf_line number inside outside = codes "part " ++ decimal number ++ 32 ∷ inside ++ 32 ∷ outside
 
@@ -19,21 +19,21 @@ PartsFrom c file inside outside =
     ((budget : ℕ) × Calls c (Parting file inside outside budget))
     ⊎ ((budget : ℕ) × (known : List ℕ) × Calls c (PartingAgainst file inside outside budget known))
 
--- it ended with the text of a part, of a search that came to its end or stopped, and standard
--- output tells that it put out just the text
+-- it ended with the text of a part, of a search that finished or stopped, and standard output shows
+-- that it put out just the text
 pub record Finds (c : Call) (text : List ℕ) : Type 0 where
   pub status : IsOneOf (Done ∷ Spent ∷ Past ∷ []) c.status
   pub front : List ℕ
   pub before : c.out_before.out.written ≡ Some front
   pub after : c.out_after.out.written ≡ Some (front ++ text)
 
--- it put the part back, or told that the text of the named file is above the limit of trees
+-- it put the part back, or said that the text of the named file is above the limit of trees
 abbrev pub Takes : Call → List ℕ → List ℕ → Type 0
 Takes c name text =
     ((length text ≤ tree_limit) × ((grown : List ℕ) × EndsWith c Done grown))
     ⊎ ((tree_limit < length text) × EndsWith c TooLong (line (codes "too long " ++ name)))
 
--- What `part` put out from the node of an open leaf, which `split` told of TREE, and is kept as
+-- What `part` put out from the node of an open leaf of TREE, which `split` listed, and is kept as
 -- PART, `merge` puts back in TREE, with the same problem file.
 abbrev pub MergeTakesPart : Type 0
 MergeTakesPart =

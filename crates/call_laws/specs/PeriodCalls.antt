@@ -13,8 +13,8 @@ pub record TextCertifies (bytes script solved planned : List ℕ) : Type 0 where
   pub planned_is : planned ≡ text_of period_lines
   pub certifies : Certifies bytes script solve_lines period_lines
 
--- What `expand` put out is kept, and what `solve` put out of that file is kept as a tree: it has the
--- cost of what `periods` put out, and `check` accepts it.
+-- What `expand` put out is kept, and what `solve` put out of that file is kept as a tree: it has
+-- the cost of what `periods` put out, and `check` accepts it.
 abbrev pub CheckCertifiesPeriods : Type 0
 CheckCertifiesPeriods =
     (expanding solving planning checking : Call) (file plan kept tree : List ℕ) (budget other : ℕ) (bytes script wide solved planned : List ℕ)

@@ -60,8 +60,8 @@ ExpandedIsRead =
 
 -- ---- `periods`
 
--- the lines of `periods` are of a design that costs what the claim does, or tell that there is none
--- where no network is claimed
+-- the lines of `periods` are of a design that costs what the claim does; if the claim has no
+-- network, they say that there is no design
 abbrev pub PlansClaim : Problem → Plan → Claim → List (List ℕ) → Type 0
 PlansClaim p plan infeasible lines = HasNoDesign p plan × (lines ≡ codes "infeasible" ∷ [])
 PlansClaim p plan claim lines =

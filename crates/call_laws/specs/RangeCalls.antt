@@ -20,7 +20,7 @@ CallsCost bytes edit q much =
     → Calls solving (Solving edited budget) → Puts solving solved → Holds solving edited changed
     → (lines : List (List ℕ)) × (solved ≡ text_of lines) × PrintsCost q much lines
 
--- So it is for each range that a call of `stable` puts out.
+-- Each range that a call of `stable` puts out is solved so.
 abbrev pub StableAgrees : Type 0
 StableAgrees =
     (ranging : Call) (file bytes tree : List ℕ) (kind : SpotKind) (name : List ℕ) (budget : ℕ) (text : List ℕ)

@@ -1,6 +1,6 @@
--- `stable` agrees with `edit` and `solve`: at each value of the range that `stable` prints, `solve`
--- finds for the plant after the edit to that value a network that costs what the claimed network
--- costs there.
+-- `stable` agrees with `edit` and `solve`. At each value of the range that `stable` prints, `solve`
+-- finds for the plant after the edit to that value a network of the same cost as the network of the
+-- claim.
 use Rattle.std.specs.Prelude.{◌≡◌, ℕ, ℤ, ◌≤ℤ◌, List, [], ◌∷◌, Option, Some, IfSome}
 use Rattle.text_rules.specs.Canonical.{canonical_lines}
 use Rattle.text_rules.specs.Outside.{Told}
@@ -65,8 +65,8 @@ ValuesAreEdited =
 
 -- ---- the network
 
--- where a network is optimal with a value in the spot, a proof of the problem with this value
--- claims what the network costs there
+-- if a network is optimal with a value in the spot, a proof of the problem with this value claims
+-- what the network costs there
 abbrev pub BestIsClaimed : Type 0
 BestIsClaimed =
     (p : Problem) (spot : Spot) → KnowsSpot p spot → (w : Network) → IsFeasible p w → (v : ℤ)
@@ -93,7 +93,7 @@ abbrev pub TreeClaims : (List ℕ → Told) → List ℕ → Problem → Network
 TreeClaims held tree p w =
     (text : List ℕ) × (nodes : Tree) × AreHeld (held tree) text × GivesTree p text (network w) nodes
 
--- a range, and what stands beyond its ends
+-- a range, and what is beyond its ends
 pub record Range : Type 0 where
   pub from : ℤ
   pub to : ℤ
@@ -113,9 +113,9 @@ pub record Ranged (held : List ℕ → Told) (bytes tree : List ℕ) (kind : Spo
   pub claimed : TreeClaims held tree problem network_of
   pub printed : lines ≡ spelled (range_lines problem range.from range.to range.below range.above)
 
--- The range in the light of what `edit` and then `solve` print, of which `costs` speaks: inside it
--- the plant after the edit costs what the network costs there; one step outside it costs what the
--- network does that is printed for this side.
+-- The range compared with what `edit` and then `solve` print, of which `costs` speaks. Inside it
+-- the plant after the edit costs what the network costs there. One step outside it the plant costs
+-- what the network does that is printed for this side.
 pub record RangeIsSolved (costs : List ℕ → Edit → Problem → CostOver → Type 0)
     (held : List ℕ → Told) (bytes tree : List ℕ) (kind : SpotKind) (name : List ℕ)
     (lines : List (List ℕ)) : Type 0 where

@@ -6,16 +6,16 @@ use crate::period_costs::periods_are_certified;
 use crate::ranges::ranges_are_solved;
 use studio::check_accepts_solved;
 
-/// At each value of the range that a call of `stable` puts out, what calls of `edit` and `solve` put
-/// out costs what the claimed network costs there.
+/// Calls of `edit` and `solve` confirm each value in the range of `stable`. What they put out costs
+/// what the network of the claim costs at that value.
 pub fn stable_agrees()
     ensures { StableAgrees }
 {
     ranges_are_solved();
 }
 
-/// What calls of `expand` and `solve` put out has the cost of what a call of `periods` puts out, and a
-/// call of `check` accepts it.
+/// Calls of `expand`, `solve` and `check` confirm `periods`. What `expand` and `solve` put out has
+/// the cost of what `periods` puts out, and `check` accepts it.
 pub fn check_certifies_periods()
     ensures { CheckCertifiesPeriods }
 {

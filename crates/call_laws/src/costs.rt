@@ -1,7 +1,7 @@
-//! The cost that a proof tells.
+//! The cost of the claim of a proof.
 ghost use Rattle.call_laws.specs.Costs.{OneCost, SolvesAgree};
 
-/// Two proofs of one problem claim networks of one cost, or both that no network has flows.
+/// Two proofs of one problem claim one cost, or both that there is no network.
 pub fn one_cost()
     ensures { OneCost }
 {}

@@ -6,8 +6,8 @@ use crate::texts::canonical_is_short;
 use edit_laws::{printed_scripts_read, scripts_are_undone};
 use text_laws::canonical_reads;
 
-/// `edit` of what `edit` printed, by the script that `undo` printed, prints the canonical text of
-/// the plant, or that the script is too long.
+/// `edit` by what `undo` printed gives the plant back. It prints the canonical text of the plant,
+/// or that the script is too long.
 pub fn edit_is_undone()
     ensures { EditIsUndone }
 {
@@ -17,8 +17,8 @@ pub fn edit_is_undone()
     scripts_are_undone();
 }
 
-/// Where what calls of `edit` and `undo` put out is kept, a call of `edit` with these files gives the
-/// plant back.
+/// A call of `edit` by what calls of `edit` and `undo` put out gives the plant back, or says that
+/// the script is too long.
 pub fn call_gives_back()
     ensures { CallGivesBack }
 {

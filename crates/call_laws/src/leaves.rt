@@ -5,8 +5,8 @@ use part_laws::open_leaves_stand;
 use pns_rules::valid_is_proper;
 use problem_rules::valid_is_well_formed;
 
-/// `part` from an open leaf, which a call of `split` told of what `solve` printed with status 5,
-/// does not answer `bad node`.
+/// `part` never answers `bad node` to an open leaf of `solve`. The leaf is one that `split` listed
+/// of what `solve` printed with status 5.
 pub fn spent_leaves_are_nodes()
     ensures { SpentLeavesAreNodes }
 {

@@ -1,9 +1,10 @@
-//! Laws over what two or three calls of the program print, one after another: what one prints is a
-//! file of the next. They stand over the definitions of `studio_rules`, in the words of what each
-//! call says, and the main ones also over calls of `studio` with their shelves and sinks.
+//! Laws over what two or three calls of the program print, one after another. What one prints is a
+//! file of the next.
 //!
-//! `specs/` states them. Each is the contract of a function that does nothing: a caller's proof has
-//! the law behind the call.
+//! The laws use the definitions of `studio_rules`, in the words of what each call says. The main
+//! ones are also over calls of `studio` with their shelves and sinks. `specs/` states them. Each is
+//! the contract of a function that does nothing: a proof that calls it may use the law after the
+//! call.
 #![tactic(auto)]
 
 mod calls;

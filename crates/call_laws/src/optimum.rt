@@ -5,35 +5,35 @@ ghost use Rattle.call_laws.specs.OptimumCalls.{CallsAgree};
 
 use problem_rules::valid_is_well_formed;
 
-/// Lines tell one cost, where its numbers are in range.
+/// Lines give one cost, if its numbers are in range.
 pub fn one_cost_is_told()
     ensures { OneCostIsTold }
 {}
 
-/// For the units of a line of `list`, `flows` tells a cost that is at least that of `solve`; where
-/// `solve` says that no network has flows, `flows` says so.
+/// `flows` of a listed structure costs no less than `solve`. If `solve` says that no network has
+/// flows, `flows` says so too.
 pub fn listed_cost_enough()
     ensures { ListedCostEnough }
 {
     valid_is_well_formed();
 }
 
-/// Where `list` is whole, the network that `solve` prints has a line in it, and `flows` of its
-/// units tells the same cost.
+/// In a whole list one structure costs just what `solve` says. The network that `solve` prints, if
+/// any, has a line in the list, and `flows` of its units prints the same cost.
 pub fn optimum_is_listed()
     ensures { OptimumIsListed }
 {
     valid_is_well_formed();
 }
 
-/// The first network that `rank` prints costs what `solve` tells, and `rank` prints none where
-/// `solve` says that no network has flows.
+/// The first network of `rank` costs what `solve` says. If `solve` says that no network has flows,
+/// `rank` prints none.
 pub fn first_is_optimal()
     ensures { FirstIsOptimal }
 {}
 
-/// For the units of a line that a call of `list` put out, a call of `flows` tells a cost that is at
-/// least that of a call of `solve`.
+/// Calls of `list`, `flows` and `solve` agree. For the units of a line that `list` put out, `flows`
+/// prints a cost that is at least that of `solve`.
 pub fn calls_agree()
     ensures { CallsAgree }
 {

@@ -6,8 +6,9 @@ use part_text::{parts_are_read_once, read_parts_are_spelled};
 use tree_laws::{claim_has_one_fault, open_leaves_decide, tree_has_one_fault};
 use tree_text_laws::{read_texts_are_spelled, spelled_texts_read};
 
-/// What `merge` prints with status 0 for two orders of parts that start at different nodes is the
-/// text of one tree, with claims of one cost, and reads as it.
+/// Parts of different nodes make one tree in each order that merges. What `merge` prints with
+/// status 0 for two orders of the parts is the text of one tree, with claims of one cost, and reads
+/// as it.
 pub fn merges_agree()
     ensures { MergesAgree }
 {
@@ -21,8 +22,8 @@ pub fn merges_agree()
     spelled_texts_read();
 }
 
-/// Where each part is for an open leaf of TREE itself, and `merge` ends with status 0 for one order
-/// of the parts, it does so for each other order.
+/// If each part is for a leaf of TREE, each order merges, or none. The leaves are open leaves of
+/// TREE itself, and an order merges if `merge` ends with status 0.
 pub fn each_order_merges()
     ensures { EachOrderMerges }
 {

@@ -7,9 +7,8 @@ use pns_rules::valid_is_proper;
 use problem_rules::valid_is_well_formed;
 use tree_laws::{claim_has_one_fault, open_leaves_decide, tree_has_one_fault};
 
-/// What a call of `part` put out from the node of an open leaf, which a call of `split` told of
-/// TREE, and is kept as PART, a call of `merge` puts back in TREE with the same problem file, or
-/// tells that it is too long.
+/// `merge` takes what `part` prints for a leaf of `split`. The text of `part` is kept as PART, and
+/// the problem file stays the same. Or `merge` says that the text is too long.
 pub fn merge_takes_part()
     ensures { MergeTakesPart }
 {

@@ -6,15 +6,15 @@ use plan_laws::expanded_is_valid;
 use problem_rules::valid_is_well_formed;
 use text_laws::canonical_reads;
 
-/// What a plan's text without a fault stands for is a plan for the problem.
+/// What is read of a plan is a plan for the problem.
 pub fn read_is_plan()
     ensures { ReadIsPlan }
 {
     valid_is_well_formed();
 }
 
-/// The file that keeps what `expand` printed gives the expanded problem: what `solve` says of it,
-/// it says of this problem, or that the file is too long.
+/// What `expand` prints reads as its problem. What `solve` says of a file that keeps the text, it
+/// says of the expanded problem, or that the file is too long.
 pub fn expanded_is_read()
     ensures { ExpandedIsRead }
 {
@@ -23,8 +23,7 @@ pub fn expanded_is_read()
     canonical_reads();
 }
 
-/// What `solve` prints of the file that keeps what `expand` printed has the cost of the design that
-/// `periods` prints.
+/// `solve` of what `expand` prints has the cost of `periods`.
 pub fn periods_are_certified()
     ensures { PeriodsAreCertified }
 {

@@ -6,14 +6,14 @@ use edit_laws::printed_scripts_read;
 use stability_laws::valued_is_valid;
 use text_laws::canonical_reads;
 
-/// A problem takes the edit of a named price or cost to an allowed value, and is the one with this
-/// value in the spot after it.
+/// An edit to a value puts the value in the spot. A problem takes the edit of a named price or cost
+/// to a value within its limits.
 pub fn settings_set_spots()
     ensures { SettingsSetSpots }
 {}
 
-/// What `edit` prints for the script of this one edit is the canonical text of the problem with the
-/// value in the spot.
+/// `edit` to a value prints the problem with it in the spot. The script has this one edit, and the
+/// text is canonical.
 pub fn values_are_edited()
     ensures { ValuesAreEdited }
 {
@@ -21,15 +21,15 @@ pub fn values_are_edited()
     printed_scripts_read();
 }
 
-/// Where a network is optimal with a value in the spot, a proof of the problem with this value
-/// claims what the network costs there.
+/// A proof claims what a network costs that is best. The network is optimal with a value in the
+/// spot, and the proof is one of the problem with this value.
 pub fn best_is_claimed()
     ensures { BestIsClaimed }
 {}
 
-/// At each value of the range that `stable` prints, what `solve` prints of the plant after the edit
-/// to this value costs what the claimed network costs there; one step outside the range it costs
-/// what the network does that `stable` prints for this side.
+/// `edit` and `solve` confirm each value in the range of `stable`, and one step beyond. In the
+/// range what `solve` prints after the edit costs what the network of the claim costs there. One
+/// step outside it costs what the network does that `stable` prints for this side.
 pub fn ranges_are_solved()
     ensures { RangesAreSolved }
 {

@@ -1,5 +1,5 @@
-//! Files of the system, read whole and in pieces, and the standard output. No contract tells what
-//! they hold and take.
+//! Files of the system, read whole and in pieces, and the standard output. No contract says what
+//! they have and take.
 
 use pns_io::{FileShelf, OutSink, Shelf, Sink, read_all};
 use std::alloc::Global;
@@ -14,7 +14,7 @@ fn put(rt: &impl Print, bytes: &[u8]) -> io::Result<()> {
     }
 }
 
-/// The whole of a file of at most so many bytes: how many it has, and those round the end of its
+/// The whole of a file of at most so many bytes: how many it has, and those around the end of its
 /// first 64 KiB, or all.
 fn whole<F: Shelf>(
     rt: &(impl Print + Alloc<A = Global>),
@@ -32,8 +32,8 @@ fn whole<F: Shelf>(
     }
 }
 
-/// Two files of lines of seven bytes that lie where the program runs, one that does not lie there,
-/// a folder, and an input that is empty.
+/// Two files of lines of seven bytes that are in the folder of the run, one that is not there, a
+/// folder, and an input that is empty.
 pub fn wholes(rt: &(impl Print + Alloc<A = Global> + Files)) -> io::Result<()> {
     let mut shelf = FileShelf::new(rt, io::empty());
     for (name, limit) in [
@@ -61,8 +61,8 @@ fn piece<F: Shelf>(rt: &impl Print, shelf: &mut F, name: &str, at: u32) -> io::R
     }
 }
 
-/// Pieces of two files in turn: on from the one before, far behind it, at the end and past it; of a
-/// file that is not there; and of an input, which is read on alone.
+/// Pieces of two files in turn: next to the one before, far after it, at the end and after the end.
+/// Then pieces of a file that is not there, and of an input, which can only be read onward.
 pub fn pieces(rt: &(impl Print + Files)) -> io::Result<()> {
     let mut shelf = FileShelf::new(rt, &b"typed1\nend\n"[..]);
     for (name, at) in [

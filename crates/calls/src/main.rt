@@ -1,8 +1,9 @@
-//! The program `calls`: what neither a contract nor a command of `pns` shows. That is what files of
-//! the system give and the standard output takes, when there is a sum of mixed numbers, and one run
-//! of `read_head` and of `extend`. No command makes these two calls, and their contracts hold also
-//! where they always answer that there is no memory. The file `stdout` beside `src` has the lines
-//! that are wanted, worked out by hand.
+//! The program `calls`: what neither a contract nor a command of `pns` shows.
+//!
+//! That is what files of the system give and the standard output takes, when there is a sum of
+//! mixed numbers, and one run of `read_head` and of `extend`. No command makes these two calls, and
+//! their contracts would allow that they always answer that there is no memory. The file `stdout`
+//! next to `src` has the lines that are wanted, worked out by hand.
 //!
 //! Modules: `files` (files and output), `numbers` (sums of mixed numbers), `plants` (the plant of
 //! the others), `texts` (the head of a node), `structures` (the steps at a node).

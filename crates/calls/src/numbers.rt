@@ -1,4 +1,4 @@
-//! Sums of mixed numbers. No contract tells when there is one.
+//! Sums of mixed numbers. No contract says when there is one.
 
 use mixed_numbers::Mixed;
 use std::io;
@@ -11,8 +11,8 @@ fn line(rt: &impl Print, sum: Option<Mixed>, least: i128) -> io::Result<()> {
     println!(rt; "at least {least}: {reaches:?}")
 }
 
-/// A fraction, a whole number, a product of more than 128 bits that is divided again, and a sum out
-/// of range.
+/// A fraction, a whole number, a product of more than 128 bits that is divided again, and a sum
+/// that overflows.
 pub fn sums(rt: &impl Print) -> io::Result<()> {
     line(rt, Mixed::of_sum(67, 1, 5, 3), 69)?;
     line(rt, Mixed::of_sum(67, 2, 3, 3), 69)?;

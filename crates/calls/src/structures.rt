@@ -7,7 +7,7 @@ use std::io;
 use tree_parts::is_sound;
 use unit_sets::Node;
 
-/// The steps at a node, and where they lead.
+/// The steps at a node, and the node to which they lead.
 pub fn extension(
     rt: &(impl Print + Alloc<A = Global>),
     graph: &Graph,

@@ -1,4 +1,4 @@
-//! The head of a node, read by itself out of a tree's text.
+//! The head of a node, read alone from the text of a tree.
 
 use pns_problem::Problem;
 use std::alloc::Global;
@@ -12,7 +12,7 @@ sole P U3
 open
 ";
 
-/// The option and the steps of a node, and where they end.
+/// The option and the steps of a node, and the place at which they end.
 pub fn head(rt: &(impl Print + Alloc<A = Global>), problem: &Problem) -> io::Result<()> {
     match read_head(rt.alloc(), problem, NODE, Cut { at: 0, line: 1 }) {
         Ok((option, steps, behind)) => {

@@ -5,11 +5,11 @@ use progress::NoWatch;
 use std::alloc::{AllocError, Global};
 use studio::{code_of, studio};
 
-/// The room of each output where a case says nothing of it, in bytes.
+/// The room of each output in bytes, if a case says nothing of it.
 const ROOM: u64 = 1_000_000;
 
-/// The part of the text that a case looks at. The text is what is on standard output, and the lines on standard error that do not begin
-/// with two blanks.
+/// The part of the text that a case looks at. The text is what is on standard output, and the lines
+/// on standard error that do not begin with two blanks.
 #[derive(Clone, Copy)]
 pub(crate) enum Side {
     /// All of it.
@@ -134,7 +134,8 @@ impl Outcome {
         }
     }
 
-    /// What is on standard output, and the lines on standard error that do not begin with two blanks.
+    /// What is on standard output, and the lines on standard error that do not begin with two
+    /// blanks.
     fn text(&self, alloc: Global) -> Result<Vec<u8>, AllocError> {
         let mut text = self.out.to_vec(alloc)?;
         for line in self.err.split_inclusive(|byte| *byte == b'\n') {

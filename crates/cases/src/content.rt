@@ -16,7 +16,8 @@ pub(crate) enum Content<'a> {
     Times(u64, &'a str),
     /// The text and a line feed, so many times.
     LineTimes(u64, &'a str),
-    /// The last lines once for each number from the first to the last, with the number for each `#`.
+    /// The last lines once for each number from the first to the last, with the number for each
+    /// `#`.
     Each { first: u64, last: u64, lines: u64 },
     /// Another text in the place of a line, counted from 1.
     Replace(u64, &'a str),
@@ -24,7 +25,7 @@ pub(crate) enum Content<'a> {
     First(u64),
 }
 
-/// Writes one content line behind, or into, the bytes.
+/// Writes one content line after the bytes, or into them.
 pub(crate) fn write(alloc: Global, bytes: &mut Vec<u8>, content: Content<'_>) -> Result<(), Stop> {
     match content {
         Content::Line(text) => write_line(bytes, text)?,
@@ -83,7 +84,7 @@ fn write_bytes(bytes: &mut Vec<u8>, digits: &str) -> Result<(), Stop> {
     }
 }
 
-/// The place behind so many line feeds, if there are so many.
+/// The place after so many line feeds, if there are so many.
 fn behind_lines(bytes: &[u8], lines: u64) -> Option<usize> {
     let mut left = lines;
     if left == 0 {

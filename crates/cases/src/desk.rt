@@ -16,7 +16,8 @@ enum Open<'a> {
     Case(Case<'a>),
 }
 
-/// The files of the shelf, the file or the case that is being written, and the bytes of that file or of the wanted output.
+/// The files of the shelf, the file or the case that is being written, and the bytes of that file
+/// or of the wanted output.
 #[derive(Drop)]
 pub(crate) struct Desk<'a> {
     alloc: Global,
@@ -45,7 +46,7 @@ impl<'a> Desk<'a> {
         self.count
     }
 
-    /// Does what the line says. A case is run where the line behind it closes it.
+    /// Does what the line says. A case is run when the line after it closes it.
     pub(crate) fn take<R: Print>(&mut self, rt: &R, line: &'a str) -> Result<(), Stop> {
         match Line::of(line)? {
             Line::Remark => Ok(()),

@@ -14,7 +14,7 @@ pub(crate) enum Fault {
     BadBytes,
     /// A name is missing.
     NoName,
-    /// The line stands where it has no meaning.
+    /// The line has no meaning at its place.
     OutOfPlace,
     /// The shelf has no file of this name.
     NoFile,

@@ -67,7 +67,7 @@ fn of_word<'a>(word: &str) -> Result<Line<'a>, Fault> {
     }
 }
 
-/// A line of a word and more behind a blank.
+/// A line of a word, a blank and more.
 fn of_words<'a>(word: &str, rest: &'a str) -> Result<Line<'a>, Fault> {
     match word.as_bytes() {
         b"file" => file_of(rest),
@@ -87,7 +87,7 @@ fn of_words<'a>(word: &str, rest: &'a str) -> Result<Line<'a>, Fault> {
     }
 }
 
-/// The content of a line of a word and more behind a blank.
+/// The content of a line of a word, a blank and more.
 fn content_of<'a>(word: &str, rest: &'a str) -> Result<Content<'a>, Fault> {
     match word.as_bytes() {
         b"x" => Ok(Content::Bytes(rest)),
@@ -121,7 +121,7 @@ fn number_of(word: &str) -> Result<u64, Fault> {
     }
 }
 
-/// A number, and the text behind the blank that follows it.
+/// A number, and the text after the blank that follows it.
 fn counted(rest: &str) -> Result<(u64, &str), Fault> {
     let (count, text) = rest.split_once(' ').ok_or(Fault::BadNumber)?;
     Ok((number_of(count)?, text))
@@ -138,7 +138,7 @@ fn file_of(rest: &str) -> Result<Line<'_>, Fault> {
     }
 }
 
-/// What is wanted, as `like NAME` behind its word.
+/// What is wanted, as `like NAME` after its word.
 fn wanted_of(side: Side, rest: &str) -> Result<Line<'_>, Fault> {
     let name = rest.strip_prefix("like ").ok_or(Fault::Unknown)?;
     Ok(Line::Wanted(side, Some(name_of(name)?)))

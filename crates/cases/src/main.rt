@@ -1,12 +1,14 @@
-//! The program `cases`: runs the cases of the files that its words name, one call of the studio for each, and prints a
-//! line for each case.
+//! Tries whole calls in memory; only safety.
 //!
-//! A case says what the shelf holds, the words of the call, and the status and the text that are wanted. The format is in
-//! docs/CASES.md. Where a case fails or a file has a fault, more lines come, so the output is the wanted one only where
-//! each case is as wanted.
+//! The program `cases` runs the cases of the files that its words name, one call of the studio for
+//! each, and prints a line for each case. Of it only safety is proved.
 //!
-//! Modules: `line`, the lines of case files; `content`, bytes that lines write; `case`, a case and its call; `desk`, which
-//! does one line after another; `report`, what is printed; `fault`.
+//! A case says what the shelf has, the words of the call, and the status and the text that are
+//! wanted. The format is in docs/CASES.md. If a case fails or a file has a fault, more lines come.
+//! So the output is the wanted one only if each case is as wanted.
+//!
+//! Modules: `line`, the lines of case files; `content`, bytes that lines write; `case`, a case and
+//! its call; `desk`, which does one line after another; `report`, what is printed; `fault`.
 #![tactic(auto)]
 
 mod case;

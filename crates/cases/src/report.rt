@@ -9,7 +9,8 @@ pub(crate) struct Answer<'a> {
     pub(crate) text: &'a [u8],
 }
 
-/// Prints that the case is as wanted, or where the answer that came first differs from the wanted one.
+/// Prints that the case is as wanted, or how the answer that came differs: both statuses, and the
+/// first line in which the texts differ.
 pub(crate) fn report<R: Print>(
     rt: &R,
     title: &str,

@@ -9,13 +9,13 @@ use Rattle.studio_rules.specs.declared.status.Status.{Status}
 use Rattle.studio_rules.specs.Reading.{AreHeld, FileFaults, GivesProblem, OnFile, FileSays}
 use Rattle.endings.proofs.Ending.{Says-map, Says-told}
 
--- a file that is too long, also where the shelf does not tell
+-- a file that is too long, also if the shelf knows nothing of it
 pub long_file : (held : Told) (limit : ℕ) → IfTold held (λ file. limit < length file) → (file : List ℕ) × AreHeld held file × (limit < length file)
 long_file None limit h = (replicate (suc limit) 0, tt, omega (arith, length-replicate {A = ℕ} (suc limit) 0))
 long_file (Some None) limit h = absurd h
 long_file (Some (Some file)) limit h = (file, refl, h)
 
--- a command on a file says what its file says where that gives no problem
+-- a command on a file says what its file says if that gives no problem
 pub on_file-faults : (work : Problem → Status → List (List ℕ) → Type 0) (old new : ShelfState) (name : List ℕ) (s : Status) (t : List ℕ) → Says (FileFaults old.held name) (λ other. other ≡ name) old new s t → FileSays work name old new s t
 on_file-faults work old new name =
     Says-map (FileFaults old.held name) (OnFile work old.held name) (λ other. other ≡ name) (λ other. other ≡ name) old new

@@ -10,8 +10,8 @@ use pns_io::{Outputs, ReadAllFault, Shelf, Sink, read_all};
 use std::alloc::Global;
 use studio_rules::Status;
 
-/// The whole of the file, which may hold so many bytes. Where it can't be read, or holds more, the text that tells so is out,
-/// and the status is that of the call.
+/// The whole of the file, which may have so many bytes. If it can't be read, or has more, the text
+/// that says so was put, and the status is that of the call.
 pub fn bytes_of<F: Shelf, K: Sink, E: Sink>(
     alloc: Global,
     shelf: &mut F,

@@ -1,10 +1,12 @@
-//! The files of a call, read and judged: a problem, a script for a problem, a tree for a problem.
+//! The files of a call, read and judged.
 //!
-//! [`problem_of`], [`edited_of`] and [`tree_of`] give what the named file stands for; where it gives nothing the text that tells
-//! why is out, and the status is that of the call. `Reading`, `Script`, `Plan` and `TreeFile` of `studio_rules` say which text that is,
-//! and what a command on such files says.
+//! [`problem_of`], [`edited_of`], [`plan_of`] and [`tree_of`] give what the named file stands for.
+//! If it gives nothing, they put the text that says why and give the status of the call. `Reading`,
+//! `Script`, `Plan` and `TreeFile` of `studio_rules` say which text that is, and what a command on
+//! such files says.
 //!
-//! Modules: `file`, the bytes of a file; `problem_file`, `script_file` and `tree_file`.
+//! Modules: `file`, the bytes of a file; `problem_file`, `script_file`, `plan_file` and
+//! `tree_file`.
 #![tactic(auto)]
 
 mod file;

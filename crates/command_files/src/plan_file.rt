@@ -21,7 +21,7 @@ use studio_rules::Status;
 /// The most bytes of a plan file.
 const PLAN_LIMIT: u64 = 4_194_304;
 
-/// The word by which a kind of fault is told.
+/// The word for a kind of fault.
 fn plan_kind_word(kind: PlanKind) -> &'static str
     ensures { result.now ≡ plan_kind_word kind }
 {
@@ -72,8 +72,8 @@ fn say_plan_fault<K: Sink, E: Sink>(
     }
 }
 
-/// Reads the file and judges its text as a plan for the problem. Where that gives no plan the text that tells why is out, and the
-/// status is that of the call.
+/// Reads the file and judges its text as a plan for the problem. If that gives no plan, the text
+/// that says why was put, and the status is that of the call.
 pub fn plan_of<F: Shelf, K: Sink, E: Sink>(
     alloc: Global,
     shelf: &mut F,

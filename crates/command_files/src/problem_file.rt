@@ -19,7 +19,7 @@ use text_rules::TextKind;
 /// The most bytes of a problem file.
 const FILE_LIMIT: u64 = 4_194_304;
 
-/// The word by which a kind of fault is told.
+/// The word for a kind of fault.
 fn kind_word(kind: TextKind) -> &'static str
     ensures { result.now ≡ kind_word kind }
 {
@@ -87,8 +87,8 @@ fn say_fault<K: Sink, E: Sink>(
     }
 }
 
-/// Reads the file and judges its text. Where that gives no problem the text that tells why is out, and the status is that
-/// of the call.
+/// Reads the file and judges its text. If that gives no problem, the text that says why was put,
+/// and the status is that of the call.
 pub fn problem_of<F: Shelf, K: Sink, E: Sink>(
     alloc: Global,
     shelf: &mut F,

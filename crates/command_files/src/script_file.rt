@@ -21,7 +21,7 @@ use studio_rules::Status;
 /// The most bytes of a script file.
 const SCRIPT_LIMIT: u64 = 4_194_304;
 
-/// The word by which a kind of fault is told.
+/// The word for a kind of fault.
 fn edit_kind_word(kind: EditKind) -> &'static str
     ensures { result.now ≡ edit_kind_word kind }
 {
@@ -76,8 +76,8 @@ fn say_edit_fault<K: Sink, E: Sink>(
     }
 }
 
-/// The problem after the edits of the text, and the script that leads from it back. Or the first fault of form, or else the
-/// first of meaning.
+/// The problem after the edits of the text, and the script that leads from it back. Or the first
+/// fault of form, or else the first of meaning.
 pub(crate) fn edited_by(
     alloc: Global,
     text: &[u8],
@@ -96,8 +96,8 @@ pub(crate) fn edited_by(
     }
 }
 
-/// Reads the file, judges its text as a script and applies it to the problem. Where that gives no problem the text that tells
-/// why is out, and the status is that of the call.
+/// Reads the file, judges its text as a script and applies it to the problem. If that gives no
+/// problem, the text that says why was put, and the status is that of the call.
 pub fn edited_of<F: Shelf, K: Sink, E: Sink>(
     alloc: Global,
     shelf: &mut F,

@@ -23,7 +23,7 @@ use tree_text_rules::TreeKind;
 /// The most bytes of a tree file.
 const TREE_LIMIT: u64 = 268_435_456;
 
-/// The word by which a kind of fault is told.
+/// The word for a kind of fault.
 pub fn tree_kind_word(kind: TreeKind) -> &'static str
     ensures { result.now ≡ tree_kind_word kind }
 {
@@ -51,7 +51,7 @@ fn tree_fault_line(alloc: Global, number: u32, kind: TreeKind) -> Result<String,
     Ok(text)
 }
 
-/// Says the first fault of the text of a tree or of a ranking: its line and its kind.
+/// Puts the first fault of the text of a tree or of a ranking: its line and its kind.
 pub fn say_tree_fault<K: Sink, E: Sink>(
     alloc: Global,
     out: &mut Outputs<K, E>,
@@ -68,8 +68,8 @@ pub fn say_tree_fault<K: Sink, E: Sink>(
     }
 }
 
-/// Reads the file and judges its text as a claim and a tree for the problem. Where that gives none the text that tells why is
-/// out, and the status is that of the call.
+/// Reads the file and judges its text as a claim and a tree for the problem. If that gives none,
+/// the text that says why was put, and the status is that of the call.
 pub fn tree_of<F: Shelf, K: Sink, E: Sink>(
     alloc: Global,
     shelf: &mut F,

@@ -1,4 +1,4 @@
--- What follows from a text that may be out with a status.
+-- What follows from a text that may be written with a status.
 use Rattle.std.proofs.Common.{◌≡◌, ◌≤◌, ◌++◌, [], ◌∷◌, ℕ, List, refl, sym, ◌∙◌, ap, subst, arith, inl, inr, append_assoc, append-nil, codes}
 use Rattle.std.specs.Io.KnownBytes.{Appends}
 use Rattle.std.proofs.KnownBytes.{Appends-trans}
@@ -82,7 +82,7 @@ Ends-after P Q old mid new status front said quiet more later e = (front ++ e.0,
 pub only_in : (Q : Status → List ℕ → Type 0) (status : Status) (text : List ℕ) → Q status text → (s : Status) (t : List ℕ) → Only status text s t → Q s t
 only_in Q status text holds s t p = subst (Q s) (sym p.1) (subst (λ (s' : Status). Q s' text) (sym p.0) holds)
 
--- the same, or the word on the want of memory
+-- the same, or the line `memory`
 pub only_or_memory_in : (Q : Status → List ℕ → Type 0) (status : Status) (text : List ℕ) → Q status text → Q Memory (line (codes "memory")) → (s : Status) (t : List ℕ) → OrMemory (Only status text) s t → Q s t
 only_or_memory_in Q status text holds memory s t (inl p) = only_in Q status text holds s t p
 only_or_memory_in Q status text holds memory s t (inr p) = only_in Q Memory (line (codes "memory")) memory s t p
@@ -105,12 +105,12 @@ pub Says-map : (answers answers' : Status → List (List ℕ) → Type 0) (is_fi
 Says-map answers answers' is_file is_file' old new more file ReadFault t e = (e.0, file e.0 e.1, e.2, e.3)
 Says-map answers answers' is_file is_file' old new more file s t e = Tells-map answers answers' more s t e
 
--- what is told where no file is read
+-- what is said if no file is read
 pub Says-told : (answers answers' : Status → List (List ℕ) → Type 0) (is_file : List ℕ → Type 0) (old new : ShelfState) → ((s : Status) (lines : List (List ℕ)) → answers s lines → answers' s lines) → (s : Status) (t : List ℕ) → Tells answers s t → Says answers' is_file old new s t
 Says-told answers answers' is_file old new more ReadFault t e = absurd e
 Says-told answers answers' is_file old new more s t e = Tells-map answers answers' more s t e
 
--- the word on the want of memory may always come
+-- the line `memory` may always come
 pub Tells-memory : (answers : Status → List (List ℕ) → Type 0) → Tells answers Memory (line (codes "memory"))
 Tells-memory answers = ([], inl refl, refl)
 

@@ -1,4 +1,4 @@
--- What is out after lines of a tree text were printed.
+-- What was put after lines of a tree text were printed.
 use Rattle.std.proofs.Common.{◌≡◌, ◌≤◌, ◌++◌, ◌∷◌, [], ℕ, List, Ok, Err, refl, sym, ap, ◌∙◌, subst, inl, inr, append-nil, codes}
 use Rattle.std.specs.Io.KnownBytes.{Appends}
 use Rattle.text_rules.specs.Outside.{AppendsFront}

@@ -11,7 +11,7 @@ use Rattle.studio_rules.specs.declared.status.Status.{Status}
 use Rattle.studio_rules.specs.declared.status.Status.TheVariants.{Done, Refused, NotBest, Past, Spent, WriteFault, Memory}
 use Rattle.endings.proofs.Ending.{GoesOut}
 
--- what is out is the text up to the rest
+-- what was put is the text up to the rest
 pub record IsPut (text rest : List ℕ) (old new : Option (List ℕ)) : Type 0 where
   pub front : List ℕ
   pub cut : text ≡ front ++ rest
@@ -144,7 +144,7 @@ module _ (old new : OutputsState) (quiet : new.out ≡ old.out) where
   told_stopped status is text seconds are risen out =
       (inr risen, status, text, (refl, refl), ([], text ++ seconds, shared_refusal status text seconds is are, ([], [], refl, still), out))
 
-  -- the line that tells want of memory
+  -- the line `memory`
   pub memory_whole : Appends old.err.written new.err.written (line (codes "memory")) → Ends (Only Memory (line (codes "memory"))) old new Memory
   memory_whole out = (line (codes "memory"), (refl, refl), ([], line (codes "memory"), (refl, refl), still, out))
 

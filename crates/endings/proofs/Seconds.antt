@@ -8,7 +8,7 @@ abbrev pub printable : List ℕ → Bool
 printable [] = true
 printable (byte ∷ bytes) = (leb 32 byte && leb byte 126) && printable bytes
 
--- as a computation tells
+-- as a computation shows
 pub printable_line : (bytes : List ℕ) → printable bytes ≡ true → Each (λ byte. (32 ≤ byte) × (byte ≤ 126)) bytes
 printable_line [] e = tt
 printable_line (byte ∷ bytes) e =

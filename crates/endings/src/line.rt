@@ -16,7 +16,7 @@ fn push_name(bytes: &mut Vec<u8>, name: &str) -> Result<(), AllocError>
     Ok(())
 }
 
-/// Appends the names of the units in the set, each behind a space.
+/// Appends the names of the units in the set, each after a space.
 pub fn push_unit_names(
     bytes: &mut Vec<u8>,
     units: &[OperatingUnit],
@@ -33,7 +33,7 @@ pub fn push_unit_names(
     Ok(())
 }
 
-/// Appends the names of the materials in the set, each behind a space.
+/// Appends the names of the materials in the set, each after a space.
 pub fn push_material_names(
     bytes: &mut Vec<u8>,
     materials: &[Material],
@@ -50,7 +50,7 @@ pub fn push_material_names(
     Ok(())
 }
 
-/// A line of two texts, one behind the other, with its line feed.
+/// A line of two texts, one after the other, with its line feed.
 pub fn line_of(alloc: Global, head: &str, tail: &str) -> Result<Vec<u8>, AllocError>
     ensures { IfOk result (λ bytes. bytes.items ≡ line (head.now ++ tail.now)) }
 {

@@ -1,7 +1,7 @@
 //! How lines are put on the outputs, and with which status a call then ends.
 //!
-//! `say` and its like put an answer on standard output. `tell` and its like put a line that says why there is none on standard error,
-//! with second lines for people behind it.
+//! `say` and its like put an answer on standard output. `tell` and its like put on standard error a
+//! line that says why there is no answer, and after it second lines for people.
 ghost use Rattle.std.specs.Prelude.{◌≡◌, ◌≤◌, ◌<◌, ◌++◌, ◌∷◌, [], ℕ, List, IfOk, codes, length, string_bytes};
 ghost use Rattle.io_rules.specs.State.{OutputsState};
 ghost use Rattle.tree_text_rules.specs.Line.{Token};
@@ -47,7 +47,7 @@ pub fn say_both<K: Sink, E: Sink>(
     }
 }
 
-// The first line, with its line feed where it has one, and what stands behind it.
+// The first line, with its line feed if it has one, and what follows it.
 fn cut_line(text: &[u8]) -> (&[u8], &[u8])
     requires { 0 < length text.now }
     ensures cut { text.now ≡ result.0.now ++ result.1.now }
@@ -77,7 +77,7 @@ pub fn say_text<K: Sink, E: Sink>(out: &mut Outputs<K, E>, text: &[u8], status: 
     status
 }
 
-/// Puts a text line by line, or tells the want of memory for it.
+/// Puts a text line by line, or the line `memory` if there was no memory for it.
 pub fn say_made<K: Sink, E: Sink>(
     out: &mut Outputs<K, E>,
     text: Result<Vec<u8>, AllocError>,
@@ -91,7 +91,7 @@ pub fn say_made<K: Sink, E: Sink>(
     }
 }
 
-/// Puts the line that tells want of memory on standard error, for which no memory is taken.
+/// Puts the line `memory` on standard error, which takes no memory.
 pub fn say_memory<K: Sink, E: Sink>(out: &mut Outputs<K, E>) -> Status
     ensures { Ends (Only Memory (line (codes "memory"))) out.old out.new result }
 {
@@ -101,7 +101,7 @@ pub fn say_memory<K: Sink, E: Sink>(out: &mut Outputs<K, E>) -> Status
     }
 }
 
-/// Puts a line of two texts, one behind the other.
+/// Puts a line of two texts, one after the other.
 pub fn say_of<K: Sink, E: Sink>(
     alloc: Global,
     out: &mut Outputs<K, E>,
@@ -118,7 +118,8 @@ pub fn say_of<K: Sink, E: Sink>(
     }
 }
 
-/// Says in second lines on standard error that the text on standard output is not finished, and gives the status.
+/// Says in second lines on standard error that the text on standard output is not finished. Gives
+/// the status.
 pub fn say_unfinished<K: Sink, E: Sink>(
     out: &mut Outputs<K, E>,
     notes: &[u8],
@@ -134,15 +135,15 @@ pub fn say_unfinished<K: Sink, E: Sink>(
     }
 }
 
-// The second line where nothing more is known.
+// The second line if nothing more is known.
 fn not_finished() -> &'static [u8]
     ensures { AreSeconds result.now }
 {
     b"  not finished: see pns help solve\n"
 }
 
-/// With which status the call ends after lines of a tree text were printed on standard output. Where they are those of a search that
-/// stopped, the second lines follow on standard error.
+/// With which status the call ends after lines of a tree text were printed on standard output. If
+/// they are those of a search that stopped, the second lines follow on standard error.
 pub fn say_searched<K: Sink, E: Sink>(
     out: &mut Outputs<K, E>,
     printed: Result<(), PrintFault>,
@@ -167,7 +168,7 @@ pub fn say_searched<K: Sink, E: Sink>(
     }
 }
 
-/// The same, where nothing more is known of why a search stopped.
+/// The same, if nothing more is known of why a search stopped.
 pub fn say_printed<K: Sink, E: Sink>(
     out: &mut Outputs<K, E>,
     printed: Result<(), PrintFault>,
@@ -180,7 +181,7 @@ pub fn say_printed<K: Sink, E: Sink>(
     say_searched(out, printed, not_finished(), status)
 }
 
-/// Puts the line that says why there is no answer on standard error, and the second lines behind it.
+/// Puts the line that says why there is no answer on standard error, and the second lines after it.
 pub fn tell<K: Sink, E: Sink>(
     out: &mut Outputs<K, E>,
     first: &[u8],
@@ -208,7 +209,7 @@ pub fn tell_line<K: Sink, E: Sink>(out: &mut Outputs<K, E>, first: &[u8], status
     tell(out, first, &[], status)
 }
 
-/// Puts such a line of two texts, one behind the other.
+/// Puts such a line of two texts, one after the other.
 pub fn tell_of<K: Sink, E: Sink>(
     alloc: Global,
     out: &mut Outputs<K, E>,
@@ -225,7 +226,7 @@ pub fn tell_of<K: Sink, E: Sink>(
     }
 }
 
-/// The same with second lines behind it.
+/// The same with second lines after it.
 pub fn tell_with<K: Sink, E: Sink>(
     alloc: Global,
     out: &mut Outputs<K, E>,
@@ -243,7 +244,8 @@ pub fn tell_with<K: Sink, E: Sink>(
     }
 }
 
-/// Puts such a line that was made, which has its line feed, and second lines behind it; or tells the want of memory for it.
+/// Puts such a line that was made, which has its line feed, and second lines after it. Puts the
+/// line `memory` if there was no memory for it.
 pub fn tell_made<K: Sink, E: Sink>(
     out: &mut Outputs<K, E>,
     first: Result<String, AllocError>,

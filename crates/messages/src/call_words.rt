@@ -169,8 +169,9 @@ fn no_form(alloc: Global, command: &str, page: &[u8], words: &[String]) -> Notes
     notes
 }
 
-/// What follows `usage`, for words that have no form: the overview where there are no words; for a first word that is no command the
-/// nearest one; else the forms of the command, and the first word that does not fit.
+/// What follows `usage`, for words that have no form. Without words it is the overview. If the
+/// first word is no command, it is the nearest one. Else it is the forms of the command, and the
+/// first word that does not fit.
 pub fn usage(alloc: Global, words: &[String]) -> Notes {
     match words {
         [] => {

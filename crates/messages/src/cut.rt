@@ -1,6 +1,6 @@
 //! Pieces of a text.
 
-/// The text without the line feed at its end, where it has one.
+/// The text without the line feed at its end, if it has one.
 pub(crate) fn without_feed(text: &[u8]) -> &[u8] {
     match text {
         [front @ .., b'\n'] => front,

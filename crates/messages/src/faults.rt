@@ -52,7 +52,7 @@ impl Format {
         }
     }
 
-    /// The format that the first line of the text tells.
+    /// The format that the first line of the text names.
     fn of_text(text: &[u8]) -> Option<Format> {
         let line = line_at(text, 1)?;
         match line.strip_prefix(b"file_type=")? {
@@ -80,8 +80,8 @@ fn is_example(line: &[u8]) -> bool {
     line.starts_with(b"  ")
 }
 
-// Which block of the page speaks of the format, counted from 0: a block is some lines and their examples. The first one does where
-// no later one names the format in its first line.
+// Which block of the page speaks of the format, counted from 0. A block is some lines and their
+// examples. It is the first block unless a later one names the format in its first line.
 fn block_for(page: &[u8], format: Format) -> u32 {
     let mut block = 0u32;
     let mut was_example = false;
@@ -107,7 +107,8 @@ fn add_sentence(notes: &mut Notes, page: &[u8]) {
     }
 }
 
-// What the example of a fault has to have for the line at fault: an arrow, where the line has one and the page such a fault.
+// What the example of a fault has to have for the line at fault: an arrow, if both the line and a
+// fault of the page have one.
 fn sign_for(page: &[u8], line: &[u8]) -> &'static [u8] {
     if !has(line, b"=>") {
         return b"";
@@ -120,7 +121,7 @@ fn sign_for(page: &[u8], line: &[u8]) -> &'static [u8] {
     b""
 }
 
-// Adds the block of the page: its lines, and of its faults the first one with this sign, with its cure.
+// Adds the block of the page: its lines, and the first of its faults with this sign, with its cure.
 fn add_block(notes: &mut Notes, page: &[u8], wanted: u32, sign: &[u8]) {
     let mut block = 0u32;
     let mut was_example = false;
@@ -142,7 +143,8 @@ fn add_block(notes: &mut Notes, page: &[u8], wanted: u32, sign: &[u8]) {
     }
 }
 
-// Adds what the page on the kind says of such a text, and one fault like that of the line, with its cure.
+// Adds what the page on the kind says of such a text, and one fault like that of the line, with its
+// cure.
 fn add_page(notes: &mut Notes, page: &[u8], format: Format, line: &[u8]) {
     let block = block_for(page, format);
     if block != 0 {
@@ -168,7 +170,7 @@ fn add_line(notes: &mut Notes, text: &[u8], number: u32) {
     }
 }
 
-// Where a text of another format was given, says so, and gives whether it did.
+// Says so if a text of another format was given, and gives whether it did.
 fn add_exchanged(notes: &mut Notes, text: &[u8], wanted: Format) -> bool {
     let Some(found) = Format::of_text(text) else {
         return false;
@@ -193,8 +195,8 @@ pub struct Source<'a> {
     pub format: Format,
 }
 
-/// What follows the line of a fault: the line as it stands in the text, what the kind means, and a fault of that kind with its cure; or
-/// that the text is of another format.
+/// What follows the line of a fault: the line as it is in the text, what the kind means, and a
+/// fault of that kind with its cure. Or that the text is of another format.
 pub fn fault(alloc: Global, source: Source<'_>, number: u32, kind: &str) -> Notes {
     let mut notes = Notes::new(alloc);
     add_line(&mut notes, source.text, number);

@@ -1,7 +1,8 @@
 //! The forms of a command, and the first word that does not fit them.
 //!
-//! A form is a line at the head of the command's page, as `pns solve FILE [BUDGET]`: behind the command one slot for each word, those
-//! that may be left out in brackets, and `..` where more words like the last one may follow.
+//! A form is a line at the head of the command's page, as `pns solve FILE [BUDGET]`. After the
+//! command it has one slot for each word. Those that may be left out are in brackets. If more words
+//! like the last one may follow, it ends with `..`.
 
 use crate::cut::without_feed;
 use help_texts::page_on;
@@ -15,7 +16,7 @@ pub(crate) fn is_form(line: &[u8]) -> bool {
     line.starts_with(b"pns ")
 }
 
-/// How many words a form has room for, behind the command.
+/// How many words a form has room for after the command.
 fn room_of(form: &[u8]) -> usize {
     let slots = form.split(|c| *c == b' ').count();
     if form.ends_with(b"..") {
@@ -70,7 +71,7 @@ pub(crate) enum Slot {
     Other,
 }
 
-// The slot of this name. UNITS is a number where a plant is made up, and names elsewhere.
+// The slot of this name. UNITS is a number if a plant is made up, and names otherwise.
 fn slot_named(name: &[u8], is_made: bool) -> Slot {
     match name {
         b"FILE" | b"TREE" | b"RANK" | b"PART" | b"SCRIPT" | b"PLAN" | b"TEXT" => Slot::File,
@@ -160,9 +161,9 @@ fn is_short_budget(word: &str) -> bool {
 /// What is wrong with names that commas separate.
 #[derive(Clone, Copy)]
 pub(crate) enum NamesSlip<'a> {
-    /// Nothing stands before a comma, or after one.
+    /// Nothing is before a comma, or after one.
     EmptyPart,
-    /// A blank stands in them.
+    /// A blank is in them.
     Blank,
     /// A part is no name.
     NoName(&'a str),
@@ -203,7 +204,8 @@ fn without_brackets(slot: &[u8]) -> &[u8] {
     slot.strip_suffix(b"]").unwrap_or(slot)
 }
 
-// The slot at a place of the form, counted from 0 behind the command: where the form ends with `..` the last one repeats.
+// The slot at a place of the form, counted from 0 after the command. If the form ends with `..`,
+// the last one repeats.
 fn slot_at(form: &[u8], at: usize) -> Option<&[u8]> {
     let place = at.saturating_add(2);
     match form.split(|c| *c == b' ').nth(place) {
@@ -212,7 +214,8 @@ fn slot_at(form: &[u8], at: usize) -> Option<&[u8]> {
     }
 }
 
-/// The first word that does not fit the form, or the first slot that has none. There is no answer where each fits.
+/// The first word that does not fit the form, or the first slot that has none. There is no answer
+/// if each fits.
 pub(crate) fn slip_of<'a>(form: &'a [u8], is_made: bool, words: &'a [String]) -> Option<Slip<'a>> {
     let mut has_input = false;
     for at in 0..words.len() {

@@ -1,12 +1,13 @@
-//! What follows the first line of a refusal, for people: what was wrong, where, and how to mend it.
+//! Second lines, printable, after two blanks; their wording has no clause.
 //!
-//! [`Notes`] has the lines. Contracts promise their shape, `Seconds` of `studio_rules`: whole lines of
-//! printable bytes, each behind two blanks. The wording is not promised, and no caller decides by it:
-//! where memory is refused a note is left out, and the call goes on.
+//! They follow the first line of a refusal, for people: what was wrong, in which place, and how to
+//! mend it. [`Notes`] has the lines. Contracts promise their shape, `Seconds` of `studio_rules`. No
+//! caller decides by their wording. If memory is refused, a note is left out, and the call goes on.
 //!
-//! Modules: `notes`, the lines; `cut`, pieces of a text; `nearest`, the known word that is nearest to
-//! another; `form`, the form of a command and the first word that does not fit it; `call_words`, `faults`
-//! and `reasons`, what is said of words, of a text with a fault, and of the other refusals.
+//! Modules: `notes`, the lines; `cut`, pieces of a text; `nearest`, the known word that is nearest
+//! to another; `form`, the form of a command and the first word that does not fit it; `call_words`,
+//! `faults` and `reasons`, what is said of words, of a text with a fault, and of the other
+//! refusals.
 #![tactic(auto)]
 
 mod call_words;

@@ -3,10 +3,12 @@
 use std::alloc::{AllocError, Global};
 use strsim::damerau_levenshtein;
 
-/// The greatest distance of a word that is still near. Words that differ in small and capital letters alone have it.
+/// The greatest distance of a word that is still near. Words that differ in small and capital
+/// letters alone have it.
 const MOST_STEPS: usize = 2;
 
-// How many letters are put in, left out, changed or exchanged with the next one from one word to the other, where these are few.
+// How many letters are put in, left out, changed or exchanged with the next one from one word to
+// the other, if these are few.
 fn steps_between(alloc: Global, first: &str, second: &str) -> Result<Option<usize>, AllocError> {
     if first.len().abs_diff(second.len()) > MOST_STEPS {
         return Ok(None);
@@ -41,7 +43,8 @@ impl<'s, 'a> Nearest<'s, 'a> {
         Nearest { sought, near: None }
     }
 
-    /// Offers a word: it is taken where it is near, and nearer than all before. Where memory is refused it is passed over.
+    /// Offers a word. It is taken if it is near, and nearer than all before. If memory is refused,
+    /// it is ignored.
     pub(crate) fn offer(&mut self, alloc: Global, word: &'a str) {
         let Ok(Some(steps)) = steps_between(alloc, self.sought, word) else {
             return;

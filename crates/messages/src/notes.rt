@@ -19,13 +19,14 @@ pub enum Piece<'a> {
     Own(&'a str),
     /// The same, as bytes.
     Bytes(&'a [u8]),
-    /// A word of the call, or a line of a file: it is cut where it is long.
+    /// A word of the call, or a line of a file. If it is long, only its front is shown.
     Foreign(&'a [u8]),
     /// A number.
     Number(u64),
 }
 
-/// Lines for people. Contracts see their bytes, and that each line begins with two blanks and has printable bytes alone.
+/// Lines for people. Contracts see their bytes, and that each line begins with two blanks and has
+/// printable bytes alone.
 #[derive(Drop)]
 pub struct Notes {
     bytes: Vec<u8>,
@@ -43,7 +44,7 @@ impl Model for Notes {
     ghost invariant = { λ notes. AreSeconds notes.bytes.items };
 }
 
-// A byte that is shown: itself where it is printable, else a question mark.
+// A byte that is shown: itself if it is printable, else a question mark.
 fn shown(byte: u8) -> u8
     ensures from { 32 ≤ result }
     ensures to { result ≤ 126 }
@@ -146,7 +147,7 @@ impl Notes {
         }
     }
 
-    /// Adds a line of the pieces, where there are fewer than eight and memory allows.
+    /// Adds a line of the pieces, if there are fewer than eight and memory allows.
     pub fn add(&mut self, pieces: &[Piece<'_>]) {
         if self.lines < MOST_LINES {
             self.push(pieces);

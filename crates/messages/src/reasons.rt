@@ -155,7 +155,7 @@ pub fn refused(alloc: Global, why: Why) -> Notes {
     notes
 }
 
-/// What follows the refused claim of a tree that says `infeasible`, where a network is asked for.
+/// What follows the refused claim of a tree that says `infeasible`, if a network is asked for.
 pub fn no_network(alloc: Global) -> Notes {
     note(
         alloc,
@@ -168,11 +168,12 @@ pub fn no_network(alloc: Global) -> Notes {
 pub enum Stop {
     /// It has as many nodes as it may.
     Spent { budget: u64 },
-    /// A number of this node is out of range.
+    /// A number of this node overflows.
     Past { node: u32 },
 }
 
-/// What follows the text of a search that stopped: why, the cost of the best network so far, as it is printed, and what to do.
+/// What follows the text of a search that stopped: why, the cost of the best network so far, as it
+/// is printed, and what to do.
 pub fn not_finished(alloc: Global, stop: Stop, cost: Option<&str>) -> Notes {
     let mut notes = Notes::new(alloc);
     match stop {

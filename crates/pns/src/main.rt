@@ -1,5 +1,7 @@
-//! The program `pns`: its words call the studio over the files of the system, the standard input, the standard output and
-//! the standard error.
+//! The program over real files and outputs; only safety.
+//!
+//! The words of `pns` call the studio over the files of the system, the standard input, the
+//! standard output and the standard error. Of it only safety is proved.
 //!
 //! Modules: `watch`, who watches a search; `line`, the line that says how far it is.
 #![tactic(auto)]
@@ -16,8 +18,8 @@ use std::process::ExitCode;
 use std::rt::Env;
 use studio::{Status, code_of, studio};
 
-/// The number with which the program ends where its words cannot be gathered, for another cause than want of memory.
-/// No call of the studio ends so.
+/// The number with which the program ends if its words cannot be gathered, and memory did not run
+/// out. No call of the studio ends so.
 const NO_WORDS: u8 = 20;
 
 /// A word has fewer bytes.

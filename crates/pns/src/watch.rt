@@ -36,8 +36,8 @@ fn is_quiet<R: Env + Alloc<A = Global>>(rt: &R) -> bool {
 }
 
 impl<'a, R: Clock + Env + Alloc<A = Global>, P: Print> LineWatch<'a, R, P> {
-    /// A watch that begins now. It prints nothing if the environment has `PNS_QUIET`, or if the clock
-    /// cannot be read.
+    /// A watch that begins now. It prints nothing if the environment has `PNS_QUIET`, or if the
+    /// clock cannot be read.
     pub(crate) fn new(rt: &'a R, output: &'a P) -> LineWatch<'a, R, P> {
         let start = if is_quiet(rt) {
             None

@@ -1,6 +1,8 @@
-//! The words by which it is told why a claim, or a node of a tree, is refused.
+//! The words of causes and refused nodes are exact.
 //!
-//! `RefusalWords` of `studio_rules` has the word of each cause, and the lines of a refused claim and of a refused node; `say_node` says the latter.
+//! They say why a claim, or a node of a tree, is refused. `RefusalWords` of `studio_rules` has the
+//! word of each cause, and the lines of a refused claim and of a refused node. `say_node` and
+//! `tell_node` put the line of a node.
 #![tactic(auto)]
 
 mod words;

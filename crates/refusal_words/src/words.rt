@@ -12,7 +12,7 @@ use std::alloc::{AllocError, Global};
 use studio_rules::Status;
 use tree_rules::Why;
 
-/// The word by which a cause is told.
+/// The word for a cause.
 pub fn why_word(why: Why) -> &'static str
     ensures { result.now ≡ why_word why }
 {
@@ -59,7 +59,7 @@ pub fn say_node<K: Sink, E: Sink>(
     }
 }
 
-/// Tells that a command can't go on from a tree, whose node is refused, and why.
+/// Puts on standard error that a command can't go on from a tree, whose node is refused, and why.
 pub fn tell_node<K: Sink, E: Sink>(
     alloc: Global,
     out: &mut Outputs<K, E>,

@@ -34,7 +34,7 @@ use Rattle.studio.proofs.Accepted.{is_held, no_fault, one_problem}
 
 -- ---- what the shelf holds
 
--- the shelf tells the same bytes of the file before both calls
+-- the shelf knows the same bytes of the file before both calls
 abbrev pub Same : Call → Call → List ℕ → Type 0
 Same c d name = (bytes : List ℕ) × Holds c name bytes × Holds d name bytes
 
@@ -67,7 +67,7 @@ answered c command text calls puts =
       text_is = appended c.out_before.out.written c.out_after.out.written puts.front text ends.0 puts.before puts.after (text_out c.out_before c.out_after Done ends.0 tt ends.2) ∙ ends.1.2;
     }
 
--- what is shown of each answer of a call holds of how it ended
+-- what is shown of each answer of a call is true of how it ended
 module _ (c : Call) (command : Command) (calls : Calls c command) (Q : Status → List ℕ → Type 0) (shown : (s : Status) (lines : List (List ℕ)) → CommandAnswers c.shelf_before.held command s lines → (status : Status) × (text : List ℕ) × (s ≡ status) × (text_of lines ≡ text) × Q status text) where
   pub ended : ((status : Status) × (text : List ℕ) × EndsWith c status text × Q status text) ⊎ HasFailed c
   ended = at c.status refl calls.call.ends
@@ -96,7 +96,7 @@ accepts : (c : Call) (name text : List ℕ) (status : Status) (said : List ℕ) 
 accepts c name text status said ends (inl h) = inl (h.0, (ends.0 ∙ h.1, writes_as c.out_before c.out_after status Done said _ h.1 h.2 ends.1))
 accepts c name text status said ends (inr h) = inr (h.0, (ends.0 ∙ h.1, writes_as c.out_before c.out_after status TooLong said _ h.1 h.2 ends.1))
 
--- the same answers where another shelf holds the file
+-- the same answers if another shelf has the file
 moved : (work : Problem → Status → List (List ℕ) → Type 0) (held later : List ℕ → Told) (file bytes : List ℕ) (s : Status) (lines : List (List ℕ)) → held file ≡ Some (Some bytes) → later file ≡ Some (Some bytes) → OnFile work held file s lines → OnFile work later file s lines
 moved work held later file bytes s lines is here said =
     (said.0, subst (λ (t : Told). AreHeld t said.0) (is ∙ sym here) said.1, said.2)
@@ -133,7 +133,7 @@ rankcheck_accepts_ranked law ranking checking file rank count budget text calls 
 abbrev IsOneLine : List ℕ → Type 0
 IsOneLine bytes = (k : ℕ) → k < length bytes → get_or bytes k 0 ≡ 10 → ⊥
 
--- the byte in front of what stands behind whole lines is a line feed
+-- the byte before what follows whole lines is a line feed
 before_end : (xs : List (List ℕ)) (tail : List ℕ) → 0 < length (text_of xs) → (k : ℕ) × (k + 1 ≡ length (text_of xs)) × (get_or (text_of xs ++ tail) k 0 ≡ 10)
 before_end [] tail some = absurd (omega (arith, some))
 before_end (x ∷ []) tail some = (

@@ -1,4 +1,4 @@
--- The statuses of `caused` come just where their causes hold.
+-- A status of `caused` comes just if it has its cause.
 use Rattle.std.specs.List.{Contains}
 use Rattle.std.proofs.Common.{Bool, sym, ◌∙◌, ◌≡◌, ◌⊎◌, ◌<◌, ◌≤◌, ◌∷◌, [], zero, suc, false, true, Some, None, IsSome, refl, inl, inr, List, ℕ, Option, Result, Ok, Err, subst, ap, arith, length, take, get_or, pos}
 use Rattle.problem_rules.specs.Problem.{Problem}
@@ -88,7 +88,8 @@ by_cases s (inr (inr (inr (inr (inr (inr (inr (inl e)))))))) = subst Caused (sym
 by_cases s (inr (inr (inr (inr (inr (inr (inr (inr (inl e))))))))) = subst Caused (sym e) tt
 by_cases s (inr (inr (inr (inr (inr (inr (inr (inr (inr none))))))))) = absurd none
 
--- an answer with such a status has its cause, and where a status has its cause each answer is with it
+-- An answer with such a status has its cause. If a status has its cause, each answer has the
+-- status.
 abbrev pub Only : (Status → List (List ℕ) → Type 0) → (Status → Type 0) → Type 0
 Only answers cause = (s : Status) (lines : List (List ℕ)) → Caused s → answers s lines → cause s
 
@@ -158,7 +159,7 @@ file_always held name work cause works told =
     judged_always file_limit BadProblem HasProblemFault GivesProblem (FileFault name) work cause (problem_cause name) problem_good one_problem
     (λ file p given. works p given.valid) (held name) told
 
--- ---- SCRIPT, PLAN and RANK, behind which nothing is a cause
+-- ---- SCRIPT, PLAN and RANK; nothing after them is a cause
 
 no_behind : {G : Type 0} (limit : ℕ) (bad : Status) (HasFault : List ℕ → Type 0) (Gives : List ℕ → G → Type 0) (told : Told) (s : Status) → ((file : List ℕ) × AreHeld told file × (FileCause limit bad HasFault file s ⊎ ((g : G) × Gives file g × ⊥))) → (file : List ℕ) × AreHeld told file × FileCause limit bad HasFault file s
 no_behind limit bad HasFault Gives told s (file, is, inl why) = (file, is, why)
@@ -251,7 +252,7 @@ module _ (held : List ℕ → Told) (name : List ℕ) (p : Problem) where
       judged_always tree_limit BadTree (HasRankFault p) (GivesRanking p) (RankFault name p) (RankcheckWork p) (λ _ _. ⊥) (rank_cause name p) (rank_good p) (one_ranking p)
       (λ file t given u v ls none does. absurd none) (held name) told status s lines (cause.0, cause.1, inl cause.2) h
 
--- ---- TREE, and what lies behind it whatever it claims
+-- ---- TREE, and what follows it whatever it claims
 
 pub tree_cause : (name : List ℕ) (p : Problem) (file : List ℕ) (s : Status) (lines : List (List ℕ)) → TreeFault name p file s lines → FileCause tree_limit BadTree (HasTreeFault p) file s
 tree_cause name p file TooLong lines h = inl (refl, h.0)
@@ -316,7 +317,7 @@ module _ (held : List ℕ → Told) (p : Problem) where
     not_bad_part file part s given (inr h) =
         let e : ◌≡◌ {A = Result Part trees.Fault} (Ok part) (Err (h.2.0, h.2.1)) = once p valid file (Ok part) (Err (h.2.0, h.2.1)) given.1 h.2.2 in cc
 
-    -- no part is at fault where all are given
+    -- no part is at fault if all are given
     pub not_parts : (names : List (List ℕ)) (ps : List Part) (s : Status) → ((name : List ℕ) → Contains names name → IsSome (held name)) → InParts held names p s → GiveParts held p names ps → ⊥
     not_parts [] ps s told why give = absurd why
     not_parts (name ∷ names) [] s told why give = absurd give
@@ -489,7 +490,7 @@ module _ (held : List ℕ → Told) where
   command_only (Trial number units budget) = λ s lines c h. stops_plain (generated number units) s lines c (search_status budget (generated number units) s lines h)
   command_only (Telling text) = λ s lines c h. absurd (subst Caused h.0 c)
 
-  -- what has no cause of its own behind the file
+  -- what has no cause of its own after the file
   alone : (file : List ℕ) (work : Problem → Status → List (List ℕ) → Type 0) → IsSome (held file) → Always (OnFile work held file) (InFile NoCause held file)
   alone file work told = file_always held file work NoCause (λ p valid status s lines none h. absurd none) told
 
@@ -549,7 +550,7 @@ module _ (held : List ℕ → Told) where
 
 -- ---- the call
 
--- each status that has a cause comes just where it holds, unless reading, an output or memory fails
+-- each status that has a cause comes just if it is so, unless reading, an output or memory fails
 module _ (once : PartsAreReadOnce) (old new : ShelfState) (words : List (List ℕ)) (before after : OutputsState) where
   pub exact_ends : (s : Status) → Ends (WordsSay old new words) before after s → (command : Command) → command_of words ≡ Some command → EndsExactly old.held command s
   exact_ends ReadFault e command is status named = record { only = λ q. absurd (subst Caused (sym q) (by_cases status named)); always = λ told cause. inr (inl refl) }

@@ -1,4 +1,4 @@
--- A search that nothing stops comes to its end.
+-- A search that nothing stops finishes.
 use Rattle.std.proofs.Common.{◌≡◌, ◌⊎◌, ℕ, List, Option, Some, None, inl, inr, refl, sym, subst}
 use Rattle.number_sets.specs.Sets.{has}
 use Rattle.problem_rules.specs.Problem.{Problem}
@@ -217,7 +217,7 @@ command_finished held (Flows name units) s lines can (file, is, inr (p, given, w
 command_finished held command s lines can h = absurd can
 
 module _ (old new : ShelfState) (words : List (List ℕ)) (before after : OutputsState) where
-  -- a search that nothing stops comes to its end
+  -- a search that nothing stops finishes
   pub finish_ends : (s : Status) → Ends (WordsSay old new words) before after s
       → (command : Command) → command_of words ≡ Some command → SearchCanFinish old.held command
       → IsNotStopped s

@@ -1,4 +1,4 @@
--- What `merge` put out, where `split` finds no open leaf in it, is accepted.
+-- What `merge` put out is accepted, if `split` finds no open leaf in it.
 use Rattle.std.proofs.Common.{◌≡◌, ◌⊎◌, ◌≤◌, ◌+◌, ◌++◌, ◌∷◌, ◌||◌, ◌*ℤ◌, int_lt, [], Bool, true, false, ℕ, zero, suc, List, Option, Some, None, Result, Ok, Err, codes, length, get_or, refl, sym, ap, subst, ◌∙◌, arith, inl, inr, if◌then◌else◌}
 use Rattle.text_rules.specs.Outside.{Told}
 use Rattle.problem_rules.specs.Each.{Each}
@@ -169,7 +169,7 @@ module _ (spells : SpelledTextsRead) (spelt : ReadTextsAreSpelled) (parts_spelt 
       let fit = merged_fits p grafts claim tree ps both grown are own.claim own.tree (parts_fit held names ps give) in
       spells p valid (record { claim = both; tree = grown; tail = whole }) (record { claim = fit.0; tree = fit.1; tail = record { known = tt; counted = tt } })
 
-  -- where it is partial and has no open leaf, it is accepted
+  -- if it is partial and has no open leaf, it is accepted
   closed : (claim : Claim) (tree : Tree) (part : Part) (ps : List Part) (both : Claim) (grown : Tree) → AreMerged p claim tree (part ∷ ps) both grown → IsPartial p first_node both grown → open_leaves (shape_of p) (first_node ∷ []) grown 0 ≡ [] → IsAccepted p first_node both grown
   closed claim tree part ps both grown are partial none =
       decide p first_node both grown partial

@@ -56,7 +56,7 @@ use Rattle.studio_rules.specs.Answers.{AnswersTo, CommandAnswers, WordsSay, IsRe
 use Rattle.studio_rules.specs.declared.status.Status.{Status}
 use Rattle.studio_rules.specs.declared.status.Status.TheVariants.{Done, Refused, Usage, BadProblem, Past, Spent, ReadFault, WriteFault, Memory, TooLong, BadToken, BadTree, BadEdit, NotMigrated, BadPlan, BadNode, NoLeaf, NotBest, UnknownName, BadClaim}
 
--- a file that gives no problem, where it is held within the limit or not
+-- a file that gives no problem, within the limit or not
 fault_status : (name file : List ℕ) (s : Status) (lines : List (List ℕ)) → FileFault name file s lines → (s ≡ BadProblem) ⊎ ((s ≡ TooLong) × (file_limit < length file))
 fault_status name file TooLong lines h = inr (refl, h.0)
 fault_status name file BadProblem lines h = inl refl
@@ -173,7 +173,7 @@ pub search_status : (budget : ℕ) (p : Problem) (s : Status) (lines : List (Lis
 search_status budget p Done lines h = inl refl
 search_status budget p s lines h = solve_status budget p s lines h
 
--- the statuses of a command, where its file is within the limit
+-- the statuses of a command, if its file is within the limit
 within_limit : (held : Told) (limit : ℕ) (file : List ℕ) → IsToldAnd held (λ told. length told ≤ limit) → AreHeld held file → limit < length file → ⊥
 within_limit None limit file h is long = absurd h
 within_limit (Some None) limit file h is long = absurd h
@@ -483,7 +483,7 @@ command_status held (Trial number units budget) s lines h short = elim (search_s
 ]
 command_status held (Telling text) s lines h short = inl h.0
 
--- parts that are put back are never told as words without a form
+-- parts that are put back never end with `usage`
 usage_of_merge : (held : List ℕ → Told) (names : List (List ℕ)) (p : Problem) (claim : Claim) (tree : Tree) (lines : List (List ℕ)) → MergeWork held names p claim tree Usage lines → ⊥
 usage_of_merge held names p claim tree lines (inl f) = elim (part_file_status (are_several names) f.name p f.fault.0 Usage lines f.fault.2) [ inl q ↦ cc | inr q ↦ let r : Usage ≡ TooLong = q.0 in cc ]
 usage_of_merge held names p claim tree lines (inr (ps, give, inl merged)) = let q : Usage ≡ Done = merged.done in cc
@@ -592,7 +592,7 @@ memory_status (Ranking file count budget) = inr (inr (inr (inr (inl refl))))
 memory_status (Trial number units budget) = inr (inr (inr (inl refl)))
 memory_status (Telling text) = inr (inl refl)
 
--- ---- a search that comes to its end
+-- ---- a search that finishes
 
 pub finished : (budget : ℕ) (p : Problem) (s : Status) (lines : List (List ℕ)) → CanFinish budget p → SolveWork budget p s lines → IsNotStopped s
 finished budget p s lines can (c, e, holds, text) = at c.tail e holds
@@ -628,7 +628,7 @@ fault_not_stopped name file s lines h = elim (fault_status name file s lines h) 
   | inr q ↦ let q0 = q.0 in ((λ r. cc), (λ r. cc))
 ]
 
--- no bytes are those of a file that is told to be missing
+-- no bytes are those of a file that is known to be missing
 nothing_held : (told : Told) (bytes : List ℕ) → told ≡ Some None → AreHeld told bytes → ⊥
 nothing_held told bytes gone is = subst (λ (o : Told). AreHeld o bytes) gone is
 
@@ -676,7 +676,7 @@ module _ (old new : ShelfState) (words : List (List ℕ)) (before after : Output
   pub write_fault_ends : (s : Status) → Ends (WordsSay old new words) before after s → s ≡ WriteFault → HasFault before after
   write_fault_ends s e is = (subst (λ (t : Status). Ends (WordsSay old new words) before after t) is e).0
 
-  -- words without a form are told so, unless an output or memory fails
+  -- words without a form end with `usage`, unless an output or memory fails
   pub no_form_ends : (s : Status) → Ends (WordsSay old new words) before after s → command_of words ≡ None → IsOneOf (Usage ∷ WriteFault ∷ Memory ∷ []) s
   no_form_ends WriteFault e none = inr (inl refl)
   no_form_ends Memory e none = inr (inr (inl refl))
@@ -684,7 +684,7 @@ module _ (old new : ShelfState) (words : List (List ℕ)) (before after : Output
   no_form_ends s e none =
       let told = subst (λ (f : Option Command). AnswersTo old.held f s e.1.0) none e.1.1 in inl told.0
 
-  -- nothing but want of memory stops a command that nothing disturbs
+  -- only memory that runs out stops a command that nothing disturbs
   pub complete_ends : (s : Status) → Ends (WordsSay old new words) before after s → (command : Command) → command_of words ≡ Some command → IsUndisturbed old new before after command → IsOneOf (statuses_of command) s
   complete_ends WriteFault e command is calm = absurd (calm.written e.0)
   complete_ends Memory e command is calm = memory_status command

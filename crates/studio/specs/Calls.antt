@@ -1,5 +1,5 @@
 -- Laws over calls of `studio` one after another: what one call put out another accepts, or goes on
--- from, where between the calls the problem file stays as it is.
+-- from, if the problem file stays as it is between the calls.
 use Rattle.std.specs.Prelude.{◌≡◌, ◌⊎◌, ◌≤◌, ◌<◌, ◌+◌, ◌++◌, ℕ, List, [], ◌∷◌, Some, length, codes}
 use Rattle.io_rules.specs.State.{ShelfState, OutputsState}
 use Rattle.studio_rules.specs.TreeFile.{tree_limit}
@@ -11,7 +11,8 @@ use Rattle.studio_rules.specs.declared.status.Status.{Status}
 use Rattle.studio_rules.specs.declared.status.Status.TheVariants.{Done, ReadFault, WriteFault, Memory, TooLong}
 use Rattle.studio_rules.specs.Answers.{WordsSay}
 
--- A call: its words, the shelf and the outputs before and after, and the status with which the call ended.
+-- A call: its words, the shelf and the outputs before and after, and the status with which the call
+-- ended.
 pub record Call : Type 0 where
   pub words : List (List ℕ)
   pub shelf_before : ShelfState
@@ -30,19 +31,19 @@ pub record Calls (c : Call) (command : Command) : Type 0 where
   pub call : IsCall c
   pub form : command_of c.words ≡ Some command
 
--- it ended with status 0, and standard output tells that it put out just the text
+-- it ended with status 0, and standard output shows that it put out just the text
 pub record Puts (c : Call) (text : List ℕ) : Type 0 where
   pub done : c.status ≡ Done
   pub front : List ℕ
   pub before : c.out_before.out.written ≡ Some front
   pub after : c.out_after.out.written ≡ Some (front ++ text)
 
--- the shelf of a call tells before it that the file holds the bytes
+-- the shelf of a call knows before it that the file has the bytes
 abbrev pub Holds : Call → List ℕ → List ℕ → Type 0
 Holds c name bytes = c.shelf_before.held name ≡ Some (Some bytes)
 
--- between two calls the file stays as it is: the shelf tells after the first that it holds the
--- bytes, and so before the second
+-- Between two calls the file stays as it is. The shelf knows after the first call that the file has
+-- the bytes, and so before the second.
 abbrev pub Keep : Call → Call → List ℕ → Type 0
 Keep c d name =
     (bytes : List ℕ) × (c.shelf_after.held name ≡ Some (Some bytes)) × Holds d name bytes
@@ -54,7 +55,7 @@ EndsWith c status text = (c.status ≡ status) × Writes c.out_before c.out_afte
 abbrev pub HasFailed : Call → Type 0
 HasFailed c = IsOneOf (ReadFault ∷ WriteFault ∷ Memory ∷ []) c.status
 
--- it accepted the text of the named file, or told that it is above the limit of trees
+-- it accepted the text of the named file, or said that it is above the limit of trees
 abbrev pub Accepts : Call → List ℕ → List ℕ → Type 0
 Accepts c name text =
     ((length text ≤ tree_limit) × EndsWith c Done (line (codes "accepted")))
@@ -76,7 +77,8 @@ RankcheckAcceptsRanked =
     → Calls checking (RankChecking file rank) → Keep ranking checking file → Holds checking rank text
     → Accepts checking rank text ⊎ HasFailed checking
 
--- What `merge` put out and is kept as TREE, where `split` finds no open leaf in it, `check` accepts with the same problem file.
+-- What `merge` put out and is kept as TREE, `check` accepts with the same problem file, if `split`
+-- finds no open leaf in it.
 abbrev pub CheckAcceptsMerged : Type 0
 CheckAcceptsMerged =
     (merging splitting checking : Call) (file tree merged part : List ℕ) (parts : List (List ℕ)) (text : List ℕ)
@@ -85,8 +87,9 @@ CheckAcceptsMerged =
     → Calls checking (Checking file merged) → Keep splitting checking file → Holds checking merged text
     → Accepts checking merged text ⊎ HasFailed checking
 
--- What `list` put out for `m` structures, the second call behind the token of its last line, joins to what it puts out for all: the text
--- of the second call stands in the place of the line `more`.
+-- What `list` put out for `m` structures, and then for `n` after the token of its last line, joins
+-- to what it puts out for all of them at once. The text of the second call comes in the place of
+-- the line `more`.
 abbrev pub ListingsJoin : Type 0
 ListingsJoin =
     (first second whole : Call) (file after token : List ℕ) (m n : ℕ) (lines : List (List ℕ)) (rest : List ℕ) → 0 < m → 0 < n

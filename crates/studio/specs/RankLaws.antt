@@ -8,7 +8,8 @@ use Rattle.studio_rules.specs.Command.{Ranking, RankChecking}
 use Rattle.studio_rules.specs.Answers.{CommandAnswers}
 use Rattle.studio.specs.SolveLaws.{IsAcceptedOrLong}
 
--- What `rank` prints with status 0 is accepted by `rankcheck` with the same problem file, or it is too long.
+-- What `rank` prints with status 0 is accepted by `rankcheck` with the same problem file, or it is
+-- too long.
 abbrev pub RankedIsAccepted : Type 0
 RankedIsAccepted =
     (held : List ℕ → Told) (file rank bytes : List ℕ) (count budget : ℕ) (ranked : List (List ℕ)) → held file ≡ Some (Some bytes)

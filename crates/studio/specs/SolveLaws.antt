@@ -8,13 +8,14 @@ use Rattle.studio_rules.specs.Command.{Solving, Checking}
 use Rattle.studio_rules.specs.TreeFile.{tree_limit}
 use Rattle.studio_rules.specs.Answers.{CommandAnswers}
 
--- `accepted`, or where the tree file is above its limit that it is too long
+-- `accepted`, or that the tree file is too long if it is above its limit
 abbrev pub IsAcceptedOrLong : List ℕ → List ℕ → Status → List (List ℕ) → Type 0
 IsAcceptedOrLong name file status lines =
     ((length file ≤ tree_limit) × (status ≡ Done) × (lines ≡ codes "accepted" ∷ []))
     ⊎ ((tree_limit < length file) × (status ≡ TooLong) × (lines ≡ (codes "too long " ++ name) ∷ []))
 
--- What `solve` prints with status 0 is accepted by `check` with the same problem file, or it is too long.
+-- What `solve` prints with status 0 is accepted by `check` with the same problem file, or it is too
+-- long.
 abbrev pub SolvedIsAccepted : Type 0
 SolvedIsAccepted =
     (held : List ℕ → Told) (file tree bytes : List ℕ) (budget : ℕ) (solved : List (List ℕ)) → held file ≡ Some (Some bytes)

@@ -181,12 +181,12 @@ fn note_fault<K: Sink, E: Sink>(out: &mut Outputs<K, E>, status: Status)
 /// Does what the words say over the shelf's files, and puts the text on the outputs line by line:
 /// an answer on `out`, and on `err` why there is none.
 ///
-/// To the watch it is reported how far a search is; what is put does not depend on it.
+/// The watch gets reports of how far a search is. What is put does not depend on it.
 ///
 /// If an output fails, the line `write fault` follows on `err`, as far as `err` takes it.
 ///
-/// The clause `ends` says which text is out with which status, and `keeps` and `later` what is left
-/// of the shelf. The others are parts of `ends` in words of their own.
+/// The clause `ends` says which text is written with which status, and `keeps` and `later` what is
+/// left of the shelf. The others are parts of `ends` in words of their own.
 pub fn studio<F: Shelf, K: Sink, E: Sink, W: Watch>(
     alloc: Global,
     words: &[String],
@@ -195,36 +195,43 @@ pub fn studio<F: Shelf, K: Sink, E: Sink, W: Watch>(
     watch: W,
 ) -> Status
     ensures ends { Finishes (WordsSay (F.state shelf.old) (F.state shelf.new) (map string_bytes words.now)) out.old out.new result }
-    // The shelf tells the same of each file as before, and no count of its faults fell.
+    // The files are known as before.
     ensures keeps { (name : List ℕ) → (F.state shelf.new).held name ≡ (F.state shelf.old).held name }
+    // No count of faults fell.
     ensures later { (name : List ℕ) → (F.state shelf.old).faults name ≤ (F.state shelf.new).faults name }
-    // Usage comes exactly where the words have no form, and yields to the faults of the outputs and of memory.
+    // `usage` comes only if the words have no form.
     ensures usage { result ≡ Status.Usage → command_of (map string_bytes words.now) ≡ None }
+    // Words without a form get it, unless an output or memory fails.
     ensures no_form { command_of (map string_bytes words.now) ≡ None → IsOneOf (Status.Usage ∷ Status.WriteFault ∷ Status.Memory ∷ []) result }
-    // A fault of reading or writing has its count: that of a file of the words, or that of an output.
+    // A fault of reading comes only if the count of faults of a file of the words rose.
     ensures read_fault { result ≡ Status.ReadFault → (name : List ℕ) × IsFileWord (map string_bytes words.now) name × HasRisen ((F.state shelf.old).faults name) ((F.state shelf.new).faults name) }
+    // A fault of writing comes only if the count of faults of an output rose.
     ensures write_fault { result ≡ Status.WriteFault → HasFault out.old out.new }
-    // A command whose first file the shelf tells to be missing says that it could not be read.
+    // A command whose first file is missing says so, unless an output or memory fails.
     ensures missing { (command : rules.Command) (name : List ℕ) → command_of (map string_bytes words.now) ≡ Some command → first_file command ≡ Some name
         → (F.state shelf.old).held name ≡ Some None → IsOneOf (Status.ReadFault ∷ Status.WriteFault ∷ Status.Memory ∷ []) result }
-    // A status that tells of the words and the files comes exactly where its cause holds: a file above its limit, the first fault of its
-    // text, a bad token, an unknown name, words of no sound node, or a problem that is not migrated. It yields to the faults of reading,
-    // of the outputs and of memory.
+    // Each status of `caused` comes only if it has its cause. If it has, and the shelf knows the
+    // files of the command, it comes, unless a read, an output or memory fails. The causes are a
+    // file above its limit, the first fault of its text, a bad token, an unknown name, words of no
+    // sound node, and a problem that can't be migrated.
     ensures exact { (command : rules.Command) → command_of (map string_bytes words.now) ≡ Some command → EndsExactly (F.state shelf.old).held command result }
-    // Where the command's files are held within the limit and no count rises, nothing but want of memory stops it.
+    // If the files of a command are there, within their limits, and no count of faults rises, the
+    // call ends with a status of the command.
     ensures complete { (command : rules.Command) → command_of (map string_bytes words.now) ≡ Some command
         → IsUndisturbed (F.state shelf.old) (F.state shelf.new) out.old out.new command
         → IsOneOf (statuses_of command) result }
-    // A search comes to its end where its budget is large enough and no number is out of range, and
-    // `flows` where none is.
+    // With a large enough budget and no overflow, a search ends neither with 4 nor 5, `flows`
+    // not with 4.
     ensures finishes { (command : rules.Command) → command_of (map string_bytes words.now) ≡ Some command → SearchCanFinish (F.state shelf.old).held command → IsNotStopped result }
-    // Where `check` ends with status 0, its files give a valid problem and a claim that is best: the claimed network is an
-    // allowed solution structure with flows of its cost, and none costs less; or none has flows.
+    // If `check` ends with status 0, its files give a valid problem and a claim that is best. The
+    // network of the claim is a clash-free solution structure with flows of its cost, and none
+    // costs less. Or none has flows.
     ensures accepted { (file : List ℕ) (tree : List ℕ) → command_of (map string_bytes words.now) ≡ Some (rules.Checking file tree)
         → result ≡ Status.Done → FilesClaimBest (F.state shelf.old).held file tree }
-    // Where `rankcheck` ends with status 0, its files give a valid problem and a ranking that is right: no flows for the units of a listed
-    // network cost less than it, and no other allowed solution structure costs less than the last one, or none has flows where fewer
-    // are listed than were asked for.
+    // If `rankcheck` ends with status 0, its files give a valid problem and a ranking that is
+    // right. No flows for the units of a listed network cost less than it. No other clash-free
+    // solution structure costs less than the last one; if fewer are listed than were asked for, no
+    // other has flows.
     ensures ranked { (file : List ℕ) (rank : List ℕ) → command_of (map string_bytes words.now) ≡ Some (rules.RankChecking file rank)
         → result ≡ Status.Done → FilesListBest (F.state shelf.old).held file rank }
 {

@@ -1,4 +1,5 @@
-//! Laws over what the commands print, and over calls one after another. Each is the contract of a function that does nothing.
+//! Laws over what the commands print, and over calls one after another. Each is the contract of a
+//! function that does nothing. A law over calls excepts that a read, an output or memory fails.
 ghost use Rattle.structure_commands.specs.ListingLaws.{PartsJoin};
 ghost use Rattle.studio.specs.SolveLaws.{SolvedIsAccepted};
 ghost use Rattle.studio.specs.RankLaws.{RankedIsAccepted};
@@ -11,12 +12,14 @@ use rank_laws::{network_has_one_fault, ranking_has_one_fault};
 use tree_laws::{claim_has_one_fault, open_leaves_decide, tree_has_one_fault};
 use tree_text_laws::{read_texts_are_spelled, spelled_texts_read};
 
-/// A listing that is taken in parts, each behind the last token of the part before, is the listing taken at once.
+/// A listing in parts is the listing at once. Each part begins after the last token of the part
+/// before.
 pub fn parts_join()
     ensures { PartsJoin }
 {}
 
-/// What `solve` prints with status 0 is accepted by `check` on the same problem, or is too long for it.
+/// What `solve` prints with status 0 is accepted by `check` on the same problem, or is too long for
+/// it.
 pub fn solved_is_accepted()
     ensures { SolvedIsAccepted }
 {
@@ -24,7 +27,8 @@ pub fn solved_is_accepted()
     tree_has_one_fault();
 }
 
-/// What `rank` prints with status 0 is accepted by `rankcheck` on the same problem, or is too long for it.
+/// What `rank` prints with status 0 is accepted by `rankcheck` on the same problem, or is too long
+/// for it.
 pub fn ranked_is_accepted()
     ensures { RankedIsAccepted }
 {
@@ -32,24 +36,24 @@ pub fn ranked_is_accepted()
     ranking_has_one_fault();
 }
 
-/// What a call of `solve` put out and is kept as TREE, a call of `check` with the same problem file accepts, or tells that it is too
-/// long.
+/// `check` accepts what a call of `solve` printed with 0. The text is kept as TREE, and the problem
+/// file stays the same. Or `check` says that the text is too long.
 pub fn check_accepts_solved()
     ensures { CheckAcceptsSolved }
 {
     solved_is_accepted();
 }
 
-/// What a call of `rank` put out and is kept as RANK, a call of `rankcheck` with the same problem file accepts, or tells that it is
-/// too long.
+/// `rankcheck` accepts what a call of `rank` printed with 0. The text is kept as RANK, and the
+/// problem file stays the same. Or `rankcheck` says that the text is too long.
 pub fn rankcheck_accepts_ranked()
     ensures { RankcheckAcceptsRanked }
 {
     ranked_is_accepted();
 }
 
-/// What a call of `merge` put out and is kept as TREE, where a call of `split` finds no open leaf in it, a call of `check` with the same
-/// problem file accepts.
+/// `check` accepts what `merge` printed, if `split` finds no open leaf in it. These are calls: the
+/// text is kept as TREE, and the problem file stays the same.
 pub fn check_accepts_merged()
     ensures { CheckAcceptsMerged }
 {
@@ -63,7 +67,8 @@ pub fn check_accepts_merged()
     tree_has_one_fault();
 }
 
-/// What two calls of `list` put out, the second behind the token of the last line of the first, joins to what one call puts out.
+/// Two calls of `list`, the second after the last token of the first, print what one does. The text
+/// of the second is put in the place of the line `more` of the first.
 pub fn listings_join()
     ensures { ListingsJoin }
 {

@@ -1,12 +1,14 @@
-//! The top call of the synthesis studio: words, files and two outputs in, a text and a status out.
+//! The top call of the synthesis studio.
 //!
-//! [`studio`] judges the form of the words, reads and judges the files that they name, does the command's work and puts
-//! its text line by line. Its contract says which text is out with which status, and on which output, from the words and the bytes that
-//! the shelf holds; each status has its cause, and want of memory alone is free. The definitions of both are those of `studio_rules`.
+//! [`studio`] takes words, files and two outputs. It judges the form of the words, reads and judges
+//! the files that they name, does the work of the command and puts its text line by line. Its
+//! contract says which text is written with which status, and on which output, from the words and
+//! the bytes that the shelf has. Each status has its cause; only that memory runs out is left open.
+//! The definitions of all this are in `studio_rules`.
 //!
-//! The words are read by `studio_words`; the commands stand in crates of their own, by what they are about: `structure_commands`,
-//! `edit_commands`, `flow_commands`, `network_commands`, `rank_commands`, `searches`, `rank_searches`, `part_commands`,
-//! `part_searches`, `period_searches` and `stability_commands`, over the files of `command_files`. Modules: `call`, which dispatches; `laws`.
+//! `studio_words` reads the words. The commands are in crates of their own with `commands`,
+//! `searches` or `shows` in their names, over the files of `command_files`. Modules: `call`, which
+//! calls the commands; `laws`.
 #![tactic(auto)]
 
 mod call;

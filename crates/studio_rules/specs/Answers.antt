@@ -1,4 +1,4 @@
--- What each command says, from its words and what the shelf holds.
+-- What each command says, from its words and from what the shelf holds.
 use Rattle.std.specs.List.{Contains}
 use Rattle.std.specs.Prelude.{◌≡◌, ◌≤◌, ◌⊎◌, ℕ, List, [], ◌∷◌, Option, Some, None, length, codes}
 use Rattle.text_rules.specs.Outside.{HasRisen, Told, IsToldAnd}
@@ -47,7 +47,8 @@ use Rattle.studio_rules.specs.Lines.{text_of}
 use Rattle.studio_rules.specs.declared.status.Status.{Status}
 use Rattle.studio_rules.specs.declared.status.Status.TheVariants.{Done, Refused, Usage, BadProblem, Past, Spent, Memory, BadToken, BadTree, BadEdit, NotMigrated, BadPlan, BadNode, NoLeaf, NotBest, UnknownName, BadClaim}
 
--- the statuses and lines of a command that searches, while neither shelf, sink nor memory fails; other commands have none
+-- The statuses and lines of a command that searches, while neither shelf, sink nor memory fails.
+-- Other commands have none here.
 abbrev pub SearchAnswers : (List ℕ → Told) → Command → Status → List (List ℕ) → Type 0
 SearchAnswers held (Ranging file tree kind name budget) status lines = OnFile (OnTree (StableWork kind name budget) held tree) held file status lines
 SearchAnswers held (Planning file plan budget) status lines = OnFile (OnPlan (PeriodsWork budget) held plan) held file status lines
@@ -82,7 +83,7 @@ CommandAnswers held (Merging file tree parts) status lines = OnFile (OnTree (Mer
 CommandAnswers held (Telling text) status lines = (status ≡ Done) × (text ≡ text_of lines)
 CommandAnswers held command status lines = SearchAnswers held command status lines
 
--- words without a form are told so
+-- `usage` is the answer to words that have no form
 abbrev pub AnswersTo : (List ℕ → Told) → Option Command → Status → List (List ℕ) → Type 0
 AnswersTo held None status lines = (status ≡ Usage) × (lines ≡ codes "usage" ∷ [])
 AnswersTo held (Some command) status lines = CommandAnswers held command status lines
@@ -90,7 +91,7 @@ AnswersTo held (Some command) status lines = CommandAnswers held command status 
 abbrev pub Answers : (List ℕ → Told) → List (List ℕ) → Status → List (List ℕ) → Type 0
 Answers held words = AnswersTo held (command_of words)
 
--- what a command, and what the words, may have out with a status
+-- what may be written with a status, for a command and for the words of a call
 abbrev pub CommandSays : ShelfState → ShelfState → Command → Status → List ℕ → Type 0
 CommandSays old new command = Says (CommandAnswers old.held command) (IsFileOf command) old new
 
@@ -139,7 +140,8 @@ IsReadWithin (PartingAgainst file inside outside budget tree) name limit = ((nam
 IsReadWithin (Merging file tree parts) name limit = ((name ≡ file) × (limit ≡ file_limit)) ⊎ (((name ≡ tree) ⊎ Contains parts name) × (limit ≡ tree_limit))
 IsReadWithin command name limit = IsFileOf command name × (limit ≡ file_limit)
 
--- the files of the command are held within their limits, and neither their counts of faults nor those of the outputs rise
+-- The files of the command are known and within their limits. Neither their counts of faults nor
+-- those of the outputs rise.
 pub record IsUndisturbed (old new : ShelfState) (before after : OutputsState) (command : Command) : Type 0 where
   pub held : (name : List ℕ) (limit : ℕ) → IsReadWithin command name limit → IsToldAnd (old.held name) (λ file. length file ≤ limit)
   pub read : (name : List ℕ) → IsFileOf command name → HasRisen (old.faults name) (new.faults name) → ⊥
@@ -174,7 +176,7 @@ statuses_of (Ranking file count budget) = Done ∷ Spent ∷ Past ∷ BadProblem
 statuses_of (Trial number units budget) = Done ∷ Spent ∷ Past ∷ Memory ∷ []
 statuses_of command = Done ∷ Memory ∷ []
 
--- it holds of whatever problem the file gives
+-- P is true of whatever problem the file gives
 abbrev pub OnGiven : (Problem → Type 0) → (List ℕ → Told) → List ℕ → Type 0
 OnGiven P held name =
     (file : List ℕ) (p : Problem) → AreHeld (held name) file → GivesProblem file p → P p
@@ -185,15 +187,15 @@ PlanCanFinish budget held name p =
     (file : List ℕ) (plan : Plan) → AreHeld (held name) file → GivesPlan p file plan
     → CanFinish budget (expanded p plan)
 
--- nothing stops the range of the named spot, whatever network the tree of the file claims
+-- nothing stops the range of the named spot, whatever network the file claims
 abbrev pub RangeCanFinish : SpotKind → List ℕ → ℕ → (List ℕ → Told) → List ℕ → Problem → Type 0
 RangeCanFinish kind word budget held name p =
     (file : List ℕ) (w : Network) (tree : Tree) (spot : Spot) → AreHeld (held name) file
     → GivesTree p file (network w) tree → spot_named p kind word ≡ Some spot
     → CanRange budget p spot w
 
--- nothing stops the search of the command before its end, whatever its files give; that of `flows`
--- is the path of one program
+-- Nothing stops the search of the command before its end, whatever its files give. For `flows` the
+-- search is the path of one program.
 abbrev pub SearchCanFinish : (List ℕ → Told) → Command → Type 0
 SearchCanFinish held (Solving name budget) = OnGiven (CanFinish budget) held name
 SearchCanFinish held (Showing name budget) = OnGiven (CanFinish budget) held name
@@ -209,6 +211,6 @@ SearchCanFinish held (Ranging name tree kind word budget) =
 SearchCanFinish held (Flows name units) = OnGiven (StaysInRange units) held name
 SearchCanFinish held command = ⊥
 
--- a search came to its end
+-- a search finished: the status is neither `Spent` nor `Past`
 abbrev pub IsNotStopped : Status → Type 0
 IsNotStopped status = (status ≡ Spent → ⊥) × (status ≡ Past → ⊥)

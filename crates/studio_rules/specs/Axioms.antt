@@ -1,5 +1,5 @@
--- `axioms FILE UNITS`: whether the units are a solution structure, or else the first broken axiom with its least place.
--- A name that is no unit of the problem breaks S3 and is judged first.
+-- `axioms FILE UNITS`: whether the units are a solution structure, or else the first broken axiom
+-- with its least place. A name that is no unit of the problem breaks S3 and is judged first.
 use Rattle.std.specs.Prelude.{◌≡◌, ◌==◌, ◌++◌, ℕ, Bool, false, List, [], ◌∷◌, Option, Some, None, codes, find, is_none}
 use Rattle.std.specs.List.{list_any, position}
 use Rattle.std.specs.Str.{bytes_eq}
@@ -60,7 +60,7 @@ abbrev pub VerdictSays : Problem → Verdict → Status → List (List ℕ) → 
 VerdictSays p Meets status lines = (status ≡ Done) × (lines ≡ codes "meets" ∷ [])
 VerdictSays p (Breaks broken at) status lines = (status ≡ Refused) × (lines ≡ breaks_line broken (place_name p broken at) ∷ [])
 
--- what is said of the names, where the first is given that no unit has
+-- what is said of the names, given the first of them that no unit has, if there is one
 abbrev pub NamesSay : List (List ℕ) → Problem → Option (List ℕ) → Status → List (List ℕ) → Type 0
 NamesSay names p (Some stranger) status lines = (status ≡ Refused) × (lines ≡ breaks_line S3 stranger ∷ [])
 NamesSay names p None status lines =

@@ -1,4 +1,5 @@
--- What it means that a claim is best, over allowed solution structures and their flows alone: no tree is named here.
+-- What it means that a claim is best, over clash-free solution structures and their flows alone: no
+-- tree is named here.
 use Rattle.std.specs.Prelude.{◌≡◌, ℕ, ℤ, ◌*ℤ◌, ◌≤ℤ◌, Bool, List}
 use Rattle.text_rules.specs.Outside.{Told}
 use Rattle.number_sets.specs.Sets.{has}
@@ -15,18 +16,18 @@ use Rattle.studio_rules.specs.TreeFile.{GivesTree, OnTree}
 use Rattle.studio_rules.specs.Check.{CheckWork}
 use Rattle.studio_rules.specs.declared.status.Status.TheVariants.{Done}
 
--- no allowed solution structure, with any flows, costs less than this much over d
+-- no clash-free solution structure, with any flows, costs less than this much over d
 abbrev pub NoneCostsLess : Problem → ℤ → ℤ → Type 0
 NoneCostsLess p much d =
     (s : ℕ → Bool) → IsStructure (shape_of p) s → IsAllowed (shape_of p) s
     → (z : ℕ → ℤ) (e : ℤ) → IsFlows (net_of p) s z e → (much *ℤ e) ≤ℤ (cost (net_of p) s z e *ℤ d)
 
--- no allowed solution structure has flows
+-- no clash-free solution structure has flows
 abbrev pub NoneHasFlows : Problem → Type 0
 NoneHasFlows p =
     (s : ℕ → Bool) → IsStructure (shape_of p) s → IsAllowed (shape_of p) s → (z : ℕ → ℤ) (e : ℤ) → IsFlows (net_of p) s z e → ⊥
 
--- the network is an allowed solution structure with flows of its cost, and none costs less
+-- the network is a clash-free solution structure with flows of its cost, and none costs less
 pub record IsBestNetwork (p : Problem) (w : Network) : Type 0 where
   pub structure : IsStructure (shape_of p) (has w.units)
   pub allowed : IsAllowed (shape_of p) (has w.units)
@@ -34,7 +35,7 @@ pub record IsBestNetwork (p : Problem) (w : Network) : Type 0 where
   pub cost_is : cost (net_of p) (has w.units) (size_in w) w.d ≡ w.cost
   pub least : NoneCostsLess p w.cost w.d
 
--- the claim is a best network, or that there is none and none has flows
+-- the claim is a best network, or it is that there is no network, and none has flows
 abbrev pub IsBest : Problem → Claim → Type 0
 IsBest p (network w) = IsBestNetwork p w
 IsBest p infeasible = NoneHasFlows p
@@ -54,7 +55,7 @@ pub record FilesClaimBest (held : List ℕ → Told) (file tree : List ℕ) : Ty
   pub gives_tree : GivesTree problem tree_text claim nodes
   pub best : IsBest problem claim
 
--- so it is wherever `check FILE TREE` answers with status 0
+-- if `check FILE TREE` answers with status 0, FILE and TREE claim what is best
 abbrev pub AcceptedIsBest : Type 0
 AcceptedIsBest =
     (held : List ℕ → Told) (file tree : List ℕ) (lines : List (List ℕ))

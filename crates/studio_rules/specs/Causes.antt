@@ -1,5 +1,6 @@
--- Why a call ends with a status that tells of its words and its files: the cause of each, in what the words are and what the bytes of the
--- files stand for. No line that is printed is named here.
+-- Why a call ends with a status that depends on its words and its files alone. The cause of each
+-- status is in what the words are and in what the bytes of the files stand for. No line that is
+-- printed is named here.
 use Rattle.std.specs.Prelude.{◌≡◌, ◌<◌, ◌≤◌, ◌⊎◌, ℕ, true, List, [], ◌∷◌, Some, None, IsSome, Err, length, pos}
 use Rattle.text_rules.specs.Outside.{Told}
 use Rattle.problem_rules.specs.Problem.{Problem}
@@ -70,7 +71,8 @@ NoCause p status = ⊥
 abbrev pub TokenCause : List ℕ → Problem → Status → Type 0
 TokenCause word p status = (status ≡ BadToken) × IsBadToken (shape_of p) word
 
--- the problem has a payout period or an investment cost, or the cost of a unit would leave its range
+-- The problem has a payout period or an investment cost, or the cost of a unit would leave its
+-- range.
 abbrev pub MigrationCause : ℕ → Problem → Status → Type 0
 MigrationCause years p status =
     (status ≡ NotMigrated) × ((has_payout p ≡ true) ⊎ ((unit : ℕ) × (out_of_range_at (pos years) p ≡ Some unit)))
@@ -79,14 +81,14 @@ MigrationCause years p status =
 abbrev pub NameCause : SpotKind → List ℕ → Problem → Status → Type 0
 NameCause kind name p status = (status ≡ UnknownName) × (spot_named p kind name ≡ None)
 
--- ---- the files in turn: the cause is that of the first that is no good, or else it lies in what they give
+-- ---- the files in turn: the cause is the first file that is no good, or else in what they give
 
 abbrev pub InFile : (Problem → Status → Type 0) → (List ℕ → Told) → List ℕ → Status → Type 0
 InFile behind held name status =
     (file : List ℕ) × AreHeld (held name) file
     × (FileCause file_limit BadProblem HasProblemFault file status ⊎ ((p : Problem) × GivesProblem file p × behind p status))
 
--- a script, a plan or a ranking, behind which nothing is the cause
+-- a script, a plan or a ranking; nothing after it can be the cause
 abbrev pub InScript : (List ℕ → Told) → List ℕ → Problem → Status → Type 0
 InScript held name p status = (file : List ℕ) × AreHeld (held name) file × FileCause file_limit BadEdit (HasScriptFault p) file status
 
@@ -107,7 +109,7 @@ InParts held (name ∷ names) p status =
     (file : List ℕ) × AreHeld (held name) file
     × (FileCause tree_limit BadTree (HasPartFault p) file status ⊎ ((part : Part) × GivesPart p file part × InParts held names p status))
 
--- two words that name a sound node, or else do not
+-- two words that name no sound node, or else a node and the cause after it
 abbrev pub AtNode : (Problem → Status → Type 0) → List ℕ → List ℕ → Problem → Status → Type 0
 AtNode behind word other p status =
     ((status ≡ BadNode) × ((inside outside : List ℕ) → IsStart p word other inside outside → ⊥))
@@ -142,15 +144,16 @@ CauseOf held (Showing file budget) status = InFile NoCause held file status
 CauseOf held (Ranking file count budget) status = InFile NoCause held file status
 CauseOf held command status = ⊥
 
--- of each file of the command the shelf tells the bytes, or that there is none
+-- of each file of the command the shelf knows the bytes, or that there is none
 abbrev pub AreTold : (List ℕ → Told) → Command → Type 0
 AreTold held command = (name : List ℕ) → IsFileOf command name → IsSome (held name)
 
--- The call ends with the status only where its cause holds; and where that holds, with it, unless reading, the sink or memory fails.
+-- The call ends with the status only if the status has its cause. If it has, and the shelf knows
+-- the files of the command, the call ends with it, unless reading, the sink or memory fails.
 pub record IsExact (held : List ℕ → Told) (command : Command) (result status : Status) : Type 0 where
   pub only : result ≡ status → CauseOf held command status
   pub always : AreTold held command → CauseOf held command status → IsOneOf (status ∷ ReadFault ∷ WriteFault ∷ Memory ∷ []) result
 
--- so it is for each status that has a cause
+-- each status that has a cause is exact
 abbrev pub EndsExactly : (List ℕ → Told) → Command → Status → Type 0
 EndsExactly held command result = (status : Status) → IsOneOf caused status → IsExact held command result status

@@ -1,5 +1,5 @@
--- `check FILE TREE`: whether a branch tree proves its claim from the node at which nothing is decided, or else the first line
--- of the claim, or the first node, that fails, with its cause.
+-- `check FILE TREE`: whether a branch tree proves its claim from the node at which nothing is
+-- decided. Or else the first line of the claim, or the first node, that fails, with its cause.
 use Rattle.std.specs.Prelude.{◌≡◌, ◌⊎◌, ℕ, false, List, [], ◌∷◌, codes}
 use Rattle.problem_rules.specs.Problem.{Problem}
 use Rattle.tree_rules.specs.declared.why.Why.{Why}

@@ -10,9 +10,9 @@ use Rattle.stability_rules.specs.declared.spot.SpotKind.{SpotKind}
 use Rattle.stability_rules.specs.declared.spot.SpotKind.TheVariants as kinds
 use Rattle.studio_rules.specs.Numeral.{number_within, last_byte, but_last}
 
--- a command with its words: FILE, the names of UNITS, AFTER and COUNT, NUMBER and the count of units, YEARS, SCRIPT, TREE, RANK, PLAN, N, BUDGET,
--- KIND and NAME, INSIDE and OUTSIDE, the parts of a tree;
--- or the text of the program itself that they ask for
+-- A command with its words: FILE, the names of UNITS, AFTER and COUNT, NUMBER and the count of
+-- units, YEARS, SCRIPT, TREE, RANK, PLAN, N, BUDGET, KIND and NAME, INSIDE and OUTSIDE, the parts
+-- of a tree. Or the text of the program itself that the words ask for.
 pub data Command : Type 0 where
   Max : List ℕ → Command
   Axioms : List ℕ → List (List ℕ) → Command
@@ -41,7 +41,7 @@ pub data Command : Type 0 where
   Trial : ℕ → ℕ → ℕ → Command
   Telling : List ℕ → Command
 
--- the names of UNITS: none for `-`, else what the commas part, which are names and distinct
+-- the names of UNITS: none for `-`, else those between the commas, which are names and distinct
 abbrev pub unit_names_of : List ℕ → Option (List (List ℕ))
 unit_names_of word =
     if bytes_eq word (codes "-") then Some []
@@ -53,7 +53,8 @@ unit_names_of word =
 abbrev pub count_of : List ℕ → Option ℕ
 count_of = number_within 1 1000000000
 
--- NUMBER is any number of 64 bits, the count of units from 1 to 128, YEARS from 1 to 100, N from 1 to 1,000
+-- NUMBER is any number of 64 bits, the count of units from 1 to 128, YEARS from 1 to 100, N from 1
+-- to 1,000.
 abbrev pub seed_of : List ℕ → Option ℕ
 seed_of = number_within 0 18446744073709551615
 
@@ -66,7 +67,8 @@ years_of = number_within 1 100
 abbrev pub rank_count_of : List ℕ → Option ℕ
 rank_count_of = number_within 1 1000
 
--- BUDGET is from 1 to 1,000,000: a number, or one in thousands with a `k` behind it, or in millions with an `M`
+-- BUDGET is from 1 to 1,000,000: a number, or one in thousands followed by `k`, or in millions
+-- followed by `M`.
 abbrev pub nodes_of : List ℕ → Option ℕ
 nodes_of = number_within 1 1000000
 
@@ -76,11 +78,11 @@ budget_of word =
     else if last_byte word == byte "M" then option_map (λ millions. 1000000 * millions) (number_within 1 1 (but_last word))
     else nodes_of word
 
--- where BUDGET is left out it is the greatest one
+-- the BUDGET of a call that gives none is the greatest one
 abbrev pub full_budget : ℕ
 full_budget = 1000000
 
--- where AFTER and COUNT are left out a listing begins with the first structure, and has at most so many
+-- a listing without AFTER and COUNT begins with the first structure, and has at most so many
 abbrev pub first_listing : List ℕ → Command
 first_listing file = Listing file (codes "start") 1000
 
@@ -91,7 +93,8 @@ is_file_word word = not (length word == 0)
 abbrev pub is_input : List ℕ → Bool
 is_input word = bytes_eq word (codes "-")
 
--- Words that are files of one call. Standard input is read once: none of them is `-` where it is taken, and one at most where it is not.
+-- Words that are files of one call. Standard input is read once: none of them is `-` if it is taken
+-- already, and at most one if it is not.
 abbrev pub are_files_where : Bool → List (List ℕ) → Bool
 are_files_where taken [] = true
 are_files_where taken (word ∷ words) = is_file_word word && not (taken && is_input word) && are_files_where (taken || is_input word) words
@@ -114,7 +117,7 @@ abbrev pub ranked_by : List ℕ → Option ℕ → Option ℕ → Option Command
 ranked_by file (Some count) (Some budget) = Some (Ranking file count budget)
 ranked_by file count budget = None
 
--- KIND: what is varied
+-- KIND: what is varied, a price or a cost
 abbrev pub kind_of : List ℕ → Option SpotKind
 kind_of kind =
     if bytes_eq kind (codes "price") then Some kinds.Price
@@ -172,7 +175,7 @@ is_help_word word = bytes_eq word (codes "help") || bytes_eq word (codes "--help
 abbrev pub is_version_word : List ℕ → Bool
 is_version_word word = bytes_eq word (codes "version") || bytes_eq word (codes "--version") || bytes_eq word (codes "-V")
 
--- the page of a command, which `--help` or `-h` right behind it asks for, whatever follows
+-- the page of a command, asked for by `--help` or `-h` right after it, whatever follows
 abbrev pub is_page_word : List ℕ → Bool
 is_page_word word = bytes_eq word (codes "--help") || bytes_eq word (codes "-h")
 
@@ -180,7 +183,7 @@ abbrev pub page_asked : List (List ℕ) → Option Command
 page_asked (word ∷ next ∷ words) = if is_page_word next then option_map Telling (command_text word) else None
 page_asked words = None
 
--- what a word asks for that stands alone
+-- what a word asks for that is the only one
 abbrev pub alone : List ℕ → Option Command
 alone word =
     if is_help_word word then Some (Telling (text_of overview))
@@ -267,7 +270,8 @@ IsFileOf (Showing file budget) name = name ≡ file
 IsFileOf (Ranking file count budget) name = name ≡ file
 IsFileOf command name = ⊥
 
--- the numbers of a command are those that its words may be, and a text of the program is one of whole lines
+-- The numbers of a command are within the bounds of its words. A text of the program is one of
+-- whole lines.
 abbrev pub AreWithin : Command → Type 0
 AreWithin (Make number units) = (1 ≤ units) × (units ≤ 128)
 AreWithin (Migrate file years) = (1 ≤ years) × (years ≤ 100)

@@ -1,5 +1,6 @@
--- The lines of a design: what is built, with which capacities and at which cost, and how it runs in each period. Numbers are over
--- the first of the line `capacities`; the cost is over that number and the payout period, in 10^-18 of the money unit.
+-- The lines of a design: what is built, with which capacities and at which cost, and how it runs in
+-- each period. Sizes and capacities are over the first number of the line `capacities`. The cost is
+-- over that number and the payout period, in 10^-18 of the money unit.
 use Rattle.std.specs.Prelude.{ℕ, ℤ, ◌+◌, List, [], ◌∷◌, ◌++◌, flat_map, codes, decimal}
 use Rattle.std.specs.Fmt.{signed_decimal}
 use Rattle.number_sets.specs.Sets.{has}
@@ -7,11 +8,11 @@ use Rattle.problem_rules.specs.Problem.{Problem, unit_names}
 use Rattle.design_rules.specs.Folded.{Run, Written}
 use Rattle.studio_rules.specs.Lines.{spaced_names, names_in}
 
--- the names of the units in file order, each behind a space
+-- the names of the units in file order, each after a space
 abbrev pub spaced_units : Problem → List ℕ → List ℕ
 spaced_units p units = spaced_names (names_in (has units) 0 (unit_names p.units))
 
--- each number behind a space
+-- each number after a space
 abbrev pub spaced_numbers : List ℤ → List ℕ
 spaced_numbers = flat_map (λ z. 32 ∷ signed_decimal z)
 

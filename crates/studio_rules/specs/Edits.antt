@@ -1,4 +1,5 @@
--- `edit FILE SCRIPT` and `undo FILE SCRIPT`: the problem after the edits of the script, and the script that leads from it back.
+-- `edit FILE SCRIPT` and `undo FILE SCRIPT`: the problem after the edits of the script, and the
+-- script that leads from it back.
 use Rattle.std.specs.Prelude.{◌≡◌, ℕ, List}
 use Rattle.problem_rules.specs.Problem.{Problem}
 use Rattle.text_rules.specs.Canonical.{canonical_lines}

@@ -1,4 +1,5 @@
--- How a call ends: with the whole text of its status, or with a front of such a text where an output failed.
+-- How a call ends: with the whole text of its status, or with a front of such a text if an output
+-- failed.
 use Rattle.std.specs.Prelude.{◌≡◌, ◌⊎◌, ◌++◌, ℕ, List, [], ◌∷◌, codes}
 use Rattle.std.specs.Io.KnownBytes.{Appends}
 use Rattle.text_rules.specs.Outside.{HasRisen, AppendsFront}
@@ -13,25 +14,27 @@ abbrev pub IsFrontOfAnswer : (Status → List (List ℕ) → Type 0) → List (L
 IsFrontOfAnswer answers lines =
     (lines ≡ []) ⊎ ((status : Status) × (all : List (List ℕ)) × (rest : List (List ℕ)) × answers status all × (all ≡ lines ++ rest))
 
--- The text that may be out with a status, where answers are the statuses and lines of what is said while neither shelf,
--- sink nor memory fails. After want of memory it is the first lines of an answer and the line `memory`.
+-- The text that may be written with a status, if answers are the statuses and lines of what is said
+-- while neither shelf, sink nor memory fails. If memory ran out, it is the first lines of an answer
+-- and the line `memory`.
 abbrev pub Tells : (Status → List (List ℕ) → Type 0) → Status → List ℕ → Type 0
 Tells answers ReadFault text = ⊥
 Tells answers WriteFault text = ⊥
 Tells answers Memory text = (lines : List (List ℕ)) × IsFrontOfAnswer answers lines × (text ≡ text_of lines ++ line (codes "memory"))
 Tells answers status text = (lines : List (List ℕ)) × answers status lines × (text ≡ text_of lines)
 
--- the same of a call that reads files of a shelf, old before it and new after it: a fault of reading has the name of one of them, whose
--- count rose
+-- The same of a call that reads files of a shelf, old before it and new after it. A fault of
+-- reading has the name of one of the files, whose count of faults rose.
 abbrev pub Says : (Status → List (List ℕ) → Type 0) → (List ℕ → Type 0) → ShelfState → ShelfState → Status → List ℕ → Type 0
 Says answers is_file old new ReadFault text =
     (name : List ℕ) × is_file name × HasRisen (old.faults name) (new.faults name) × (text ≡ line (codes "read fault " ++ name))
 Says answers is_file old new status text = Tells answers status text
 
--- Which part of a text goes to standard output and which to standard error, by its status. An answer goes to standard output. Where it
--- is not finished, second lines on standard error may say so. After want of memory the first lines of an answer go to standard output,
--- and the line `memory` goes to standard error. The line of each other status says why there is no answer: it goes to standard error,
--- and second lines may follow it.
+-- Which part of a text goes to standard output and which to standard error, by its status. An
+-- answer goes to standard output. If it is not finished, second lines on standard error may say so.
+-- If memory ran out, the first lines of an answer go to standard output, and the line `memory` goes
+-- to standard error. The line of each other status says why there is no answer: it goes to standard
+-- error, and second lines may follow it.
 abbrev pub IsShared : Status → (text on_out on_err : List ℕ) → Type 0
 IsShared Done text on_out on_err = (on_out ≡ text) × (on_err ≡ [])
 IsShared Refused text on_out on_err = (on_out ≡ text) × (on_err ≡ [])
@@ -57,8 +60,9 @@ WritesFront old new status text =
 abbrev pub HasFault : (old new : OutputsState) → Type 0
 HasFault old new = HasRisen old.out.faults new.out.faults ⊎ HasRisen old.err.faults new.err.faults
 
--- What the outputs, old before a call and new after it, have taken in the call is a text that P allows with the status; after a fault of
--- an output, whose count then rose, a front of such a text.
+-- What the outputs, old before a call and new after it, have taken in the call is a text that P
+-- allows with the status. After a fault of an output, whose count then rose, it is a front of such
+-- a text.
 abbrev pub Ends : (Status → List ℕ → Type 0) → (old new : OutputsState) → Status → Type 0
 Ends P old new WriteFault = HasFault old new × (status : Status) × (whole : List ℕ) × P status whole × WritesFront old new status whole
 Ends P old new status = (text : List ℕ) × P status text × Writes old new status text
@@ -72,6 +76,8 @@ Finishes P old new WriteFault =
 Finishes P old new status = Ends P old new status
 
 -- the statuses of an answer that is finished, of one that is not, and of a line that says why there is none
+-- The statuses of an answer that is finished, of one that is not, and of a line that says why there
+-- is none.
 abbrev pub IsAnswer : Status → Type 0
 IsAnswer Done = Unit {0}
 IsAnswer Refused = Unit {0}
@@ -97,7 +103,7 @@ IsRefusal status = Unit {0}
 abbrev pub Only : Status → List ℕ → Status → List ℕ → Type 0
 Only status text status' text' = (status' ≡ status) × (text' ≡ text)
 
--- what P allows, or a word on the want of memory
+-- what P allows, or the line `memory`
 abbrev pub OrMemory : (Status → List ℕ → Type 0) → Status → List ℕ → Type 0
 OrMemory P status text = P status text ⊎ Only Memory (line (codes "memory")) status text
 

@@ -1,4 +1,5 @@
--- `expand FILE PLAN`: the canonical text of the ordinary problem into which the problem and its plan are expanded.
+-- `expand FILE PLAN`: the canonical text of the ordinary problem into which the problem and its
+-- plan are expanded.
 use Rattle.std.specs.Prelude.{◌≡◌, ℕ, List}
 use Rattle.problem_rules.specs.Problem.{Problem}
 use Rattle.text_rules.specs.Canonical.{canonical_lines}

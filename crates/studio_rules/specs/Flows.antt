@@ -1,6 +1,6 @@
--- `flows FILE UNITS`: where the units are a solution structure, allowed or not, flows of least cost for them with multipliers
--- that prove it, or multipliers that refute all flows, or where a number is out of range on the way; else the broken axiom, as
--- `axioms` tells it. The lines are those of a tree text.
+-- `flows FILE UNITS`, if the units are a solution structure, clash-free or not: flows of least cost
+-- for them with multipliers that prove it, or multipliers that refute all flows, or what overflows
+-- on the way. Else the broken axiom, as `axioms` prints it. The lines are those of a tree text.
 use Rattle.std.specs.Prelude.{◌≡◌, ◌⊎◌, ◌++◌, ℕ, ℤ, List, [], ◌∷◌, Option, Some, None, length}
 use Rattle.number_sets.specs.Sets.{has, IsSet}
 use Rattle.problem_rules.specs.Problem.{Problem}
@@ -34,7 +34,7 @@ abbrev pub NoneLines : Problem → List ℕ → List (List ℕ) → Type 0
 NoneLines p us lines =
     (ys : List ℤ) × HasNoFlows p us ys × (lines ≡ spelled (claim_lines p claims.infeasible ++ end_line p (trees.leaf (leaves.refuted ys)) ∷ []))
 
--- the columns outside a basis, and the place that is past there
+-- the columns outside a basis, and what overflows at it
 abbrev pub PastLines : Problem → List ℕ → List (List ℕ) → Type 0
 PastLines p us lines = (nonbasic : List Column) × (place : Place) × IsPastNamed (net_of p) (decided p us) nonbasic place × (lines ≡ spelled (place_lines p nonbasic place))
 
@@ -49,7 +49,7 @@ abbrev pub UnitsSay : List (List ℕ) → Problem → Verdict → Status → Lis
 UnitsSay names p Meets status lines = (us : List ℕ) × IsSet (length p.units) us × (has us ≡ units_named p names) × FlowsSay p us status lines
 UnitsSay names p (Breaks broken at) status lines = VerdictSays p (Breaks broken at) status lines
 
--- of names, where the first is given that no unit has
+-- what is said of the names, given the first of them that no unit has, if there is one
 abbrev pub FlowNamesSay : List (List ℕ) → Problem → Option (List ℕ) → Status → List (List ℕ) → Type 0
 FlowNamesSay names p (Some stranger) status lines = (status ≡ Refused) × (lines ≡ breaks_line S3 stranger ∷ [])
 FlowNamesSay names p None status lines =
@@ -58,7 +58,7 @@ FlowNamesSay names p None status lines =
 abbrev pub FlowsWork : List (List ℕ) → Problem → Status → List (List ℕ) → Type 0
 FlowsWork names p = FlowNamesSay names p (first_stranger p names)
 
--- at the node that the named units decide no number is out of range on the path of its program
+-- no number overflows on the path of the program at the node that the named units decide
 abbrev pub StaysInRange : List (List ℕ) → Problem → Type 0
 StaysInRange names p =
     (us : List ℕ) (nonbasic : List Column) (place : Place) → has us ≡ units_named p names

@@ -1,4 +1,5 @@
--- `graph FILE` and `graph FILE TREE`: the maximal structure as a graph for Graphviz, and in it the claimed network.
+-- `graph FILE` and `graph FILE TREE`: the maximal structure as a graph for Graphviz, and in it the
+-- network of the claim.
 use Rattle.std.specs.Prelude.{◌≡◌, ◌⊎◌, ℕ, Bool, List, Option, Some, None}
 use Rattle.problem_rules.specs.Problem.{Problem}
 use Rattle.pns_rules.specs.Shape.{shape_of}
@@ -8,7 +9,7 @@ use Rattle.report_rules.specs.Graph.{graph_lines, empty_lines}
 use Rattle.studio_rules.specs.declared.status.Status.{Status}
 use Rattle.studio_rules.specs.declared.status.Status.TheVariants.{Done}
 
--- the graph of the maximal structure, or the one that tells that there is no solution structure
+-- the graph of the maximal structure, or the graph which says that there is no solution structure
 abbrev pub AreGraphLines : Problem → Option Network → List (List ℕ) → Type 0
 AreGraphLines p w lines =
     (HasNoStructure (shape_of p) × (lines ≡ empty_lines))

@@ -1,4 +1,5 @@
--- `json FILE TREE`: what the tree proves of its claim, and the facts of the claimed network, as one JSON object for programs.
+-- `json FILE TREE`: what the tree proves of its claim, and the facts of the network of the claim,
+-- as one JSON object for programs.
 use Rattle.std.specs.Prelude.{◌≡◌, ℕ, true, List, [], ◌∷◌, codes, decimal}
 use Rattle.problem_rules.specs.Problem.{Problem}
 use Rattle.tree_rules.specs.declared.why.Why.{Why}
@@ -43,7 +44,7 @@ head_of claim verdict =
 
 -- ---- all
 
--- behind the head the facts of a network, where one is claimed
+-- the head, then the facts of the network if the claim has one
 abbrev pub lines_behind : List (List ℕ) → Problem → Claim → List (List ℕ)
 lines_behind head p (network w) = fact_lines head p w
 lines_behind head p infeasible = bare_lines head
@@ -52,11 +53,12 @@ lines_behind head p unknown = bare_lines head
 abbrev pub json_lines : Problem → Claim → Verdict → List (List ℕ)
 json_lines p claim verdict = lines_behind (head_of claim verdict) p claim
 
--- the verdict is that on the tree: `proved` exactly where `check` accepts it
+-- the verdict is that on the tree: `proved` exactly if `check` accepts it
 abbrev pub JsonSays : Problem → Claim → Tree → List (List ℕ) → Type 0
 JsonSays p claim tree lines = (verdict : Verdict) × IsVerdict p claim tree verdict × (lines ≡ json_lines p claim verdict)
 
--- a claim that fails, though nothing may be claimed, is refused for the first of its lines that does
+-- A claim that fails, though nothing may be claimed, is refused for the first of its lines that
+-- does.
 abbrev pub JsonWork : Problem → Claim → Tree → Status → List (List ℕ) → Type 0
 JsonWork p claim tree Done lines = JsonSays p claim tree lines
 JsonWork p claim tree BadClaim lines = (why : Why) × ClaimFails true p claim why × (lines ≡ claim_line why ∷ [])

@@ -3,7 +3,7 @@
 use Rattle.std.specs.Prelude.{◌≡◌, ◌≤◌, ℕ, List}
 use Rattle.io_rules.specs.State.{ShelfState}
 
--- the shelf, old before a call and new after it, tells the same of each file, and no count of its
+-- the shelf, old before a call and new after it, says the same of each file, and no count of its
 -- faults fell
 pub record Keeps (old new : ShelfState) : Type 0 where
   pub held : (name : List ℕ) → new.held name ≡ old.held name

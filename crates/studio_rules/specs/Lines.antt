@@ -8,11 +8,11 @@ line bytes = bytes ++ 10 ∷ []
 abbrev pub text_of : List (List ℕ) → List ℕ
 text_of = flat_map line
 
--- each name behind a space
+-- each name after a space
 abbrev pub spaced_names : List (List ℕ) → List ℕ
 spaced_names = flat_map (λ name. 32 ∷ name)
 
--- the names whose numbers are in the set, in order, where the first has number k
+-- the names whose numbers are in the set, in order; the first name has number k
 abbrev pub names_in : (ℕ → Bool) → ℕ → List (List ℕ) → List (List ℕ)
 names_in set k [] = []
 names_in set k (name ∷ names) = if set k then name ∷ names_in set (k + 1) names else names_in set (k + 1) names

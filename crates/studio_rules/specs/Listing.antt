@@ -1,5 +1,6 @@
--- `list FILE AFTER COUNT`: the allowed solution structures behind AFTER in the order of their traces, at most COUNT of them
--- (solution structure generation of Friedler, Tarjan, Huang and Fan 1992).
+-- `list FILE AFTER COUNT`: the clash-free solution structures after AFTER in the order of their
+-- traces, at most COUNT of them (solution structure generation of Friedler, Tarjan, Huang and Fan
+-- 1992).
 use Rattle.std.specs.Prelude.{◌≡◌, ◌++◌, ℕ, List, [], ◌∷◌, Option, Some, None, codes, length, map, take, nat_lt, if◌then◌else◌}
 use Rattle.number_sets.specs.Sets.{has, IsRising}
 use Rattle.problem_rules.specs.Problem.{Problem, unit_names}
@@ -11,7 +12,8 @@ use Rattle.studio_rules.specs.Lines.{spaced_names, names_in}
 use Rattle.studio_rules.specs.declared.status.Status.{Status}
 use Rattle.studio_rules.specs.declared.status.Status.TheVariants.{Done, BadToken}
 
--- where the listing begins: at its head for `start`, else behind the solution structure, allowed or not, of the token
+-- where the listing begins: at its head for `start`, else after the solution structure, clash-free
+-- or not, of the token
 abbrev pub IsAfter : Shape → List ℕ → Option (List ℕ) → Type 0
 IsAfter g word None = word ≡ codes "start"
 IsAfter g word (Some s) = IsRising s × IsStructure g (has s) × (word ≡ token_of s)
@@ -33,7 +35,7 @@ last_of [] = []
 last_of (s ∷ []) = s
 last_of (s ∷ t ∷ more) = last_of (t ∷ more)
 
--- `end` where no structure follows the first count, else `more` and the token of the last of them
+-- `end` if no structure follows the first count, else `more` and the token of the last of them
 abbrev pub last_line : ℕ → List (List ℕ) → List ℕ
 last_line count all = if nat_lt count (length all) then more_line (last_of (take count all)) else codes "end"
 

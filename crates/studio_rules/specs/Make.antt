@@ -1,4 +1,5 @@
--- `make NUMBER UNITS`: the canonical text of the problem that the number and the count of units stand for.
+-- `make NUMBER UNITS`: the canonical text of the problem that the number and the count of units
+-- stand for.
 use Rattle.std.specs.Prelude.{◌≡◌, ℕ, List}
 use Rattle.text_rules.specs.Canonical.{canonical_lines}
 use Rattle.problem_rules.specs.Generated.{generated}

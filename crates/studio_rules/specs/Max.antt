@@ -1,5 +1,5 @@
--- `max FILE`: the maximal structure, the union of all solution structures, allowed or not (Friedler, Tarjan, Huang and
--- Fan 1993).
+-- `max FILE`: the maximal structure, the union of all solution structures, clash-free or not
+-- (Friedler, Tarjan, Huang and Fan 1993).
 use Rattle.std.specs.Prelude.{◌≡◌, ◌⊎◌, ◌++◌, ℕ, Bool, false, List, [], ◌∷◌, codes}
 use Rattle.problem_rules.specs.Problem.{Problem, material_names, unit_names}
 use Rattle.pns_rules.specs.Shape.{Shape, shape_of}
@@ -24,7 +24,7 @@ units_line p s = codes "units" ++ spaced_names (names_in s 0 (unit_names p.units
 abbrev pub materials_line : Problem → (ℕ → Bool) → List ℕ
 materials_line p m = codes "materials" ++ spaced_names (names_in m 0 (material_names p.materials))
 
--- the lines of the maximal structure, or the one line `none` where there is no solution structure
+-- the lines of the maximal structure, or the one line `none` if there is no solution structure
 abbrev pub MaxLines : Problem → List (List ℕ) → Type 0
 MaxLines p lines =
     (HasNoStructure (shape_of p) × (lines ≡ codes "none" ∷ []))

@@ -1,5 +1,6 @@
--- `merge FILE TREE PART ..`: the parts are put back in turn, each in the place of the open leaf whose node is its own, and the tree that
--- comes of it is printed with what it proves but for its open leaves. Or else the first part that is not put back is told, with why.
+-- `merge FILE TREE PART ..`: the parts are put back in turn, each in the place of the open leaf
+-- whose node is its own. The tree that results is printed with what it proves but for its open
+-- leaves. Or else the first part that is not put back is reported, with the cause.
 use Rattle.std.specs.Prelude.{◌≡◌, ◌⊎◌, ◌++◌, ℕ, Bool, true, false, List, [], ◌∷◌, get_or, codes, decimal}
 use Rattle.text_rules.specs.Outside.{Told}
 use Rattle.problem_rules.specs.Problem.{Problem}
@@ -48,7 +49,7 @@ FaultSays several name (faults.Part refusal) status lines = PartRefused several 
 FaultSays several name faults.NoLeaf status lines = (status ≡ NoLeaf) × (lines ≡ no_leaf_line several name ∷ [])
 FaultSays several name faults.Memory status lines = ⊥
 
--- all parts are put back, and the tree that comes of it is printed
+-- all parts are put back, and the tree that results is printed
 pub record MergedSays (p : Problem) (claim : claims.Claim) (tree : trees.Tree) (ps : List parts.Part) (status : Status) (lines : List (List ℕ)) : Type 0 where
   pub both : claims.Claim
   pub grown : trees.Tree
@@ -56,7 +57,7 @@ pub record MergedSays (p : Problem) (claim : claims.Claim) (tree : trees.Tree) (
   pub done : status ≡ Done
   pub text : lines ≡ spelled (tree_text_lines p both grown whole)
 
--- the first that is not put back is told, with the name of its file where there are several
+-- the first part that is not put back is reported, with the name of its file if there are several
 pub record StoppedSays (p : Problem) (claim : claims.Claim) (tree : trees.Tree) (names : List (List ℕ)) (ps : List parts.Part) (status : Status) (lines : List (List ℕ)) : Type 0 where
   pub place : ℕ
   pub fault : MergeFault

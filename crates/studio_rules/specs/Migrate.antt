@@ -1,5 +1,6 @@
--- `migrate FILE YEARS`: the script that turns the yearly costs of a problem into investment costs over so many years, or the
--- refusal of a problem that has a payout period already, or of a cost that would leave its range.
+-- `migrate FILE YEARS`: the script that turns the yearly costs of a problem into investment costs
+-- over so many years. Or the refusal of a problem that has a payout period already, or of a cost
+-- that would leave its range.
 use Rattle.std.specs.Prelude.{◌≡◌, ◌⊎◌, ◌++◌, ℕ, true, false, List, [], ◌∷◌, Some, None, codes, pos}
 use Rattle.problem_rules.specs.Problem.{Problem, unit_at}
 use Rattle.edit_rules.specs.Migration.{has_payout, out_of_range_at, migration}
@@ -10,7 +11,8 @@ use Rattle.studio_rules.specs.declared.status.Status.TheVariants.{Done, NotMigra
 abbrev pub out_of_range_line : List ℕ → List ℕ
 out_of_range_line name = codes "out of range " ++ name
 
--- a payout period or an investment cost is told first, then the first unit whose cost would leave its range
+-- A payout period or an investment cost is reported first, then the first unit whose cost would
+-- leave its range.
 abbrev pub NotMigratedLines : ℕ → Problem → List (List ℕ) → Type 0
 NotMigratedLines years p lines =
     ((has_payout p ≡ true) × (lines ≡ codes "has payout" ∷ []))

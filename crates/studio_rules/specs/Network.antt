@@ -1,4 +1,5 @@
--- The claim of a tree file is judged by its lines, which all commands on a claimed network share. Neither nodes nor tail are judged.
+-- The claim of a tree file is judged by its lines, which all commands on the network of a claim
+-- share. Neither nodes nor tail are judged.
 use Rattle.std.specs.Prelude.{◌≡◌, ◌⊎◌, ℕ, false, List, [], ◌∷◌}
 use Rattle.problem_rules.specs.Problem.{Problem}
 use Rattle.tree_rules.specs.declared.why.Why.{Why}
@@ -18,11 +19,11 @@ IsRefusedFor p unknown why = why ≡ Unknown
 abbrev pub ClaimRefusal : Problem → Claim → Status → List (List ℕ) → Type 0
 ClaimRefusal p claim status lines = (status ≡ BadClaim) × ((why : Why) × IsRefusedFor p claim why × (lines ≡ claim_line why ∷ []))
 
--- the claim is a network of which each line holds
+-- the claim is a network, and each of its lines is true
 abbrev pub ClaimsNetwork : Problem → Claim → Network → Type 0
 ClaimsNetwork p claim w = (claim ≡ network w) × IsFeasible p w
 
--- The status and lines of the work on a problem and the network of a claim: those of a claim that is refused, else those of the
--- work.
+-- The status and lines of the work on a problem and the network of a claim: those of a claim that
+-- is refused, else those of the work.
 abbrev pub OnNetwork : (Problem → Network → Status → List (List ℕ) → Type 0) → Problem → Claim → Tree → Status → List (List ℕ) → Type 0
 OnNetwork work p claim tree status lines = ClaimRefusal p claim status lines ⊎ ((w : Network) × ClaimsNetwork p claim w × work p w status lines)

@@ -1,4 +1,4 @@
--- What the words `help` and `version` tell: the commands on one screen, and which program this is.
+-- What the words `help` and `version` print: the commands on one screen, and which program this is.
 use Rattle.std.specs.Prelude.{ℕ, List, [], ◌∷◌, codes}
 
 -- the calls to begin with

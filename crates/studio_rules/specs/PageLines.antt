@@ -1,4 +1,4 @@
--- Lines of a text that the program knows by itself.
+-- Lines of a text that is built into the program.
 use Rattle.std.specs.Prelude.{◌≡◌, ℕ, List, [], ◌∷◌, ◌++◌, flat_map}
 
 -- lines, each with its line feed

@@ -1,5 +1,6 @@
--- `part FILE INSIDE OUTSIDE BUDGET`: what a search of the structures of a node finds, as the text of a part. `part FILE INSIDE OUTSIDE
--- BUDGET TREE`: the same, where the search begins with the network of TREE as its best, if TREE claims one.
+-- `part FILE INSIDE OUTSIDE BUDGET`: what a search of the structures of a node finds, as the text
+-- of a part. `part FILE INSIDE OUTSIDE BUDGET TREE`: the same of a search that begins with the
+-- network of TREE as its best, if TREE claims one.
 use Rattle.std.specs.Prelude.{◌≡◌, ◌⊎◌, ℕ, List, Option, Some, None, Ok}
 use Rattle.number_sets.specs.Sets.{has}
 use Rattle.problem_rules.specs.Problem.{Problem}
@@ -25,17 +26,19 @@ use Rattle.studio_rules.specs.Start.{OnStart}
 use Rattle.studio_rules.specs.TreeFile.{OnTree}
 use Rattle.studio_rules.specs.declared.status.Status.{Status}
 
--- what is claimed, the tree, and where the search stopped, from the node where it began
+-- the part of a search that began at the node: its claim, its tree, and its tail
 abbrev pub part_from : List ℕ → List ℕ → Certificate → Part
 part_from inside outside c = record { inside = inside; outside = outside; claim = c.claim; tree = c.tree; tail = c.tail }
 
--- from the node the tree is lean and proves the claim but for its open leaves; the claim is the cheapest network that was found, if any was
+-- From the node the tree is lean and proves the claim but for its open leaves. The claim is the
+-- cheapest network that was found, if any was.
 pub record ProvesFrom (start : Node) (p : Problem) (claim : Claim) (tree : Tree) : Type 0 where
   pub stopped : IsStopped p start claim tree
   pub not_infeasible : claim ≡ infeasible → ⊥
 
--- What a claim and its tree are by the tail, from the node. The budget is spent only below twice the number of sets of units of the
--- maximal structure; a place is past only by the path of its node's program.
+-- What a claim and its tree are by the tail, from the node. The budget is spent only if it is below
+-- twice the number of sets of units of the maximal structure. A number overflows only on the path
+-- of the program of its node.
 abbrev pub HoldsFrom : Node → ℕ → Problem → Claim → Tree → Tail → Type 0
 HoldsFrom start budget p claim tree whole = IsProved p start claim tree
 HoldsFrom start budget p claim tree (spent next options) =
@@ -49,8 +52,8 @@ NoDearer None claim = Unit {0}
 NoDearer (Some w) claim = HasFallen (claimed_cost (network w)) (claimed_cost claim)
 
 -- What a search from the node finds within the budget: a claim with the lean tree that proves it,
--- or the tree as far as it came and where it stopped; and its text, which reads as what was found,
--- with the status that tells where the search stopped.
+-- or the tree as far as it came and the place at which the search stopped. Its text reads as what
+-- was found. Its status is that of its tail.
 pub record PartSays (budget : ℕ) (known : Option Network) (inside outside : List ℕ) (p : Problem) (status : Status) (lines : List (List ℕ)) : Type 0 where
   pub found : Certificate
   pub holds : HoldsFrom (record { inside = has inside; outside = has outside }) budget p found.claim found.tree found.tail
@@ -62,7 +65,8 @@ pub record PartSays (budget : ℕ) (known : Option Network) (inside outside : Li
 abbrev pub PartWork : ℕ → List ℕ → List ℕ → Problem → Status → List (List ℕ) → Type 0
 PartWork budget = OnStart (PartSays budget None)
 
--- a claimed network is judged by its lines, and is known to the search; another claim is passed over, and the tree is not judged
+-- The network of a claim is judged by its lines, and is known to the search. Another claim is
+-- ignored, and the tree is not judged.
 abbrev pub ClaimSays : ℕ → List ℕ → List ℕ → Problem → Claim → Tree → Status → List (List ℕ) → Type 0
 ClaimSays budget inside outside p (network w) tree status lines =
     ClaimRefusal p (network w) status lines ⊎ (IsFeasible p w × PartSays budget (Some w) inside outside p status lines)

@@ -1,5 +1,5 @@
--- PART is read and judged behind TREE by its grammar: a node, a claim, a tree and a tail. Where there are several, a line that speaks of
--- one names its file.
+-- PART is read and judged by its grammar after TREE: a node, a claim, a tree and a tail. If there
+-- are several, a line that speaks of one names its file.
 use Rattle.std.specs.Prelude.{◌≡◌, ◌≤◌, ◌<◌, ◌++◌, ℕ, Bool, true, false, List, [], ◌∷◌, Ok, Err, length, take, get_or, nat_lt, codes, decimal}
 use Rattle.text_rules.specs.Outside.{Told}
 use Rattle.problem_rules.specs.Problem.{Problem}
@@ -23,7 +23,8 @@ are_several names = nat_lt 1 (length names)
 abbrev pub part_fault_line : Bool → List ℕ → ℕ → TreeKind → List ℕ
 part_fault_line several name line kind = part_words several name ++ codes " line " ++ decimal line ++ 32 ∷ tree_kind_word kind
 
--- a file that gives no part for the problem: it is above the limit, or has a fault, which is told with its line and kind
+-- A file that gives no part for the problem: it is above the limit, or has a fault, which is
+-- reported with its line and kind.
 abbrev pub PartFault : Bool → List ℕ → Problem → List ℕ → Status → List (List ℕ) → Type 0
 PartFault several name p file TooLong lines = IsLong name tree_limit file lines
 PartFault several name p file BadTree lines =
@@ -34,7 +35,7 @@ PartFault several name p file status lines = ⊥
 abbrev pub GivesPart : Problem → List ℕ → Part → Type 0
 GivesPart p file part = (length file ≤ tree_limit) × PartReads p file (Ok part)
 
--- what reading and judging the named part says where it gives none for the problem
+-- what reading and judging the named part says if it gives none for the problem
 abbrev pub PartFaults : Bool → (List ℕ → Told) → List ℕ → Problem → Status → List (List ℕ) → Type 0
 PartFaults several held name p status lines = (file : List ℕ) × AreHeld (held name) file × PartFault several name p file status lines
 

@@ -1,5 +1,6 @@
--- `periods FILE PLAN BUDGET`: a design of least cost of the plant over its periods, or that it has none. Where the search stops
--- before its end, the lines and the status are those of `solve` on the expanded problem.
+-- `periods FILE PLAN BUDGET`: a design of least cost of the plant over its periods, or that it has
+-- none. If the search stops before its end, the lines and the status are those of `solve` on the
+-- expanded problem.
 use Rattle.std.specs.Prelude.{◌≡◌, ◌⊎◌, ℕ, List, [], ◌∷◌, codes}
 use Rattle.problem_rules.specs.Problem.{Problem}
 use Rattle.plan_rules.specs.Expanded.{expanded}
@@ -13,8 +14,8 @@ use Rattle.studio_rules.specs.declared.status.Status.{Status}
 use Rattle.studio_rules.specs.declared.status.Status.TheVariants.{Done}
 use Rattle.studio_rules.specs.DesignText.{design_lines}
 
--- The lines of a design that no design undercuts: that of an allowed network of least cost of the expanded problem, which a lean
--- tree proves.
+-- The lines of a design that no design undercuts. It is that of a network of least cost of the
+-- expanded problem, as a lean tree proves.
 pub record IsLeastText (p : Problem) (plan : Plan) (lines : List (List ℕ)) : Type 0 where
   pub network_of : Network
   pub tree : Tree

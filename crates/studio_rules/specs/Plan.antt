@@ -1,4 +1,4 @@
--- PLAN is read and judged behind FILE: first its form, then its meaning on the problem.
+-- PLAN is read and judged after FILE: first its form, then its meaning on the problem.
 use Rattle.std.specs.Prelude.{◌≡◌, ◌≤◌, ◌⊎◌, ◌++◌, ℕ, List, [], ◌∷◌, Ok, Err, length, codes, decimal}
 use Rattle.text_rules.specs.Outside.{Told}
 use Rattle.problem_rules.specs.Problem.{Problem}
@@ -10,7 +10,7 @@ use Rattle.studio_rules.specs.Reading.{AreHeld, IsLong, OnSecond, file_limit}
 use Rattle.studio_rules.specs.declared.status.Status.{Status}
 use Rattle.studio_rules.specs.declared.status.Status.TheVariants.{BadPlan, TooLong}
 
--- the word by which a kind of fault is told
+-- the word for a kind of fault
 abbrev pub plan_kind_word : PlanKind → List ℕ
 plan_kind_word FileType = codes "FileType"
 plan_kind_word BadLine = codes "BadLine"
@@ -28,7 +28,8 @@ plan_kind_word TooWide = codes "TooWide"
 abbrev pub plan_fault_line : ℕ → PlanKind → List ℕ
 plan_fault_line line kind = codes "plan line " ++ decimal line ++ 32 ∷ plan_kind_word kind
 
--- a file that gives no plan for the problem: it is above the limit, or has a fault, which is told with its line and kind
+-- A file that gives no plan for the problem: it is above the limit, or has a fault, which is
+-- reported with its line and kind.
 abbrev pub PlanFileFault : List ℕ → Problem → List ℕ → Status → List (List ℕ) → Type 0
 PlanFileFault name p file TooLong lines = IsLong name file_limit file lines
 PlanFileFault name p file BadPlan lines =
@@ -39,11 +40,12 @@ PlanFileFault name p file status lines = ⊥
 abbrev pub GivesPlan : Problem → List ℕ → Plan → Type 0
 GivesPlan p file plan = (length file ≤ file_limit) × (read_plan p file ≡ Ok plan)
 
--- what reading and judging the named plan says where it gives none for the problem
+-- what reading and judging the named plan says if it gives none for the problem
 abbrev pub PlanFaults : (List ℕ → Told) → List ℕ → Problem → Status → List (List ℕ) → Type 0
 PlanFaults held name p status lines = (file : List ℕ) × AreHeld (held name) file × PlanFileFault name p file status lines
 
--- The status and lines of the work on a problem and its plan: those of a file that gives no plan, else those of the work.
+-- The status and lines of the work on a problem and its plan: those of a file that gives no plan,
+-- else those of the work.
 abbrev pub PlanSays : (Problem → Plan → Status → List (List ℕ) → Type 0) → List ℕ → Problem → List ℕ → Status → List (List ℕ) → Type 0
 PlanSays work name p file status lines = PlanFileFault name p file status lines ⊎ ((plan : Plan) × GivesPlan p file plan × work p plan status lines)
 

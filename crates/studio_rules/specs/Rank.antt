@@ -1,5 +1,6 @@
--- `rank FILE N BUDGET`: the N best allowed networks, each at its least cost, with the tree that proves it; or where the search stopped
--- before its end, the networks that were found and the tree as far as it came. The lines are those of a rank text.
+-- `rank FILE N BUDGET`: the N best networks, each at its least cost, with the tree that proves it.
+-- If the search stopped before its end: the networks that were found and the tree as far as it
+-- came. The lines are those of a rank text.
 use Rattle.std.specs.Prelude.{◌≡◌, ℕ, Bool, true, false, List, Ok}
 use Rattle.problem_rules.specs.Problem.{Problem}
 use Rattle.tree_rules.specs.Lean.{IsLean}
@@ -26,21 +27,23 @@ pub record AreTextOf (p : Problem) (t : Text) (lines : List (List ℕ)) : Type 0
   pub text : lines ≡ spelled (rank_text_lines p t)
   pub reads : read_text p (text_of lines) ≡ Ok t
 
--- so many networks were asked for, those that are listed pass, and the lean tree proves the ranking, but for its open leaves where it is
--- partial
+-- So many networks were asked for, those that are listed pass, and the lean tree proves the
+-- ranking; if it is partial, but for its open leaves.
 pub record Lists (partial : Bool) (count : ℕ) (p : Problem) (t : Text) : Type 0 where
   pub count_is : t.count ≡ count
   pub proves : Proves partial p (ranking_of t)
   pub lean : IsLean p IsOpenLeaf (to_undercut t.count t.networks) first_node (marked t.marks t.tree)
 
--- The tree proves the ranking: no flows for the units of a listed network cost less than it, and no other allowed solution structure costs
--- less than the last one, whatever its flows, or none has flows where fewer are listed than were asked for.
+-- The tree proves the ranking. No flows for the units of a listed network cost less than it. No
+-- other clash-free solution structure, with any flows, costs less than the last one; if fewer are
+-- listed than were asked for, none of the others has flows.
 pub record Ranks (count : ℕ) (p : Problem) (t : Text) : Type 0 where
   pub lists : Lists false count p t
   pub best : AreBest p t.count t.networks
 
--- What a ranking is by its tail. The budget is spent only below twice the number of sets of units of the maximal structure; a place is past
--- only by the path of its node's program.
+-- What a ranking is by its tail. The budget is spent only if it is below twice the number of sets
+-- of units of the maximal structure. A number overflows only on the path of the program of its
+-- node.
 abbrev pub Holds : ℕ → ℕ → Problem → Text → Tail → Type 0
 Holds count budget p t whole = Ranks count p t
 Holds count budget p t (spent next options) =

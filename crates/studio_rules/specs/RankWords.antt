@@ -1,10 +1,10 @@
--- The words by which it is told why a network or a node of a ranked tree is refused.
+-- The words that say why a network or a node of a ranked tree is refused.
 use Rattle.std.specs.Prelude.{ℕ, List, ◌∷◌, ◌++◌, codes, decimal}
 use Rattle.studio_rules.specs.RefusalWords.{why_word}
 use Rattle.rank_rules.specs.declared.why.RankWhy.{RankWhy}
 use Rattle.rank_rules.specs.declared.why.RankWhy.TheVariants.{Plain, Order, Named}
 
--- the word by which a cause is told
+-- the word for a cause
 abbrev pub rank_why_word : RankWhy → List ℕ
 rank_why_word (Plain why) = why_word why
 rank_why_word Order = codes "order"

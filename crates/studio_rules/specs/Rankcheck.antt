@@ -1,4 +1,5 @@
--- `rankcheck FILE RANK`: whether the tree of a ranking proves it, or else the first network, or the first node, that fails, with its cause.
+-- `rankcheck FILE RANK`: whether the tree of a ranking proves it, or else the first network, or the
+-- first node, that fails, with its cause.
 use Rattle.std.specs.Prelude.{◌≡◌, ◌⊎◌, ◌≤◌, ◌<◌, ℕ, ℤ, Bool, false, List, [], ◌∷◌, Some, Ok, Err, length, codes}
 use Rattle.text_rules.specs.Outside.{Told}
 use Rattle.number_sets.specs.Sets.{has}
@@ -22,9 +23,10 @@ use Rattle.studio_rules.specs.TreeFile.{tree_limit, tree_fault_line}
 use Rattle.studio_rules.specs.declared.status.Status.{Status}
 use Rattle.studio_rules.specs.declared.status.Status.TheVariants.{Done, Refused, BadTree, TooLong}
 
--- ---- RANK is read and judged behind FILE by its grammar
+-- ---- RANK is read and judged by its grammar after FILE
 
--- a file that gives no ranking for the problem: it is above the limit of tree files, or has a fault, which is told with its line and kind
+-- A file that gives no ranking for the problem: it is above the limit of tree files, or has a
+-- fault, which is reported with its line and kind.
 abbrev pub RankFault : List ℕ → Problem → List ℕ → Status → List (List ℕ) → Type 0
 RankFault name p file TooLong lines = IsLong name tree_limit file lines
 RankFault name p file BadTree lines =
@@ -35,13 +37,13 @@ RankFault name p file status lines = ⊥
 abbrev pub GivesRanking : Problem → List ℕ → Text → Type 0
 GivesRanking p file t = (length file ≤ tree_limit) × (read_text p file ≡ Ok t)
 
--- what reading and judging the named file says where it gives none for the problem
+-- what reading and judging the named file says if it gives none for the problem
 abbrev pub RankFaults : (List ℕ → Told) → List ℕ → Problem → Status → List (List ℕ) → Type 0
 RankFaults held name p status lines = (file : List ℕ) × AreHeld (held name) file × RankFault name p file status lines
 
 -- ---- the answer
 
--- the networks are judged first, then the nodes in preorder; where a search stopped does not matter
+-- The networks are judged first, then the nodes in preorder. The tail does not matter.
 abbrev pub IsRefused : Problem → Ranking → List (List ℕ) → Type 0
 IsRefused p r lines =
     ((number : ℕ) × (why : RankWhy) × NetworkIsFault p r number why × (lines ≡ network_line number why ∷ []))
@@ -52,7 +54,8 @@ RankcheckWork p t Done lines = IsRanked p (ranking_of t) × (lines ≡ codes "ac
 RankcheckWork p t Refused lines = IsRefused p (ranking_of t) lines
 RankcheckWork p t status lines = ⊥
 
--- The status and lines on a problem and the bytes of the named file: those of a file that gives no ranking, else those of the work.
+-- The status and lines on a problem and the bytes of the named file: those of a file that gives no
+-- ranking, else those of the work.
 abbrev pub RankcheckSays : List ℕ → Problem → List ℕ → Status → List (List ℕ) → Type 0
 RankcheckSays name p file status lines =
     RankFault name p file status lines ⊎ ((t : Text) × GivesRanking p file t × RankcheckWork p t status lines)
@@ -60,16 +63,18 @@ RankcheckSays name p file status lines =
 abbrev pub OnRank : (List ℕ → Told) → List ℕ → Problem → Status → List (List ℕ) → Type 0
 OnRank held name = OnSecond (RankcheckSays name) held name
 
--- ---- what it means that it is accepted, over allowed solution structures and their flows alone: no tree is named here
+-- ---- what acceptance means, over clash-free solution structures and their flows, without a tree
 
 pub record AreBest (p : Problem) (count : ℕ) (ws : List Network) : Type 0 where
-  -- the networks are allowed solution structures with flows of their costs, which do not fall, and no two have the same units
+  -- The networks are clash-free solution structures with flows of their costs, which do not fall.
+  -- No two have the same units.
   pub pass : ArePassing p [] ws
   -- no flows for the units of one cost less than it
   pub least : (k : ℕ) (w : Network) → numbered k ws ≡ Some w → CostsEnough p (Some (cost_of w)) (has w.units)
-  -- where as many stand as were asked for, each structure that is not listed costs at least what the last does, with any flows
+  -- If as many are listed as were asked for, each structure that is not listed costs at least what
+  -- the last one does, with any flows.
   pub full : length ws ≡ count → (s : ℕ → Bool) → IsStructure (shape_of p) s → IsAllowed (shape_of p) s → (IsListed ws s → ⊥) → CostsEnough p (last_cost ws) s
-  -- where fewer stand, none of them has flows
+  -- if fewer are listed, no structure that is not listed has flows
   pub fewer : length ws < count → (s : ℕ → Bool) → IsStructure (shape_of p) s → IsAllowed (shape_of p) s → (IsListed ws s → ⊥) → (z : ℕ → ℤ) (d : ℤ) → IsFlows (net_of p) s z d → ⊥
 
 -- FILE gives a valid problem, RANK a ranking for it, and its networks are the best
@@ -85,7 +90,7 @@ pub record FilesListBest (held : List ℕ → Told) (file rank : List ℕ) : Typ
   pub gives_ranking : GivesRanking problem rank_text text
   pub best : AreBest problem text.count text.networks
 
--- so it is wherever `rankcheck FILE RANK` answers with status 0
+-- if `rankcheck FILE RANK` answers with status 0, RANK lists the best networks
 abbrev pub AcceptedAreBest : Type 0
 AcceptedAreBest =
     (held : List ℕ → Told) (file rank : List ℕ) (lines : List (List ℕ))

@@ -17,15 +17,17 @@ use Rattle.studio_rules.specs.declared.status.Status.TheVariants.{BadProblem, To
 abbrev pub file_limit : ℕ
 file_limit = 4194304
 
--- what the bytes of a file stand for by the grammar of the problem text: a problem, or the first fault
+-- What the bytes of a file stand for by the grammar of the problem text: a problem, or the first
+-- fault.
 abbrev pub Reads : List ℕ → Result Problem Fault → Type 0
 Reads file outcome = read_text file ≡ outcome
 
--- the bytes are those of the file, where the shelf tells them; where it tells that there is no such file no bytes are
+-- The bytes are those of the file, if the shelf knows them. If it knows that there is no such file,
+-- no bytes are.
 abbrev pub AreHeld : Told → List ℕ → Type 0
 AreHeld held file = IfTold held (λ told. file ≡ told)
 
--- the word by which a kind of fault is told where something stands twice; there is none of other kinds
+-- The word for a kind of fault that is an item given twice. Other kinds have none here.
 abbrev pub double_word : TextKind → List ℕ
 double_word DoubleSection = codes "DoubleSection"
 double_word DoubleKey = codes "DoubleKey"
@@ -37,7 +39,7 @@ double_word DoubleExclusion = codes "DoubleExclusion"
 double_word DoubleMember = codes "DoubleMember"
 double_word kind = []
 
--- the word by which a kind of fault is told
+-- the word for a kind of fault
 abbrev pub kind_word : TextKind → List ℕ
 kind_word FileType = codes "FileType"
 kind_word UnknownSection = codes "UnknownSection"
@@ -65,14 +67,15 @@ kind_word kind = double_word kind
 abbrev pub fault_line : ℕ → TextKind → List ℕ
 fault_line line kind = codes "problem line " ++ decimal line ++ 32 ∷ kind_word kind
 
--- a file above its limit is told so
+-- the line for a file above its limit
 abbrev pub IsLong : List ℕ → ℕ → List ℕ → List (List ℕ) → Type 0
 IsLong name limit file lines = (limit < length file) × (lines ≡ (codes "too long " ++ name) ∷ [])
 
 abbrev pub LongFile : (List ℕ → Told) → List ℕ → ℕ → Status → List (List ℕ) → Type 0
 LongFile held name limit status lines = (status ≡ TooLong) × ((file : List ℕ) × AreHeld (held name) file × IsLong name limit file lines)
 
--- a file that gives no problem: it is above the limit, or its text has a fault, which is told with its line and kind
+-- A file that gives no problem: it is above the limit, or its text has a fault, which is reported
+-- with its line and kind.
 abbrev pub FileFault : List ℕ → List ℕ → Status → List (List ℕ) → Type 0
 FileFault name file TooLong lines = IsLong name file_limit file lines
 FileFault name file BadProblem lines =
@@ -85,17 +88,18 @@ pub record GivesProblem (file : List ℕ) (p : Problem) : Type 0 where
   pub reads : Reads file (Ok p)
   pub valid : IsValid p
 
--- what reading the named file says where it gives no problem
+-- what reading the named file says if it gives no problem
 abbrev pub FileFaults : (List ℕ → Told) → List ℕ → Status → List (List ℕ) → Type 0
 FileFaults held name status lines = (file : List ℕ) × AreHeld (held name) file × FileFault name file status lines
 
--- The status and lines of a command on the named file: those of a file that gives no problem, else those of its work on
--- the problem.
+-- The status and lines of a command on the named file: those of a file that gives no problem, else
+-- those of its work on the problem.
 abbrev pub OnFile : (Problem → Status → List (List ℕ) → Type 0) → (List ℕ → Told) → List ℕ → Status → List (List ℕ) → Type 0
 OnFile work held name status lines =
     (file : List ℕ) × AreHeld (held name) file × (FileFault name file status lines ⊎ ((p : Problem) × GivesProblem file p × work p status lines))
 
--- what a command on the named file may have out with a status, over a shelf that is old before it and new after it
+-- What a command on the named file may write with a status, over a shelf that is old before it and
+-- new after it.
 abbrev pub FileSays : (Problem → Status → List (List ℕ) → Type 0) → List ℕ → ShelfState → ShelfState → Status → List ℕ → Type 0
 FileSays work name old new = Says (OnFile work old.held name) (λ other. other ≡ name) old new
 

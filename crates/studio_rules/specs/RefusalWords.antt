@@ -1,9 +1,9 @@
--- The words by which it is told why a claim or a node of a tree is refused.
+-- The words that say why a claim or a node of a tree is refused.
 use Rattle.std.specs.Prelude.{ℕ, List, ◌∷◌, ◌++◌, codes, decimal}
 use Rattle.tree_rules.specs.declared.why.Why.{Why}
 use Rattle.tree_rules.specs.declared.why.Why.TheVariants.{Unknown, Axiom, Exclusion, Flows, Cost, Step, Options, Open, Dead, Clash, Refuted, Bound, Sum}
 
--- the word by which a cause is told
+-- the word for a cause
 abbrev pub why_word : Why → List ℕ
 why_word Unknown = codes "unknown"
 why_word Axiom = codes "axiom"

@@ -1,4 +1,5 @@
--- `report FILE TREE`: what the tree proves of its claim, in a line, and then the claimed network in tables for people.
+-- `report FILE TREE`: what the tree proves of its claim, in a line, and then the network of the
+-- claim in tables for people.
 use Rattle.std.specs.Prelude.{◌≡◌, ◌++◌, ℕ, true, List, [], ◌∷◌, codes, decimal}
 use Rattle.problem_rules.specs.Problem.{Problem}
 use Rattle.tree_rules.specs.declared.why.Why.{Why}
@@ -35,7 +36,7 @@ first_line p claim (Fails node why) = failing_line node why
 
 -- ---- all
 
--- there are tables of a claimed network alone
+-- only a claim of a network has tables
 abbrev pub tables_of : Problem → Claim → List (List ℕ)
 tables_of p (network w) = report_lines p w
 tables_of p infeasible = []
@@ -44,11 +45,12 @@ tables_of p unknown = []
 abbrev pub verdict_lines : Problem → Claim → Verdict → List (List ℕ)
 verdict_lines p claim verdict = first_line p claim verdict ∷ tables_of p claim
 
--- the lines tell what the tree proves: `PROVED` exactly where `check` accepts it
+-- the lines say what the tree proves: `PROVED` exactly if `check` accepts it
 abbrev pub ReportSays : Problem → Claim → Tree → List (List ℕ) → Type 0
 ReportSays p claim tree lines = (verdict : Verdict) × IsVerdict p claim tree verdict × (lines ≡ verdict_lines p claim verdict)
 
--- a claim that fails, though nothing may be claimed, is refused for the first of its lines that does
+-- A claim that fails, though nothing may be claimed, is refused for the first of its lines that
+-- does.
 abbrev pub ReportWork : Problem → Claim → Tree → Status → List (List ℕ) → Type 0
 ReportWork p claim tree Done lines = ReportSays p claim tree lines
 ReportWork p claim tree BadClaim lines = (why : Why) × ClaimFails true p claim why × (lines ≡ claim_line why ∷ [])

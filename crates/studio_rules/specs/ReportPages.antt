@@ -1,4 +1,4 @@
--- The pages on claimed networks as people read them.
+-- The pages on networks of claims as people read them.
 use Rattle.std.specs.Prelude.{ℕ, List, [], ◌∷◌, codes}
 
 -- the page on `table` from its example on

@@ -1,4 +1,4 @@
--- SCRIPT is read and judged behind FILE: first its form, then its meaning on the problem.
+-- SCRIPT is read and judged after FILE: first its form, then its meaning on the problem.
 use Rattle.std.specs.Prelude.{◌≡◌, ◌≤◌, ◌⊎◌, ◌++◌, ℕ, List, [], ◌∷◌, Ok, Err, length, map, codes, decimal}
 use Rattle.text_rules.specs.Outside.{Told}
 use Rattle.problem_rules.specs.Problem.{Problem}
@@ -19,7 +19,7 @@ use Rattle.studio_rules.specs.declared.status.Status.TheVariants.{BadEdit, TooLo
 abbrev pub printed_lines : List Edit → List (List ℕ)
 printed_lines edits = file_type ∷ map edit_line edits
 
--- the word by which a kind of fault is told
+-- the word for a kind of fault
 abbrev pub edit_kind_word : EditKind → List ℕ
 edit_kind_word FileType = codes "FileType"
 edit_kind_word BadLine = codes "BadLine"
@@ -41,12 +41,14 @@ edit_kind_word BadMembers = codes "BadMembers"
 abbrev pub edit_fault_line : ℕ → EditKind → List ℕ
 edit_fault_line line kind = codes "script line " ++ decimal line ++ 32 ∷ edit_kind_word kind
 
--- the text has this as its first fault of form, or has none and this as its first fault of meaning on the problem
+-- The text has this as its first fault of form, or has none and this as its first fault of meaning
+-- on the problem.
 abbrev pub HasEditFault : Problem → List ℕ → ℕ → EditKind → Type 0
 HasEditFault p file line kind =
     (read_script file ≡ Err (line, kind)) ⊎ ((s : Script) × (read_script file ≡ Ok s) × HasFaultAt p s line kind)
 
--- a file that gives no script for the problem: it is above the limit, or has a fault, which is told with its line and kind
+-- A file that gives no script for the problem: it is above the limit, or has a fault, which is
+-- reported with its line and kind.
 abbrev pub ScriptFault : List ℕ → Problem → List ℕ → Status → List (List ℕ) → Type 0
 ScriptFault name p file TooLong lines = IsLong name file_limit file lines
 ScriptFault name p file BadEdit lines =
@@ -66,12 +68,12 @@ pub record IsEdited (p : Problem) (file : List ℕ) (edited : Problem) (back : S
   pub edited_is : edited ≡ applied p script.edits
   pub back_is : back ≡ script_of (undoing p script.edits)
 
--- what reading and judging the named script says where it gives none for the problem
+-- what reading and judging the named script says if it gives none for the problem
 abbrev pub ScriptFaults : (List ℕ → Told) → List ℕ → Problem → Status → List (List ℕ) → Type 0
 ScriptFaults held name p status lines = (file : List ℕ) × AreHeld (held name) file × ScriptFault name p file status lines
 
--- The status and lines of the work on a problem and the edits of a script: those of a file that gives no script, else those of
--- the work.
+-- The status and lines of the work on a problem and the edits of a script: those of a file that
+-- gives no script, else those of the work.
 abbrev pub ScriptSays : (Problem → List Edit → Status → List (List ℕ) → Type 0) → List ℕ → Problem → List ℕ → Status → List (List ℕ) → Type 0
 ScriptSays work name p file status lines = ScriptFault name p file status lines ⊎ ((s : Script) × GivesScript p file s × work p s.edits status lines)
 

@@ -1,4 +1,5 @@
--- `show FILE BUDGET`: what `solve` with this budget and then `report` of its tree would print, with the status of `solve`.
+-- `show FILE BUDGET`: what `solve` with this budget and then `report` of its tree would print, with
+-- the status of `solve`.
 use Rattle.std.specs.Prelude.{◌≡◌, ℕ, List, ◌∷◌}
 use Rattle.problem_rules.specs.Problem.{Problem}
 use Rattle.tree_rules.specs.Claim.{Claim}

@@ -1,5 +1,6 @@
--- `solve FILE BUDGET`: an allowed network of least cost, or that no network has flows, with the tree that proves it; or where the
--- search stopped before its end, the tree as far as it came. The lines are those of a tree text.
+-- `solve FILE BUDGET`: a network of least cost, or that no network has flows, with the tree that
+-- proves it. If the search stopped before its end: the tree as far as it came. The lines are those
+-- of a tree text.
 use Rattle.std.specs.Prelude.{◌≡◌, ℕ, Bool, List, Ok}
 use Rattle.problem_rules.specs.Problem.{Problem}
 use Rattle.pns_rules.specs.Shape.{shape_of}
@@ -30,20 +31,23 @@ pub record AreTextOf (p : Problem) (c : Certificate) (lines : List (List ℕ)) :
   pub text : lines ≡ spelled (tree_text_lines p c.claim c.tree c.tail)
   pub reads : read_text p (text_of lines) ≡ Ok c
 
--- The tree is lean and proves the claim: a claimed network is allowed and has flows of its cost, and no allowed solution structure
--- costs less, whatever its flows; where no network is claimed, no allowed solution structure has flows.
+-- The tree is lean and proves the claim. A network of the claim is clash-free and has flows of its
+-- cost, and no clash-free solution structure costs less, whatever its flows. If the claim has no
+-- network, no clash-free solution structure has flows.
 pub record Solves (p : Problem) (claim : Claim) (tree : Tree) : Type 0 where
   pub proved : IsProved p first_node claim tree
   pub feasible : (w : Network) → claim ≡ network w → IsFeasible p w
   pub least : (s : ℕ → Bool) → IsStructure (shape_of p) s → IsAllowed (shape_of p) s → CostsEnough p (claimed_cost claim) s
 
--- the tree is lean and proves the claim but for its open leaves; the claim is the cheapest network that was found, if any was
+-- The tree is lean and proves the claim but for its open leaves. The claim is the cheapest network
+-- that was found, if any was.
 pub record ProvesInPart (p : Problem) (claim : Claim) (tree : Tree) : Type 0 where
   pub stopped : IsStopped p first_node claim tree
   pub not_infeasible : claim ≡ infeasible → ⊥
 
--- What a claim and its tree are by the tail. The budget is spent only below twice the number of sets of units of the maximal
--- structure; a place is past only by the path of its node's program.
+-- What a claim and its tree are by the tail. The budget is spent only if it is below twice the
+-- number of sets of units of the maximal structure. A number overflows only on the path of the
+-- program of its node.
 abbrev pub Holds : ℕ → Problem → Claim → Tree → Tail → Type 0
 Holds budget p claim tree whole = Solves p claim tree
 Holds budget p claim tree (spent next options) =
@@ -61,8 +65,9 @@ abbrev pub SolveWork : ℕ → Problem → Status → List (List ℕ) → Type 0
 SolveWork budget p status lines =
     (c : Certificate) × (status ≡ status_of c.tail) × Holds budget p c.claim c.tree c.tail × AreTextOf p c lines
 
--- Nothing stops the search of a problem before its end: the budget is at least twice the number of sets of units of the maximal
--- structure, and at no sound and reduced node a number is out of range on the path of its program.
+-- Nothing stops the search of a problem before its end. The budget is at least twice the number of
+-- sets of units of the maximal structure. At no sound and reduced node a number overflows on the
+-- path of its program.
 pub record CanFinish (budget : ℕ) (p : Problem) : Type 0 where
   pub enough : IsBelowLimit p budget → ⊥
   pub in_range : (n : Node) (nonbasic : List Column) (place : Place)

@@ -1,5 +1,5 @@
--- `split FILE TREE`: the open leaves of a branch tree that proves its claim but for them, in preorder; or else the first line of the
--- claim, or the first node, that fails, with its cause.
+-- `split FILE TREE`: the open leaves, in preorder, of a branch tree that proves its claim but for
+-- them. Or else the first line of the claim, or the first node, that fails, with its cause.
 use Rattle.std.specs.Prelude.{◌≡◌, ◌⊎◌, ◌++◌, ℕ, Bool, true, List, [], ◌∷◌, codes, decimal, map}
 use Rattle.number_sets.specs.Sets.{listed}
 use Rattle.problem_rules.specs.Problem.{Problem}
@@ -13,7 +13,7 @@ use Rattle.studio_rules.specs.RefusalWords.{claim_line, node_line}
 use Rattle.studio_rules.specs.declared.status.Status.{Status}
 use Rattle.studio_rules.specs.declared.status.Status.TheVariants.{Done, BadClaim}
 
--- the token of the units that pass, of which a problem has at most 128
+-- the token of the units in the set; a problem has at most 128
 abbrev pub token_in : (ℕ → Bool) → List ℕ
 token_in s = token_of (listed 128 s)
 

@@ -1,5 +1,5 @@
--- `stable FILE TREE KIND NAME BUDGET`: how far one price or cost may move while the claimed network stays optimal among the allowed
--- ones. The lines of a network and of a tree are those of a tree text.
+-- `stable FILE TREE KIND NAME BUDGET`: how far one price or cost may move while the network of the
+-- claim stays optimal. The lines of a network and of a tree are those of a tree text.
 use Rattle.std.specs.Prelude.{◌≡◌, ◌⊎◌, ◌++◌, ℕ, ℤ, List, [], ◌∷◌, Option, Some, None, codes, decimal, option_map}
 use Rattle.std.specs.List.{position}
 use Rattle.std.specs.Str.{bytes_eq}
@@ -36,7 +36,7 @@ abbrev pub side_word : Side → List ℕ
 side_word Below = codes "below"
 side_word Above = codes "above"
 
--- what stands beyond one end of the range: a network, or the limit of the values
+-- what is beyond one end of the range: a network, or the limit of the values
 abbrev pub beyond_lines : Problem → List ℕ → Option Network → List (List Token)
 beyond_lines p side (Some w) = (side ∷ []) ∷ network_lines p w
 beyond_lines p side None = (side ∷ codes "limit" ∷ []) ∷ []
@@ -68,14 +68,14 @@ RangeLines p spot w lines =
 abbrev pub NotBestLines : Problem → Network → List (List ℕ) → Type 0
 NotBestLines p w lines = (n : Network) × IsCheaper p (record { cost = w.cost; d = w.d }) n × (lines ≡ spelled (not_best_lines p n))
 
--- The search stops at a value, which is the present one or half proved; behind it the lines are those of `solve` for the problem with
--- this value in the spot.
+-- The search stops at a value, which is the present one or half proved. The lines after it are
+-- those of `solve` for the problem with this value in the spot.
 abbrev pub StopLines : Problem → Spot → Network → ℕ → Status → List (List ℕ) → Type 0
 StopLines p spot w budget status lines =
     (value : ℤ) × (rest : List (List ℕ)) × IsAllowedValue spot value × MayWant p spot w value × SolveWork budget (valued p spot value) status rest
     × (lines ≡ spelled (at_line value ∷ []) ++ rest)
 
--- the network's cost is past the range at a value that is half proved
+-- the network's cost overflows at a value that is half proved
 abbrev pub PastCostLines : Problem → Spot → Network → List (List ℕ) → Type 0
 PastCostLines p spot w lines =
     (value : ℤ) × (at : ℕ) × IsAllowedValue spot value × IsHalfProved p spot w value × IsPastCost p spot w value at

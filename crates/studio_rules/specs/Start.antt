@@ -1,4 +1,5 @@
--- The node at which a run begins, by two words: the token of the units that are taken in, and that of the units that are left out.
+-- The node at which a run begins, by two words: the token of the units that are taken in, and that
+-- of the units that are left out.
 use Rattle.std.specs.Prelude.{◌≡◌, ◌⊎◌, ℕ, List, [], ◌∷◌, codes}
 use Rattle.number_sets.specs.Sets.{has}
 use Rattle.problem_rules.specs.Problem.{Problem}
@@ -21,7 +22,8 @@ abbrev pub BadStart : List ℕ → List ℕ → Problem → Status → List (Lis
 BadStart word other p status lines =
     (status ≡ BadNode) × ((inside outside : List ℕ) → IsStart p word other inside outside → ⊥) × (lines ≡ codes "bad node" ∷ [])
 
--- The status and lines of the work on a problem from the node of two words: those of words that name none, else those of the work.
+-- The status and lines of the work on a problem from the node of two words: those of words that
+-- name none, else those of the work.
 abbrev pub OnStart : (List ℕ → List ℕ → Problem → Status → List (List ℕ) → Type 0) → List ℕ → List ℕ → Problem → Status → List (List ℕ) → Type 0
 OnStart work word other p status lines =
     BadStart word other p status lines

@@ -1,4 +1,5 @@
--- A search whose answer is summed up: how large the problem is, the network, its cost and the size of the tree that proves it.
+-- A search whose answer is summed up: how large the problem is, the network, its cost and the size
+-- of the tree that proves it.
 use Rattle.std.specs.Prelude.{◌≡◌, ◌⊎◌, ◌++◌, ℕ, false, List, [], ◌∷◌, length, codes, decimal}
 use Rattle.std.specs.Fmt.{signed_decimal}
 use Rattle.number_sets.specs.Sets.{has, IsSet}
@@ -13,8 +14,8 @@ use Rattle.studio_rules.specs.Solve.{Solves, AreTextOf, SolveWork}
 use Rattle.studio_rules.specs.declared.status.Status.{Status}
 use Rattle.studio_rules.specs.declared.status.Status.TheVariants.{Done}
 
--- how many units the problem and its maximal structure have, the network with its cost and what that is over, and how many nodes
--- the tree has
+-- How many units the problem and its maximal structure have, the network with its cost and the
+-- number that the cost is over, and how many nodes the tree has.
 abbrev pub summary_lines : Problem → ℕ → Network → ℕ → List (List ℕ)
 summary_lines p most w nodes =
     (codes "units " ++ decimal (length p.units))
@@ -31,7 +32,7 @@ pub record CountsMaximal (p : Problem) (most : ℕ) : Type 0 where
   pub union : IsUnion (shape_of p) (λ u. false) (has all)
   pub count : most ≡ length all
 
--- the network is an allowed one of least cost, which the tree proves
+-- the network is one of least cost, as the tree proves
 abbrev pub SummaryLines : Problem → List (List ℕ) → Type 0
 SummaryLines p lines =
     (most : ℕ) × (w : Network) × (tree : Tree) × CountsMaximal p most × Solves p (network w) tree × (lines ≡ summary_lines p most w (length tree))
@@ -43,7 +44,7 @@ SummarySays p status lines = (status ≡ Done) × SummaryLines p lines
 abbrev pub NoNetworkLines : Problem → List (List ℕ) → Type 0
 NoNetworkLines p lines = (tree : Tree) × Solves p infeasible tree × AreTextOf p (record { claim = infeasible; tree = tree; tail = whole }) lines
 
--- where the search stops before its end the lines are those of `solve`
+-- if the search stops before its end, the lines are those of `solve`
 abbrev pub SummaryWork : ℕ → Problem → Status → List (List ℕ) → Type 0
 SummaryWork budget p Done lines = SummaryLines p lines ⊎ NoNetworkLines p lines
 SummaryWork budget p status lines = SolveWork budget p status lines

@@ -1,4 +1,4 @@
--- `table FILE TREE`: the claimed network as two tables with an empty line between them.
+-- `table FILE TREE`: the network of the claim as two tables with an empty line between them.
 use Rattle.std.specs.Prelude.{◌≡◌, ◌++◌, ℕ, List, [], ◌∷◌, map}
 use Rattle.csv.specs.Writing.{default_writer, row_text}
 use Rattle.problem_rules.specs.Problem.{Problem}
@@ -8,7 +8,8 @@ use Rattle.studio_rules.specs.Lines.{line}
 use Rattle.studio_rules.specs.declared.status.Status.{Status}
 use Rattle.studio_rules.specs.declared.status.Status.TheVariants.{Done}
 
--- each line with its line feed is a record of the one table, the line feed alone, or a record of the other table
+-- Each line with its line feed is a record of the one table, the line feed alone, or a record of
+-- the other table.
 pub record AreTables (p : Problem) (w : Network) (lines : List (List ℕ)) : Type 0 where
   pub units : List (List (List ℕ))
   pub materials : List (List (List ℕ))

@@ -1,4 +1,5 @@
--- `trial NUMBER UNITS BUDGET`: the search of the problem that `make` prints for the same numbers, with a summary of what it solves.
+-- `trial NUMBER UNITS BUDGET`: the search of the problem that `make` prints for the same numbers,
+-- with a summary of what it solves.
 use Rattle.std.specs.Prelude.{ℕ, List}
 use Rattle.problem_rules.specs.Generated.{generated}
 use Rattle.studio_rules.specs.Summary.{SummaryWork}

@@ -3,7 +3,7 @@
 /// How a call ended.
 #[derive(Clone, Copy, Debug, PartialEq, Eq)]
 pub enum Status {
-    /// The command's text is out, whole.
+    /// The whole text of the command is written.
     Done = 0,
     /// The answer is no: units break an axiom, or a tree proves nothing.
     Refused = 1,
@@ -11,7 +11,7 @@ pub enum Status {
     Usage = 2,
     /// The problem text has a fault.
     BadProblem = 3,
-    /// A number left the range of the arithmetic.
+    /// A number overflowed.
     Past = 4,
     /// The budget is spent.
     Spent = 5,
@@ -19,7 +19,7 @@ pub enum Status {
     ReadFault = 6,
     /// The text could not be written whole.
     WriteFault = 7,
-    /// Want of memory.
+    /// Memory ran out.
     Memory = 8,
     /// A word is no token of a solution structure.
     BadToken = 9,
@@ -41,6 +41,7 @@ pub enum Status {
     NoLeaf = 18,
     /// The plan has a fault.
     BadPlan = 19,
-    /// A command can't go on from a claim, or from a tree: the claim or a node is refused. Its number is that of `Refused`.
+    /// A command can't go on from a claim or from a tree, because the claim or a node is refused.
+    /// Its number is that of `Refused`.
     BadClaim,
 }

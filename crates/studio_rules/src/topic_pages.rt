@@ -1,4 +1,5 @@
-//! The pages on what no command is: the format of a plant, and each kind of fault of a text that a command reads.
+//! The pages on what no command is: the format of a plant, and each kind of fault of a text that a
+//! command reads.
 
 /// The topics, each with its page. A kind that several formats have has one page.
 pub const TOPIC_PAGES: [(&[u8], &[u8]); 45] = [

@@ -48,7 +48,7 @@ double-last (x ∷ xs) name =
     regroup false true c d = refl
     regroup false false c d = refl
 
--- a name twice stays twice with more behind
+-- a name that is there twice is so with more names after it
 double-front : (xs ys : List (List ℕ)) → has_double xs ≡ true → has_double (xs ++ ys) ≡ true
 double-front [] ys h = cc
 double-front (x ∷ xs) ys h = front xs ys x (is_among xs x) refl (double-front xs ys) h
@@ -61,7 +61,7 @@ and_false : (a : Bool) → (a && false) ≡ false
 and_false true = refl
 and_false false = refl
 
--- where no name comes twice, and each is a name, all are gathered
+-- all are gathered, if no name comes twice and each is a name
 abbrev pub all_names : List (List ℕ) → List (List ℕ) → Option (List (List ℕ))
 all_names names all = if list_all is_name names && not (has_double all) then Some all else None
 
@@ -78,7 +78,7 @@ gathered-is seen (name ∷ names) once = step seen name names (is_name name) (is
         sym (ap (λ d. if list_all is_name names && not d then Some all else None) twice ∙ ap (λ c. if c then Some all else None) (and_false (list_all is_name names)))
     step seen name names true false e ih = ih e ∙ ap (all_names names) (append_assoc seen (name ∷ []) names)
 
--- the word UNITS, where it is not `-`
+-- the word UNITS, if it is not `-`
 pub unit_names_of-gathered : (word : List ℕ) → bytes_eq word (codes "-") ≡ false → unit_names_of word ≡ gathered [] (slice_split (λ c. c == byte ",") word)
 unit_names_of-gathered word e =
     ap (λ b. if b then Some [] else all_names (slice_split (λ c. c == byte ",") word) (slice_split (λ c. c == byte ",") word)) e
@@ -93,7 +93,7 @@ alone p (x ∷ xs) e = at p x xs (p x) refl e (alone p xs)
     at p x xs true h e ih = absurd (omega arith)
     at p x xs false h e ih = slice_split-cons_no p x xs h ∙ ap (onto_first x) (ih (omega arith))
 
--- what stands before the first comma and after it, by the clause of `split_once`
+-- what is before the first comma and after it, by the clause of `split_once`
 module _ (text : List ℕ) where
   abbrev pub Cuts : Option (Bor (List ℕ) × Bor (List ℕ)) → Type 0
   Cuts r = MatchOption r (position_or_len (λ c. c == byte ",") text ≡ length text) (λ x. (position_or_len (λ c. c == byte ",") text < length text) × (x.0.now ≡ before_first (λ c. c == byte ",") text) × (x.1.now ≡ after_first (λ c. c == byte ",") text))

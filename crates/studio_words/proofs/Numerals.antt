@@ -14,7 +14,7 @@ number_from-grows n (c ∷ cs) = at (is_ascii_digit c) (number_from-grows (cond 
     at true h = omega (arith, h)
     at false h = h
 
--- the number of digits, where it is at most `most`
+-- the number that digits spell, if it is at most `most`
 abbrev pub spelled : ℕ → List ℕ → Option ℕ
 spelled most bs = if list_all is_ascii_digit bs && nat_le (number_of bs) most then Some (number_of bs) else None
 

@@ -10,7 +10,7 @@ use Rattle.studio_rules.specs.Pages.{command_page_of, command_text, page_text, t
 use Rattle.studio_rules.specs.TopicPages.{text_among, topic_text}
 use Rattle.studio_rules.specs.declared.topic_pages.TheConstants.{TOPIC_PAGES}
 
--- nothing stands behind the last line feed
+-- nothing follows the last line feed
 abbrev is_whole : List ℕ → Bool
 is_whole [] = true
 is_whole (c ∷ []) = c == 10

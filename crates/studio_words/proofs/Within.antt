@@ -38,7 +38,7 @@ budget_within word = at (last_byte word == byte "k") (last_byte word == byte "M"
     at false true = millions_within (number_within 1 1 (but_last word)) (numeral_within 1 1 (but_last word))
     at false false = numeral_within 1 1000000 word
 
--- the budget where none is given
+-- the budget of a call that gives none
 full_within : IfSome (Some full_budget) (λ n. (1 ≤ n) × (n ≤ 1000000))
 full_within = (omega arith, omega arith)
 

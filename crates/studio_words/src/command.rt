@@ -59,7 +59,7 @@ pub fn command_of(alloc: Global, words: &[String]) -> Result<Option<Command<'_>>
     }
 }
 
-/// The page of the command that the first word is, where the second one asks for it.
+/// The page of the command that the first word is, if the second one asks for it.
 fn page_asked(words: &[String]) -> Option<Command<'_>>
     ensures { option_map command_view result ≡ page_asked (map string_bytes words.now) }
 {
@@ -188,7 +188,7 @@ fn seed_of(word: &str) -> Option<u64>
     number_within(word.as_bytes(), 0, u64::MAX)
 }
 
-/// The most nodes of a search, which has as many where no budget is given.
+/// The most nodes of a search, and its nodes if no budget is given.
 const MOST_NODES: u64 = 1_000_000;
 
 /// What the letters stand for that may end a budget.

@@ -5,7 +5,7 @@ ghost use Rattle.std.specs.Char.{is_ascii_digit};
 ghost use Rattle.text_rules.specs.Amount.{number_of};
 ghost use Rattle.studio_rules.specs.Numeral.{has_leading_zero, number_within};
 
-/// The number that the bytes of a word spell, where it is from `least` to `most`.
+/// The number that the bytes of a word spell, if it is from `least` to `most`.
 pub(crate) fn number_within(bytes: &[u8], least: u64, most: u64) -> Option<u64>
     ensures { result ≡ number_within least most bytes.now }
 {
@@ -25,7 +25,8 @@ fn has_leading_zero(bytes: &[u8]) -> bool
     }
 }
 
-// The number that digits spell, where it is at most `most`. The bytes behind the first number above that are not read.
+// The number that digits spell, if it is at most `most`. The bytes after the first number above
+// that are not read.
 fn digits_within(bytes: &[u8], most: u64) -> Option<u64>
     ensures { result ≡ if list_all is_ascii_digit bytes.now && nat_le (number_of bytes.now) most then Some (number_of bytes.now) else None }
 {

@@ -11,7 +11,8 @@ use pns_problem::is_name;
 use std::alloc::{AllocError, Global};
 use std::marker::Model;
 
-/// Distinct names of units, in the order of the word that gives them. Contracts see the list of their bytes.
+/// Distinct names of units, in the order of the word that gives them. Contracts see the list of
+/// their bytes.
 #[derive(Drop)]
 pub struct UnitNames {
     names: IndexSet<String>,
@@ -49,7 +50,7 @@ impl UnitNames {
         Ok(())
     }
 
-    // Adds a text that is a name and is not there yet, and tells whether it is so.
+    // Adds a text that is a name and is not there yet, and gives whether it is so.
     fn add(&mut self, text: &str) -> Result<bool, AllocError>
         ensures new { IfOk result (λ added. added ≡ (is_name text.now && not (is_among self.old text.now))) }
         ensures added { IfOk result (λ added. added ≡ true → self.new ≡ self.old ++ text.now ∷ []) }
@@ -71,7 +72,7 @@ impl UnitNames {
         self.names.len()
     }
 
-    /// The name at place `k`, empty past the last.
+    /// The name at place `k`; empty if there are not so many.
     pub fn name(&self, k: usize) -> &str
         ensures { result.now ≡ slice_index_or self.now k [] }
     {
@@ -81,8 +82,8 @@ impl UnitNames {
         }
     }
 
-    /// The names of the word UNITS: none for `-`, else those that its commas part. There is no answer where one is no
-    /// name or comes twice.
+    /// The names of the word UNITS: none for `-`, else those between its commas. There is no answer
+    /// if one is no name or comes twice.
     pub fn read(alloc: Global, word: &str) -> Result<Option<UnitNames>, AllocError>
         ensures { IfOk result (λ found. found ≡ unit_names_of word.now) }
     {
@@ -111,7 +112,7 @@ impl UnitNames {
     }
 }
 
-// What stands before the first comma and after it, if there is one.
+// What is before the first comma and after it, if there is one.
 fn first_part(text: &str) -> Option<(&str, &str)>
     ensures none { IfNone result (slice_split (λ c. c == byte ",") text.now ≡ text.now ∷ []) }
     ensures part { IfSome result (λ parts. slice_split (λ c. c == byte ",") text.now ≡ parts.0.now ∷ slice_split (λ c. c == byte ",") parts.1.now) }

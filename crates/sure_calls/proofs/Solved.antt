@@ -11,7 +11,7 @@ use Rattle.studio_rules.specs.declared.status.Status.TheVariants.{Done, ReadFaul
 use Rattle.sure_laws.specs.Calls.{SureCallIsDone}
 use Rattle.sure_laws.specs.OneUnit.{one_unit_text, OneUnitIsSure}
 
--- what a shelf in memory tells
+-- what a shelf in memory says
 abbrev pub state_of : Shelved → ShelfState
 state_of shelf = record {
   held = λ name. Some (file_of shelf.files name);

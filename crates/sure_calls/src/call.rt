@@ -10,8 +10,8 @@ use std::alloc::{AllocError, Global};
 use studio::{Status, studio};
 use sure_laws::{one_unit_is_sure, sure_call_is_done};
 
-/// Solves the plant of one unit within a budget of 4. Where the shelf and the words can be made,
-/// the whole answer is out with status 0, or a read, an output or memory failed.
+/// A worked `solve` ends with 0, unless a read, an output or memory fails. It is of the plant of
+/// one unit, within a budget of 4. If it ends with 0, its whole answer is written.
 pub fn solve_one_unit<K: Sink, E: Sink>(
     alloc: Global,
     out: &mut Outputs<K, E>,

@@ -22,7 +22,7 @@ use Rattle.studio_rules.specs.declared.status.Status.TheVariants.{Done, BadProbl
 use Rattle.sure_laws.specs.Calls.{IsSure, SureSearchCanFinish, SureCallIsDone}
 use Rattle.sure_laws.proofs.NoDemandsLemmas.{nothing_stops}
 
--- what a search ends with where nothing stops it
+-- what a search ends with if nothing stops it
 solve_is_done : (budget : ℕ) (p : Problem) (claim : Claim) (tree : Tree) (t : Tail)
     → CanFinish budget p → solving.Holds budget p claim tree t → status_of t ≡ Done
 solve_is_done budget p claim tree whole can h = refl

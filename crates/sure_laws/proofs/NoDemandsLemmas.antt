@@ -1,5 +1,5 @@
--- Plants without demands: at each node the start of the path is its last basis, and no number is
--- out of range there.
+-- Plants without demands: at each node the start of the path is its last basis, and no number
+-- overflows there.
 use Rattle.std.proofs.Common.{◌≡◌, ℕ, ◌<◌, ◌^◌, Bool, true, false, ◌||◌, cond, List, length, get_or, arith, refl, sym, ap, ◌∙◌, subst}
 use Rattle.std.specs.Prelude.{ℤ, pos, ◌+ℤ◌, ◌*ℤ◌, ◌≤ℤ◌, ◌<ℤ◌, neg_ℤ}
 use Rattle.std.specs.List.{AllByRecursion}

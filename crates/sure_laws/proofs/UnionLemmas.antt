@@ -1,5 +1,5 @@
--- Each proper shape has a maximal structure, the union of its solution structures, so a budget is
--- not below the limit where it is at least twice the number of sets of units.
+-- Each proper shape has a maximal structure, the union of its solution structures. So a budget is
+-- not below the limit if it is at least twice the number of sets of units.
 use Rattle.std.proofs.Common.{◌≡◌, ℕ, suc, ◌^◌, ◌<◌, ◌≤◌, Bool, true, false, ◌||◌, List, [], ◌∷◌, length, inl, inr, arith, refl, sym, subst}
 use Rattle.std.specs.Prelude.{nat_lt}
 use Rattle.std.proofs.Math.Path.{fun_ext}

@@ -1,5 +1,5 @@
 -- What is read off at the start of the path: all sizes are 0 over 1, all multipliers are 0, and no
--- number on the way to them is out of range.
+-- number overflows on the way to them.
 use Rattle.std.proofs.Common.{◌≡◌, ℕ, zero, suc, ◌+◌, ◌<◌, ◌≤◌, ◌==◌, Bool, true, false, cond, List, [], ◌∷◌, ◌++◌, arith, refl, sym, ap, ◌∙◌, subst}
 use Rattle.std.specs.Prelude.{ℤ, pos, ◌+ℤ◌, ◌-ℤ◌, ◌*ℤ◌, ◌≤ℤ◌, int_div, unsigned_abs, map, max}
 use Rattle.std.specs.Int.{◌∣◌}
@@ -25,7 +25,7 @@ use Rattle.sure_laws.proofs.FirstBasis.{no_x, scale_one, no_cost}
 abbrev pub AreZero : List ℤ → Type 0
 AreZero zs = AllByRecursion (λ z. z ≡ pos 0) zs
 
--- beside any number then stands 0
+-- next to any number there is then 0
 pub beside_zero : (xs : List ℕ) (zs : List ℤ) → AreZero zs → (u : ℕ) → beside xs zs u ≡ pos 0
 beside_zero [] zs h u = refl
 beside_zero (x ∷ xs) [] h u = refl
@@ -121,7 +121,7 @@ module _ (p : LinearProgram) (lows : (i : ℕ) → i < p.units → p.low i ≡ p
         let r = range_below 0 p.units p.units (omega arith) in
         all_in_range (rounds p (start p)) (all_appended (λ (f : Formed). f.unit < p.units) (lcms (start p) (range_with_len 0 p.units)) (sizes (range_with_len 0 p.units)) (of_lcms (range_with_len 0 p.units) r) (of_sizes (range_with_len 0 p.units) r))
 
-  -- no number is out of range as the flows are read, and they are 0 over 1
+  -- no number overflows as the flows are read, and they are 0 over 1
   pub no_flow_is_past : (T : ℕ → ℕ → ℤ) (unit : ℕ) (step : FlowStep)
       → IsPastFlow p (start p) T unit step → ⊥
   no_flow_is_past T unit step h = not_both (numbers p (start p) h.own h.right h.den) h.at (in_range T h.own h.right h.den h.values) h.past

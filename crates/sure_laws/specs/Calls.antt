@@ -12,7 +12,7 @@ use Rattle.studio_rules.specs.declared.status.Status.{Status}
 use Rattle.studio_rules.specs.declared.status.Status.TheVariants.{Done, ReadFault, WriteFault, Memory}
 use Rattle.sure_laws.specs.NoDemands.{HasNoDemands}
 
--- the shelf tells that the file gives a plant without demands, for which the budget is large enough
+-- the shelf knows that the file gives a plant without demands, for which the budget is large enough
 pub record IsSure (held : List ℕ → Told) (name : List ℕ) (budget : ℕ) : Type 0 where
   pub bytes : List ℕ
   pub plant : Problem
@@ -27,15 +27,15 @@ Searches words name budget =
     (command_of words ≡ Some (Solving name budget))
     ⊎ ((count : ℕ) × (command_of words ≡ Some (Ranking name count budget)))
 
--- nothing stops such a search: the premise of the clause `finishes` of `studio` holds
+-- nothing stops such a search: it meets the condition of the clause `finishes` of `studio`
 abbrev pub SureSearchCanFinish : Type 0
 SureSearchCanFinish =
     (held : List ℕ → Told) (name : List ℕ) (budget : ℕ) → IsSure held name budget
     → SearchCanFinish held (Solving name budget)
     × ((count : ℕ) → SearchCanFinish held (Ranking name count budget))
 
--- So a call whose end is as the clause `ends` of `studio` says has its whole answer out with status
--- 0, or ends with a fault of reading, of an output or of memory.
+-- So a call that ends as the clause `ends` of `studio` says has written its whole answer with
+-- status 0, or it ends with a fault of reading, of an output or of memory.
 abbrev pub SureCallIsDone : Type 0
 SureCallIsDone =
     (old new : ShelfState) (before after : OutputsState) (words : List (List ℕ)) (name : List ℕ)

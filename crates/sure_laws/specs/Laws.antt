@@ -11,8 +11,8 @@ use Rattle.path_rules.specs.PastPlace.{IsPastNamed}
 use Rattle.studio_rules.specs.Solve.{CanFinish}
 use Rattle.sure_laws.specs.NoDemands.{HasNoDemands}
 
--- at no node, whatever units it takes in and leaves out, is a number out of range on the path of
--- its program
+-- at no node, whatever units it takes in and leaves out, a number overflows on the path of its
+-- program
 abbrev pub NothingIsPast : Type 0
 NothingIsPast =
     (p : Problem) → IsValid p → HasNoDemands p

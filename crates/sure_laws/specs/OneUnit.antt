@@ -50,7 +50,7 @@ one_unit = record {
   payout = pos 1;
 }
 
--- a search of the text, held as `a.pns`, is sure to come to its end within a budget of 4
+-- a search of the text, as the file `a.pns`, is sure to finish within a budget of 4
 abbrev pub OneUnitIsSure : Type 0
 OneUnitIsSure =
     (held : List ℕ → Told) → held (codes "a.pns") ≡ Some (Some one_unit_text)

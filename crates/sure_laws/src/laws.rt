@@ -3,7 +3,7 @@ ghost use Rattle.sure_laws.specs.Laws.{NothingIsPast, NothingStops};
 ghost use Rattle.sure_laws.specs.Calls.{SureSearchCanFinish, SureCallIsDone};
 ghost use Rattle.sure_laws.specs.OneUnit.{OneUnitIsSure};
 
-/// No number is out of range on the path of a node's program.
+/// No number overflows on the path of a node.
 pub fn nothing_is_past()
     ensures { NothingIsPast }
 {}
@@ -13,8 +13,8 @@ pub fn nothing_stops()
     ensures { NothingStops }
 {}
 
-/// The commands `solve` and `rank` of such a file have their whole answer out with status 0, or end
-/// with a fault of reading, of an output or of memory.
+/// `solve` and `rank` of such a file end with 0, unless a read, an output or memory fails. With
+/// status 0 they have written their whole answer.
 pub fn sure_call_is_done()
     ensures premise { SureSearchCanFinish }
     ensures done { SureCallIsDone }

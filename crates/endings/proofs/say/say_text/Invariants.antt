@@ -2,7 +2,7 @@ use Rattle.std.proofs.Common.{◌≡◌, ◌≤◌, length}
 use Rattle.endings.proofs.Put.{IsPut}
 use Rattle.endings.proofs.say.say_text.Given as goal
 
--- what is before the rest is out
+-- what is before the rest was put
 abbrev pub invariant-loop-rest : goal.invariant-loop-rest
 invariant-loop-rest g l = record {
   put : IsPut l.fn.text l.rest l.fn.out.out.written l.out.out.written;
