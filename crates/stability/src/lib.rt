@@ -17,7 +17,6 @@
 //! `desk` the problem with one value after the other; `costs` what flows cost; `probe` a search at
 //! one value; `meeting` the value at which two networks cost the same, as a guess; `rise` whether a
 //! cost rises as little as any can; `side` one end of the range; `outcome` and `answer` the call.
-//! - `answer`: the call
 #![tactic(auto)]
 
 mod answer;
