@@ -1,4 +1,4 @@
-//! How an open leaf of a search is branched: at a material, or in two at one unit.
+//! How an open leaf is branched: at a material, or in two at one unit.
 //!
 //! [`choose`] keeps the tree small: it splits a leaf at a unit that owes most of its fixed cost, by
 //! the sizes of the last basis. That rule is only a guide. [`choose`] promises that there is

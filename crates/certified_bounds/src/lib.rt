@@ -1,5 +1,4 @@
-//! Bounds of nodes from guesses that exact checks judge: multipliers prove each bound, or there is
-//! none.
+//! A guess at a node, judged exactly: multipliers prove each bound.
 //!
 //! [`CertifiedBounds`] is opened over a site, and goes over to another of the same size without
 //! taking its room anew. At a node it guesses a basis of least flows, solves that in whole numbers,

@@ -1,15 +1,13 @@
-//! An evaluator of nodes: multipliers prove a node's value, or refute the node; or its path
-//! overflows.
+//! Multipliers prove a node's value, or refute the node; or its path overflows.
 //!
-//! A [`FlowEvaluator`] bounds a node at a first look by a guess, whose multipliers prove a cost
-//! that no relaxed flows undercut. It values a node in two ways when the worth is asked for. The
-//! first is a guess that is judged exactly. If that finds nothing, the path of the node's program
-//! is walked on one bench by the simplex method. The last basis of the path gives the least cost of
-//! relaxed flows with multipliers that prove it, at a decided node a network of that cost, or
+//! A [`FlowEvaluator`] evaluates nodes for a search. At a first look a guess gives multipliers,
+//! which prove a cost that no relaxed flows undercut. When the node's worth is asked for, there are
+//! two ways. The first is a guess that is judged exactly. If that finds nothing, the simplex method
+//! walks the path of the node's program on one bench. The last basis gives the least cost of
+//! relaxed flows with multipliers that prove it, a network of that cost if all is decided, or
 //! multipliers that refute the node. If a number overflows on this path, the answer is the columns
-//! outside the basis and the place; so only the path stops a search. If such a node is not decided,
-//! the answer may add two costs between which the least cost lies: what rounded multipliers prove,
-//! and what flows in short numbers cost.
+//! outside the basis and the place; so only the path stops a search. If not all is decided at such
+//! a node, two costs between which the least cost lies come with that place, if they are found.
 //!
 //! Modules: `evaluator` the evaluator; `told` its answers without a path; `answers` what the last
 //! basis of a path gives; `sums` the sums over what the bench keeps, which may overflow; `at_hand`

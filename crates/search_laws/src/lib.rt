@@ -1,4 +1,4 @@
-//! Laws of search nodes: children cost no less, and units left at a reduced node are a structure.
+//! Laws: children cost no less, and units left at a reduced node are a structure.
 //!
 //! Nodes below a node have no cheaper relaxed flows. At a reduced node the units that are not left
 //! out form a solution structure. A material that is still to decide has two options or more, and

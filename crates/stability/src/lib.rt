@@ -1,17 +1,13 @@
-//! The largest range of a price or cost in which a network is optimal, or the cause of a refusal.
+//! The largest range of a price or cost in which a network is optimal.
 //!
 //! [`range`] gives the largest interval of allowed values round the present one, all else kept, in
-//! which a network with its flows is optimal among the clash-free ones. One step beyond each end
-//! another network is cheaper.
+//! which a network with its flows is optimal among the clash-free ones. Beyond an end that is not
+//! the limit of the values, a cheaper network is given. If there is no answer, the cause is given.
 //!
-//! Each value that it looks at is set in one copy of the problem, and costs one search against the
-//! network. Two places need no search. One is between two values at which the network is optimal:
-//! the difference of two costs is a straight line. The other is a side on which the network's cost
-//! rises as little as any structure's can. Else the limit of the values comes first. If another
-//! network is cheaper there, the next value is the last at which it is not. If a budget is spent,
-//! the next value is on the way out from the present one. If a number overflows, it is in between
-//! by length, until half the way is proved. `stability_rules` and `specs/Refusal` have what is
-//! promised.
+//! Each value that it looks at costs one search against the network, in one copy of the problem. No
+//! search is needed between two values at which the network is optimal, since the difference of two
+//! costs is a straight line. None is needed on a side on which the network's cost rises as little
+//! as any structure's can. `stability_rules` and `specs/Refusal` have what is promised.
 //!
 //! Modules: `setting` the problem with another value in the spot; `case` a network and a spot;
 //! `desk` the problem with one value after the other; `costs` what flows cost; `probe` a search at

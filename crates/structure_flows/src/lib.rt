@@ -1,5 +1,4 @@
-//! The least flows of a structure, or multipliers that refute all flows, or what overflows on its
-//! path.
+//! A structure's least flows, or a refutation, or what overflows on its path.
 //!
 //! [`flows_of`] gives a [`StructureFlows`] for a solution structure: flows of least cost with
 //! multipliers that prove it, multipliers that refute all flows, or the place at which a number

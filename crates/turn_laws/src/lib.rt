@@ -1,4 +1,4 @@
-//! Laws of search turns: branching a cheapest leaf, or shutting leaves, keeps what a search keeps.
+//! Branching a cheapest leaf, or shutting leaves, keeps what a search keeps.
 //!
 //! The tree of such a search is lean. It is accepted if no leaf is open, and spent if its budget
 //! does not last for the next branch. `specs/Laws` has the laws, over the cells of `search_tree`:
