@@ -64,7 +64,7 @@ impl CertifiedBounds {
     }
 
     /// A cost that no relaxed flows of the node undercut, and not the least cost: short multipliers
-    /// of a guess prove it. It takes no memory but for what it hands out, and `Err` comes if that
+    /// of a guess prove it. It takes no memory but for what it returns, and `Err` comes if that
     /// is refused.
     pub fn look_first(
         &mut self,
@@ -84,7 +84,7 @@ impl CertifiedBounds {
     }
 
     /// What the node is worth; `decided` says whether all is decided there. It takes no memory but
-    /// for what it hands out, and `Err` comes if that is refused.
+    /// for what it returns, and `Err` comes if that is refused.
     pub fn look(
         &mut self,
         alloc: Global,
@@ -124,7 +124,7 @@ impl CertifiedBounds {
     }
 
     /// What a node is worth that a first look bounded: the basis that it guessed is solved. It
-    /// takes no memory but for what it hands out, and `Err` comes if that is refused.
+    /// takes no memory but for what it returns, and `Err` comes if that is refused.
     pub fn settle(
         &mut self,
         alloc: Global,
@@ -185,7 +185,7 @@ impl CertifiedBounds {
     }
 
     /// Two costs between which the least cost of relaxed flows of the node lies, if they are found.
-    /// It takes no memory but for what it hands out, and `Err` comes if that is refused.
+    /// It takes no memory but for what it returns, and `Err` comes if that is refused.
     pub fn between(
         &mut self,
         alloc: Global,
@@ -249,7 +249,7 @@ impl CertifiedBounds {
     }
 
     /// Multipliers that prove that no relaxed flows of the node cost less than the network, if they
-    /// are found. It takes no memory but for what it hands out, and `Err` comes if that is refused.
+    /// are found. It takes no memory but for what it returns, and `Err` comes if that is refused.
     pub fn prove(
         &mut self,
         alloc: Global,

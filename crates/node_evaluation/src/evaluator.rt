@@ -108,7 +108,7 @@ pub trait Evaluator {
         ensures first { IfOk result (IsFirstLook site.now (node_of node)) }
         ensures own { values site.now self.new };
 
-    /// Evaluates a node that a first look bounded so.
+    /// Evaluates a node that a first look bounded.
     fn settle(
         &mut self,
         alloc: Global,

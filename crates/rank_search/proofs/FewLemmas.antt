@@ -20,7 +20,7 @@ module _ (g : Shape) (proper : IsProper g) (all : ℕ → Bool) (union : IsUnion
     abbrev root : Node
     root = after_all g start t.steps
 
-    -- the node without its steps, from where these lead
+    -- the node without its steps, from the node to which they lead
     abbrev bare : TreeNode L
     bare = record { option = t.option; steps = []; end = t.end }
 

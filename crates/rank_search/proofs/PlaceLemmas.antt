@@ -31,7 +31,7 @@ false_lt x y h = by_lt_z y x (λ lt. lt) (λ le. absurd (let t : true ≡ false 
 abbrev pub is_no_dearer : Network → FoundAt → Bool
 is_no_dearer w f = int_le (f.network.cost *ℤ w.d) (w.cost *ℤ f.network.d)
 
--- a test that answers so
+-- a test with this answer
 pub test_is : (w : Network) (f : FoundAt) (b : Bool) → (IsTrue b ↔ IsNoCheaper f.network w) → b ≡ is_no_dearer w f
 test_is w f true h = sym (le_true (f.network.cost *ℤ w.d) (w.cost *ℤ f.network.d) (h.0 refl))
 test_is w f false h = by (is_no_dearer w f) refl
