@@ -49,7 +49,7 @@ is_worth {Past} p n b w positive h le = record {
   under = under_less p n (cost_in w) (cost_over b.value) positive (mixed_positive b.value) le (worth_under Past p n b.value b.interval h.value);
 }
 
--- an open leaf has at hand what stands under its key
+-- an open leaf has stored what is stored under its key
 pub hand_there : (s : Growing) (j : ℕ) → (cell_at s.pool.payloads j).end ≡ leaf untried → hand_of s j ≡ ready_at s j
 hand_there s j e = ap (λ b. cond b (ready_at s j) None) (leaf_open (cell_at s.pool.payloads j).end e)
 
@@ -86,14 +86,14 @@ module _ {Past : PastPlaces} {undercut : Option CostOver} (p : Problem) (s : Gro
     worth_as : (w : Worth) → q.worth ≡ w → IsWorthOf Past p (place_of (cell_at s.pool.payloads j)) k.value w
     worth_as w e = subst (λ (x : Worth). IsWorthOf Past p (place_of (cell_at s.pool.payloads j)) k.value x) e k.known.worth
 
-    -- the network costs no more than the leaf's value where this is not refuted
+    -- the network costs no more than the leaf's value, if the leaf is not refuted
     hand_beaten : (w : claims.Network) → AreBeaten s w → refutation_in q.worth ≡ None → IsNoMore (cost_in w) (cost_over k.value)
     hand_beaten w b lives = elim (g.are_open.others j lt k.open_there) [
       | inl open_j ↦ b.each j k.value open_j k.value_is
       | inr r ↦ absurd (true≢false (sym r ∙ ap (λ (o : Option (List ℤ)). is_some o) (ap refutation_of k.here ∙ lives)))
     ]
 
-    -- a lower bound that the network's cost is at most shuts the leaf
+    -- a lower bound shuts the leaf, if the network's cost is at most the bound
     pub lower_shuts : (w : claims.Network) → IsPositive (cost_in w) → AreBeaten s w → (b : LowerBound) → q.worth ≡ worths.AtLeast b → InRange b.scaled.d → AllInRange b.scaled.ys
         → ProvesLeaf p (Some (cost_in w)) (place_of (cell_at s.pool.payloads j)) b.scaled
     lower_shuts w positive beaten b e scale multipliers =
@@ -131,7 +131,7 @@ push_last : (ms : List (Option Shut)) (m : Option Shut) → slice_index_or (ms +
 push_last [] m = refl
 push_last (x ∷ xs) m = push_last xs m
 
--- P holds of what stands at the first numbers
+-- P holds of the items at the first numbers
 abbrev pub AreSoBelow : (ℕ → Option Shut → Type 0) → List (Option Shut) → ℕ → Type 0
 AreSoBelow P ms i = (length ms ≡ i) × ((j : ℕ) → j < i → P j (slice_index_or ms j None))
 
@@ -150,7 +150,7 @@ module _ (P : ℕ → Option Shut → Type 0) where
     ]),
   )
 
--- what shuts each node against a cost, and what shuts it where it is refuted
+-- what shuts each node against a cost, and what shuts it if it is refuted
 abbrev pub ShutsAt : Problem → Growing → CostOver → ℕ → Option Shut → Type 0
 ShutsAt p s cost j m = ShutsLeaf p (Some cost) (cell_at s.pool.payloads j) m
 

@@ -1,4 +1,4 @@
--- What the tree is where a search ends, and what the root is.
+-- What the tree is when a search ends, and what the root is.
 use Rattle.std.specs.Prelude.{IfSome}
 use Rattle.std.proofs.Common.{◌≡◌, ℕ, ◌-◌, ◌<◌, true, List, [], ◌∷◌, length, Option, Some, None, refl, sym, ap, subst, arith, suc, ◌^◌, ◌+◌}
 use Rattle.problem_rules.specs.Problem.{Problem}
@@ -34,7 +34,7 @@ use Rattle.abb_search.proofs.KnownLemmas.{knows_tree, few_nodes, knows_claim}
 use Rattle.tree_rules.specs.Proved.{IsProved, IsStopped, IsBelowLimit}
 use Rattle.abb_search.specs.Found.{found_with, IsFoundBy}
 
--- nothing claimed has no cost, as none has where no network is
+-- a claim of nothing has no cost, and neither has the claim that there is no network
 as_infeasible : (p : Problem) (start : Node) (last : Option Node) (cells : List Cell) → IsKept p start claims.unknown last cells → IsKept p start claims.infeasible last cells
 as_infeasible p start last cells k = record {
   grown = record { linked = k.grown.linked; fits = k.grown.fits };

@@ -1,4 +1,4 @@
--- What a look at all children does to the nodes, where a leaf is branched.
+-- What a look at all children does to the nodes, if a leaf is branched.
 use Rattle.std.proofs.Common.{◌≡◌, ◌⊎◌, ℕ, zero, suc, drop, ◌+◌, ◌-◌, ◌^◌, ◌<◌, ◌≤◌, max, ◌||◌, subst, List, [], ◌∷◌, ◌++◌, length, reverse, slice_set, Option, Some, None, refl, sym, ap, ◌∙◌, arith}
 use Rattle.std.specs.Prelude.{MatchOption, is_some}
 use Rattle.std.proofs.lemmas.List.{reverse-append, length-set, length-map, reverse-reverse}
@@ -54,7 +54,7 @@ pub stops_within : (Past : PastPlaces) (p : Problem) (children : List Fresh) (re
 stops_within Past p children ready first limit None h lt = tt
 stops_within Past p children ready first limit (Some w) h lt = let k = h.0 in omega (arith, k, lt)
 
--- where the last child stands first
+-- the lists with the last child first
 cells_back : (fs : List Fresh) → cells_in_turn fs ≡ cells_of (reverse fs)
 cells_back fs = ap (λ (gs : List Fresh). cells_in_turn gs) (sym (reverse-reverse fs)) ∙ cells_turned (reverse fs)
 
@@ -113,7 +113,7 @@ drop-length zero (x ∷ xs) ys e = absurd (omega (arith, e))
 drop-length (suc n) [] ys e = absurd (omega (arith, e))
 drop-length (suc n) (x ∷ xs) ys e = drop-length n xs ys (omega (arith, e))
 
--- the children stand behind the other cells
+-- the children follow the other cells
 pub solved_behind : (p : Problem) (old mid news : List Cell) (at : ℕ) (now : Cell) (children placed : List Fresh) (rs : List (Option Ready)) (before after : Slab Ready) (ws : List (Option claims.Network))
     → mid ≡ old → news ≡ slice_set mid at now ++ cells_in_turn placed → ArePlaced children (reverse placed) rs before after → AreSolvedBy p (cells_of children) ws
     → AreSolvedBy p (drop (length old) news) ws

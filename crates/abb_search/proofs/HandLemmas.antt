@@ -1,4 +1,4 @@
--- What is at hand for the open leaves, when leaves are shut and children are placed.
+-- What is stored for the open leaves, when leaves are shut and children are placed.
 use Rattle.std.proofs.Common.{◌≡◌, ℕ, zero, suc, ◌+◌, ◌-◌, ◌<◌, false, ◌||◌, List, [], ◌∷◌, ◌++◌, length, map, slice_set, Option, Some, None, refl, sym, ap, ◌∙◌, subst, arith, inl, inr, length-append, reverse}
 use Rattle.std.specs.Prelude.{slice_index_or}
 use Rattle.std.specs.List.{slice_get}
@@ -149,7 +149,7 @@ module _ (p : Problem) (fs gs : List Fresh) (rs : List (Option Ready)) (before a
         });
   }
 
--- ---- what is at hand for placed children
+-- ---- what is stored for placed children
 
 -- what was there stays
 pub kept : (fs gs : List Fresh) (rs : List (Option Ready)) (before after : Slab Ready) → ArePlaced fs gs rs before after → (key : ℕ) (r : Ready) → get before key ≡ Some r → get after key ≡ Some r
@@ -163,7 +163,7 @@ kept [] (g ∷ gs) rs before after h key r e = absurd h
 kept (f ∷ fs) [] rs before after h key r e = absurd h
 kept (f ∷ fs) (g ∷ gs) [] before after h key r e = absurd h
 
--- under the key of an open child stands what is at hand for it, which was not there before
+-- under the key of an open child is stored what belongs to it, and nothing was there before
 pub record IsNewAt (Past : PastPlaces) (p : Problem) (gs : List Fresh) (before after : Slab Ready) (k : ℕ) : Type 0 where
   pub value : Mixed
   pub value_is : slice_get (values_of gs) k ≡ Some value
@@ -209,7 +209,7 @@ new_at Past p [] (g ∷ gs) rs before after h a k lt e = absurd h
 new_at Past p (f ∷ fs) [] rs before after h a k lt e = absurd h
 new_at Past p (f ∷ fs) (g ∷ gs) [] before after h a k lt e = absurd h
 
--- the first child's key differs from those behind it
+-- the first child's key differs from those of the later ones
 first_apart : (Past : PastPlaces) (p : Problem) (f g : Fresh) (fs gs : List Fresh) (r : Option Ready) (rs : List (Option Ready)) (before after : Slab Ready) → ArePlaced (f ∷ fs) (g ∷ gs) (r ∷ rs) before after
     → AreReady Past p (cells_of (f ∷ fs)) (values_of (f ∷ fs)) (r ∷ rs) → g.cell.end ≡ leaf untried → (k : ℕ) → k < length gs → (cell_at (cells_of gs) k).end ≡ leaf untried
     → g.cell.key ≡ (cell_at (cells_of gs) k).key → ⊥
@@ -231,7 +231,7 @@ new_apart Past p [] (g ∷ gs) rs before after h a i j li lj ei ej s = absurd h
 new_apart Past p (f ∷ fs) [] rs before after h a i j li lj ei ej s = absurd h
 new_apart Past p (f ∷ fs) (g ∷ gs) [] before after h a i j li lj ei ej s = absurd h
 
--- ---- leaves with placed children behind them
+-- ---- leaves followed by placed children
 
 ready_some : (Past : PastPlaces) (p : Problem) (n : Node) (v : Mixed) (o : Option Ready) → IsSomeReady Past p n v o → (r : Ready) × (o ≡ Some r)
 ready_some Past p n v None h = absurd h
@@ -248,7 +248,7 @@ module _ (Past : PastPlaces) (p : Problem) (cs : List Cell) (vs : List Mixed) (b
   right_below : (j : ℕ) → j < length (cs ++ cells_of gs) → length cs < suc j → j - length cs < length gs
   right_below j lt l = let a = length-append cs (cells_of gs) in let b = length-map gs (λ (f : Fresh). f.cell) in omega (arith, lt, l, a, b)
 
-  -- an old leaf has it under a key that no child has
+  -- an old leaf's key is that of no child
   left_right : (i j : ℕ) → i < length cs → j < length gs → (cell_at cs i).end ≡ leaf untried → (cell_at (cells_of gs) j).end ≡ leaf untried → (cell_at cs i).key ≡ (cell_at (cells_of gs) j).key → ⊥
   left_right i j li lj ei ej q =
       let k = h.each i li ei in
@@ -409,7 +409,7 @@ solved_placed p (f ∷ fs) (g ∷ gs) [] before after ws h s = absurd h
 solved_placed p (f ∷ fs) (g ∷ gs) (r ∷ rs) before after [] h s = absurd s
 solved_placed p (f ∷ fs) (g ∷ gs) (r ∷ rs) before after (w ∷ ws) h s = (solved_one p f g r h.0 after w h.2 s.0, solved_placed p fs gs rs before h.0 ws h.1 s.1)
 
--- ---- another worth is at hand
+-- ---- another worth is stored
 
 -- what was taken out and put back with another worth
 pub worth_put : (before mid after : Slab Ready) (key back : ℕ) (w : Worth) (r : Ready) → get before key ≡ Some r → Updates before mid key None → back ≡ key

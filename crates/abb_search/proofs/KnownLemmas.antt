@@ -1,5 +1,5 @@
--- The cells of a search have numbers that the problem knows, and a best network is known where one of them is bounded: what a turn
--- does to that, and what it says of the tree.
+-- The cells of a search have numbers that the problem knows, and a best network is known if one of
+-- them is bounded: what a turn does to that, and what it says of the tree.
 use Rattle.std.proofs.Common.{◌≡◌, ℕ, ◌+◌, ◌-◌, ◌^◌, ◌<◌, zero, suc, Bool, true, false, ◌||◌, List, [], ◌∷◌, ◌++◌, length, slice_set, Option, Some, None, refl, sym, ap, ◌∙◌, subst, arith, inl, inr, length-append}
 use Rattle.std.specs.Prelude.{IfSome}
 use Rattle.std.proofs.lemmas.Bool.{cases_eq, cases_lt}

@@ -94,7 +94,7 @@ open_tree p start budget best s b h sound some = record {
 -- ---- after it
 
 module _ (Past : PastPlaces) (p : Problem) (start : starts.Node) (budget : ℕ) (best : Option claims.Network) (given : IsBest p best) (s : Growing) (h : IsLookedRoot Past p start budget best s) (some : 1 ≤ budget) where
-  -- the root has the key of what is at hand
+  -- the root has the key of its data
   child : IsSameChild h.looked.cell h.root.cell
   child = child_same (record { cell = h.looked.cell; value = h.looked.value }) h.root h.looked.ready h.empty s.ready h.placed
 
@@ -188,7 +188,7 @@ module _ (Past : PastPlaces) (p : Problem) (start : starts.Node) (budget : ℕ) 
       by None e = root_grows e
       by (Some i) e = (root_tree, root_stops i e)
 
--- the best network is the one that was found, where none was to be undercut
+-- the best network is the one that was found, if none was to be undercut
 pub best_is_found : (best new found : Option claims.Network) → best ≡ None → (new ≡ best) ⊎ (new ≡ found) → is_some new ≡ (is_some best || is_some found) → new ≡ found
 best_is_found best new None none which some = elim which [ inl e ↦ e ∙ none | inr e ↦ e ]
 best_is_found best new (Some w) none which some = elim which [

@@ -26,12 +26,12 @@ use Rattle.abb_search.specs.Rounds.{undercut_of, IsBeating, ClosingHolds, ValueU
 use Rattle.abb_search.proofs.WorthLemmas.{mixed_positive}
 use Rattle.abb_search.proofs.TurnLemmas.{dearer, reached_value}
 
--- what is to be undercut is the same where the best network is
+-- what is to be undercut is the same if the best network is
 pub undercut_same : (u : Goal) (s t : Growing) → t.best ≡ s.best → undercut_of u t ≡ undercut_of u s
 undercut_same goals.Best s t e = ap (λ (w : Option Network). claimed_cost (claim_with w)) e
 undercut_same (goals.Given w) s t e = refl
 
--- a network that does not cost at most the value costs at least it
+-- if a network does not cost at most the value, it costs at least the value
 pub not_beaten : (undercut : Option CostOver) (v : Mixed) (w : Network) → Some (cost_in w) ≡ undercut → (IsNoMore (cost_in w) (cost_over v) → ⊥) → IsAtMost undercut (numerator v) (denominator v)
 not_beaten undercut v w e h = subst (λ (c : Option CostOver). IsAtMost c (numerator v) (denominator v)) e (dearer (w.cost *ℤ denominator v) (numerator v *ℤ w.d) h)
 
@@ -42,22 +42,23 @@ reached_from s at r h v e =
     let same : h.value ≡ v = cc in
     h.reached_is ∙ ap (λ (u : Mixed). reached_by u (interval_of (ready_at s at))) same
 
--- a leaf may undercut a cost where what it reaches is at most that
+-- a leaf may undercut a cost if what it reaches is at most that
 pub undercuts_by : (s : Growing) (undercut : Option CostOver) (at : ℕ) (r : Mixed) → IsReachedAt s at r → IsAtMost undercut (numerator r) (denominator r) → LeafUndercuts s undercut at
 undercuts_by s undercut at r is below v e = subst (λ (k : Mixed). IsAtMost undercut (numerator k) (denominator k)) (reached_from s at r is v e) below
 
--- and only there
+-- and only then
 pub reaches : (s : Growing) (undercut : Option CostOver) (at : ℕ) (r : Mixed) → IsReachedAt s at r → LeafUndercuts s undercut at → IsAtMost undercut (numerator r) (denominator r)
 reaches s undercut at r is may = subst (λ (k : Mixed). IsAtMost undercut (numerator k) (denominator k)) (sym is.reached_is) (may is.value is.value_is)
 
--- an open leaf is a least one, where it reaches the cost of a network that costs no more than any open leaf's value
+-- an open leaf is a least one if it reaches the cost of a network that costs no more than any open
+-- leaf's value
 pub tied_is_least : (s : Growing) (undercut : Option CostOver) (w : Network) → undercut ≡ Some (cost_in w) → IsPositive (cost_in w) → AreBeaten s w → (at : ℕ) → LeafUndercuts s undercut at → IsLeastLeaf s at
 tied_is_least s undercut w is positive beaten at may v e j h ne x ex =
     let u : Mixed = reached_by v (interval_of (ready_at s at)) in
     let tied : IsNoMore (cost_over u) (cost_in w) = subst (λ (o : Option CostOver). IsAtMost o (numerator u) (denominator u)) is (may v e) in
     fraction_trans (numerator u) (denominator u) w.cost w.d (numerator x) (denominator x) (mixed_positive u) positive (mixed_positive x) tied (beaten.each j x h ex)
 
--- so it is with a leaf at which a number is past the range as all are to be shut
+-- so is a leaf at which a number overflows when all are to be shut
 pub closing_holds : (Past : PastPlaces) (p : Problem) (s : Growing) (undercut : Option CostOver) (w : Network) → undercut ≡ Some (cost_in w) → IsPositive (cost_in w) → AreBeaten s w
     → (closing : Closing) → AreShutBy Past p s (cost_in w) closing → ClosingHolds Past p s undercut closing
 closing_holds Past p s undercut w is positive beaten (Proved ms) h = subst (λ (o : Option CostOver). ShutAll p s o ms.items) (sym is) h
@@ -70,7 +71,7 @@ value_undercuts s undercut at v e under x ex =
     let same : v ≡ x = cc in
     subst (λ (k : Mixed). IsAtMost undercut (numerator k) (denominator k)) same under
 
--- a leaf whose value is at most what is to be undercut, but not what it reaches, has an interval
+-- a leaf has an interval if its value is at most what is to be undercut, but not what it reaches
 pub undercuts_or_past : (s : Growing) (undercut : Option CostOver) (at : ℕ) → ValueUndercuts s undercut at → (LeafUndercuts s undercut at → ⊥) → HasInterval s at
 undercuts_or_past s undercut at below dear = by (interval_of (ready_at s at)) refl
   where
@@ -80,7 +81,7 @@ undercuts_or_past s undercut at below dear = by (interval_of (ready_at s at)) re
 
 -- ---- leaves are settled
 
--- a leaf of the pool waits that is not settled
+-- a leaf of the pool waits if it is not settled
 pub waits : (s : Growing) (j : ℕ) → has s.pool.leaves j ≡ true → is_settled (ready_at s j) ≡ false → is_waiting s j ≡ true
 waits s j is_leaf unsettled = ap₂ (λ a b. a && not b) is_leaf unsettled
 

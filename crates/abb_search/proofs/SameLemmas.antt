@@ -1,4 +1,4 @@
--- What a search keeps stays where its nodes and its best network do.
+-- What a search keeps stays if its nodes and its best network do.
 use Rattle.std.specs.Prelude.{is_some, slice_index_or, OnErr}
 use Rattle.std.proofs.Common.{◌≡◌, ℕ, ◌-◌, ◌^◌, ◌<◌, Bool, true, false, List, length, Option, Some, None, Result, Ok, Err, inl, inr, refl, sym, ap, ◌∙◌, subst, arith}
 use Rattle.link_lists.specs.Lists.{has}
@@ -44,7 +44,7 @@ kept_same p undercut s n es eu en ec eb t = record {
   numbered = subst (λ (cs : List Cell). length cs < 2 ^ 32 - 1) (sym ec) t.numbered;
 }
 
--- ---- only the room that stands ready changed
+-- ---- only the reserved room changed
 
 module _ (Past : PastPlaces) (p : Problem) (s n : Growing) (e : IsSameButRoom s n) where
   ready_same : (j : ℕ) → ready_at n j ≡ ready_at s j
@@ -81,7 +81,7 @@ module _ (Past : PastPlaces) (p : Problem) (s n : Growing) (e : IsSameButRoom s 
 
 -- ---- the nodes and the best network stayed
 
--- so it is where an error comes
+-- the same if an error comes
 pub err_same : {A E : Type 0} (Past : PastPlaces) (p : Problem) (s n : Growing) (r : Result A E) → IsSame Past p s n → OnErr r (IsSame Past p s n)
 err_same Past p s n (Ok x) h = tt
 err_same Past p s n (Err x) h = h

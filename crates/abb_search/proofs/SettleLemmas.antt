@@ -43,7 +43,7 @@ same_below a b zero h = refl
 same_below a b (suc n) h =
     ap (λ t. cond t 1 0 + waiting_below b n) (h n (omega arith)) ∙ ap (λ k. cond (is_waiting a n) 1 0 + k) (same_below a b n (λ j lt. h j (omega (arith, lt))))
 
--- fewer wait where one does no longer
+-- fewer wait if one waits no longer
 pub fewer_below : (a b : Growing) (at n : ℕ) → at < n → ((j : ℕ) → j < n → (j ≡ at → ⊥) → is_waiting b j ≡ is_waiting a j) → is_waiting a at ≡ true → is_waiting b at ≡ false → waiting_below b n < waiting_below a n
 fewer_below a b at zero lt h did none = absurd (omega (arith, lt))
 fewer_below a b at (suc n) lt h did none = elim (cases_eq n at) [
@@ -58,7 +58,7 @@ fewer_below a b at (suc n) lt h did none = elim (cases_eq n at) [
       omega (arith, less, same)
 ]
 
--- a leaf of which a lower bound is all that is known waits
+-- a leaf waits if only a lower bound of it is known
 pub put_off_is_waiting : (s : Growing) → AreOpen s → (j : ℕ) → j < length s.pool.payloads → is_put_off (hand_of s j) ≡ true → is_waiting s j ≡ true
 put_off_is_waiting s a j lt h = by (is_open (cell_at s.pool.payloads j).end) refl h
   where
@@ -72,7 +72,7 @@ put_off_is_waiting s a j lt h = by (is_open (cell_at s.pool.payloads j).end) ref
 pub are_settled : (s : Growing) → ((j : ℕ) → j < length s.pool.payloads → is_put_off (hand_of s j) ≡ false) → AreSettled s
 are_settled s h j lt e = ap is_put_off (sym (hand_there s j e)) ∙ h j lt
 
--- where fewer wait, no more do
+-- if fewer wait, no more do
 pub stays_settling : {E : Type 0} (Past : PastPlaces) (p : Problem) (a b : Growing) (r : Result (Option StoppedLeaf) E) → IfOk r (SettleHolds Past p a b) → IfOk r (StaysSettling Past p a b)
 stays_settling Past p a b (Err e) h = h
 stays_settling Past p a b (Ok None) h = omega (arith, h)
@@ -114,7 +114,7 @@ reduced_there {Past} p s g at lt e =
     by v None h = absurd h
     by v (Some r) h = h.reduced
 
--- it has something at hand, which is not settled
+-- it has data stored, and is not settled
 pub waits_unsettled : (s : Growing) (j : ℕ) → is_waiting s j ≡ true → is_settled (ready_at s j) ≡ false
 waits_unsettled s j h = not-true (is_settled (ready_at s j)) (and_parts (has s.pool.leaves j) (not (is_settled (ready_at s j))) h).1
 
@@ -133,7 +133,8 @@ module _ {Past : PastPlaces} {undercut : Option CostOver} (p : Problem) (s : Gro
       let k = hand_some p s g at lt q (hand_there s at waits_open ∙ e) in
       subst (λ (w : Worth). IsWorthOf Past p (place_of (cell_at s.pool.payloads at)) k.value w) i k.known.worth
 
--- another worth is at hand for it, the values of the others stay, and so do the other leaves of the pool
+-- another worth is stored for it, the values of the others stay, and so do the other leaves of the
+-- pool
 module _ (Past : PastPlaces) (p : Problem) (s : Growing) (at : ℕ) (w : Worth) (v : Mixed) (values : List Mixed) (leaves : List ℕ) (after : Slab Ready)
     (updates : Updates s.ready after (cell_at s.pool.payloads at).key (with_worth w (ready_at s at)))
     (as_many : length values ≡ length s.pool.values) (others_are : (j : ℕ) → (j ≡ at → ⊥) → slice_get values j ≡ slice_get s.pool.values j) (value_is : slice_get values at ≡ Some v)
@@ -150,7 +151,7 @@ module _ (Past : PastPlaces) (p : Problem) (s : Growing) (at : ℕ) (w : Worth) 
   }
 
   module _ {undercut : Option CostOver} (g : IsGrowingFor Past p undercut s) (there : at < length s.pool.payloads) (untried_there : (cell_at s.pool.payloads at).end ≡ leaf untried) where
-    -- what is at hand for another open leaf stays
+    -- what is stored for another open leaf stays
     pub ready_stays : (j : ℕ) → j < length s.pool.payloads → (cell_at s.pool.payloads j).end ≡ leaf untried → (j ≡ at → ⊥) → ready_at now j ≡ ready_at s j
     ready_stays j lt e ne = updates.others (cell_at s.pool.payloads j).key (λ same. ne (g.ready.apart j at lt there e untried_there same))
 

@@ -50,7 +50,7 @@ never_untried : (m : Shut) → shut_as m ≡ untried → ⊥
 never_untried (shuts.Bounded s) h = let q : bounded s.d s.ys ≡ untried = h in cc
 never_untried (shuts.Refuted ys) h = let q : refuted ys ≡ untried = h in cc
 
--- what shuts a leaf bounds none where it is a refutation
+-- what shuts a leaf does not bound it if it is a refutation
 bounded_end : (o : Option Shut) (e : End Leaf) → ((m : Scaled) → o ≡ Some (shuts.Bounded m) → ⊥) → is_bounded (shut_end o e) ≡ is_bounded e
 bounded_end None e h = ap is_bounded (unproved_stays e)
 bounded_end (Some (shuts.Bounded m)) e h = absurd (h m refl)
@@ -96,7 +96,7 @@ module _ (ms : List (Option Shut)) (cells : List Cell) (j : ℕ) where
       shut_at ms cells j lt
       ∙ (ap (λ (o : Option Shut). as_shut (cell_at cells j) (shut_end o (cell_at cells j).end)) none ∙ ap (λ (e : End Leaf). as_shut (cell_at cells j) e) (unproved_stays (cell_at cells j).end))
 
-  -- so it is with a leaf that is open in the tree then
+  -- this holds of a leaf that is open in the tree after that
   pub open_left : j < length (shut_cells ms cells) → (cell_at (shut_cells ms cells) j).end ≡ leaf untried → IsLeftOpen ms cells j
   open_left lt e = by (proof_of ms j) refl (ap (λ (c : Cell). c.end) (sym (shut_at ms cells j less)) ∙ e)
     where
@@ -153,7 +153,7 @@ module _ (p : Problem) (s : Growing) (t : IsTreeKept p s) (ms : List (Option Shu
   known_shut : AreKnown p (shut_cells ms s.pool.payloads)
   known_shut j lt = subst (λ (c : Cell). KnowsCell p c) (sym (shut_at ms s.pool.payloads j (within j lt))) (known_one (cell_at s.pool.payloads j) (proof_of ms j) (may j (within j lt)) (t.known j (within j lt)))
 
-  -- no leaf is bounded where nothing is claimed
+  -- no leaf is bounded if nothing is claimed
   none_bounded : s.best ≡ None → (j : ℕ) (m : Scaled) → j < length s.pool.payloads → proof_of ms j ≡ Some (shuts.Bounded m) → ⊥
   none_bounded none j m lt e =
       let h : ShutsNode p (claimed_cost (claim_with s.best)) (place_of (cell_at s.pool.payloads j)) (shuts.Bounded m)
@@ -224,7 +224,7 @@ module _ {Past : PastPlaces} {undercut : Option CostOver} (p : Problem) (s : Gro
           let a = hand_some p s g j lt q h in
           record { refuted = ready_refuted Past p (place_of (cell_at s.pool.payloads j)) a.value q a.known ys k; multipliers = range }
 
-  -- what stands at a number may shut the leaf there, whatever is claimed
+  -- the item at a number may shut the leaf there, whatever is claimed
   pub refuted_may : (claimed : Option CostOver) → ShutSome p s claimed ms
   refuted_may claimed j lt = subst (λ (o : Option Shut). ShutsIfSome p claimed (place_of (cell_at s.pool.payloads j)) o) (sym (shut j lt).0) (by (refutation_of (hand_of s j)) refl (shut j lt).1)
     where
@@ -232,7 +232,7 @@ module _ {Past : PastPlaces} {undercut : Option CostOver} (p : Problem) (s : Gro
       by None e r = tt
       by (Some ys) e r = refuted_by_hand claimed j lt ys e r
 
-  -- all open leaves are shut where each is refuted
+  -- all open leaves are shut if each is refuted
   pub refuted_all : ((j : ℕ) → j < length s.pool.payloads → (cell_at s.pool.payloads j).end ≡ leaf untried → is_refuted (ready_at s j) ≡ true) → (claimed : Option CostOver) → ShutAll p s claimed ms
   refuted_all each claimed j lt = subst (λ (o : Option Shut). ShutsLeaf p claimed (cell_at s.pool.payloads j) o) (sym (shut j lt).0) (by (refutation_of (hand_of s j)) refl (shut j lt).1)
     where

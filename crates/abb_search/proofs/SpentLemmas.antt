@@ -1,4 +1,5 @@
--- Where the budget is spent: the leaf that would be branched next, and the tree in which refuted leaves are shut.
+-- The budget is spent: the leaf that would be branched next, and the tree in which refuted leaves
+-- are shut.
 use Rattle.std.proofs.Common.{◌≡◌, ℕ, ◌+◌, ◌<◌, ℤ, true, List, [], length, Option, Some, None, refl, sym, ap, ◌∙◌, subst, arith}
 use Rattle.link_lists.specs.Lists.{has}
 use Rattle.problem_rules.specs.Problem.{Problem}
@@ -32,14 +33,14 @@ use Rattle.abb_search.proofs.ClosingLemmas.{hand_there}
 use Rattle.abb_search.proofs.TurnLemmas.{there, untried_there, hand, can_branch, least, undercuts, pending_or}
 use Rattle.abb_search.proofs.ShutTreeLemmas.{closed, refuted_may, left_open, open_left}
 
--- ---- what stands at a number where leaves that are refuted are shut
+-- ---- the item at a number if leaves that are refuted are shut
 
 none_refuted : (o : Option (List ℤ)) → refuted_by o ≡ None → o ≡ None
 none_refuted None h = refl
 none_refuted (Some ys) h = absurd (let q : Some (shuts.Refuted ys) ≡ None = h in cc)
 
 module _ (s : Growing) (ms : List (Option Shut)) (shut : RefutedShut s ms) (j : ℕ) (lt : j < length s.pool.payloads) (is_open : (cell_at s.pool.payloads j).end ≡ leaf untried) where
-  -- where nothing shuts an open leaf, it is not refuted
+  -- if nothing shuts an open leaf, it is not refuted
   lives : proof_of ms j ≡ None → refutation_of (ready_at s j) ≡ None
   lives none = ap refutation_of (sym (hand_there s j is_open)) ∙ none_refuted (refutation_of (hand_of s j)) (sym (shut j lt).0 ∙ none)
 
@@ -49,7 +50,7 @@ module _ (s : Growing) (ms : List (Option Shut)) (shut : RefutedShut s ms) (j : 
 
 module _ {Past : PastPlaces} {undercut : Option CostOver} (p : Problem) (valid : IsValid p) (s : Growing) (g : IsGrowingFor Past p undercut s) (at : ℕ) (is_leaf : has s.pool.leaves at ≡ true)
     (same_parents : length s.pool.payloads ≡ length s.pool.parents) (below : (id : ℕ) → has s.pool.leaves id ≡ true → id < length s.pool.parents) where
-  -- the budget does not last for its children, and it is settled what each open leaf is worth
+  -- the budget does not last for its children, and the worth of each open leaf is settled
   pub spent_for : (bound : Option CostOver) → IsPositiveCost bound → IsSettledAt s at → IsLeastLeaf s at → LeafUndercuts s bound at → AreSettled s → (ms : List (Option Shut)) → RefutedShut s ms
       → (m : Choice) → IsChoice (shape_of p) (place_of (cell_at s.pool.payloads at)) m → s.budget < length s.pool.payloads + option_count m → IsSpentFor p bound s ms at (option_count m)
   spent_for bound positive settled is_least may all ms shut m u over =
@@ -73,7 +74,7 @@ module _ (p : Problem) (s : Growing) (t : IsTreeKept p s) (ms : List (Option Shu
   abbrev pub spent : Growing
   spent = closed p s t ms f.shut
 
-  -- the leaf stands there as before
+  -- the leaf is there as before
   here : cell_at (shut_cells ms s.pool.payloads) at ≡ cell_at s.pool.payloads at
   here = left_open ms s.pool.payloads at f.can.there f.stays
 

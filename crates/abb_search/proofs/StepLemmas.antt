@@ -162,12 +162,12 @@ step_same Past p old mid new o e t h =
     step_from Past p old mid new o h e.start e.budget (ap (λ (cs : List Cell). length cs) e.cells) (tree_positive p old t) (tree_positive p mid (tree_same Past p old mid e t))
     (subst (λ (w : Option claims.Network). HasFallen (cost_of old.best) (cost_of w)) (sym e.best) (fallen_same (cost_of old.best)))
 
--- so is what is told, where there is memory
+-- so is what is reported, if there is memory
 pub told_same : {E : Type 0} (Past : PastPlaces) (p : Problem) (old mid new : Growing) (r : Result (Option Found) E) → IsSame Past p old mid → IsTreeKept p old → IfOk r (StepHolds Past p mid new) → IfOk r (StepHolds Past p old new)
 told_same Past p old mid new (Ok o) e t h = step_same Past p old mid new o e t h
 told_same Past p old mid new (Err x) e t h = tt
 
--- only what is at hand changed
+-- only what is stored for leaves changed
 pub kept_but_hand : (p : Problem) (undercut : Option CostOver) (s n : Growing) → IsSameButHand s n → IsTreeKeptFor p undercut s → IsTreeKeptFor p undercut n
 kept_but_hand p undercut s n e t = kept_same p undercut s n e.start e.budget e.nodes (ap (λ (l : Pooled Cell). l.payloads) e.pool) e.best t
 
@@ -209,7 +209,7 @@ found_same Past a b found h f =
     subst (λ (q : Problem). IsFoundBy Past q (node_of a.start) a.budget found) h.problem
     (subst (λ (n : starts.Node). IsFoundBy Past b.problem (node_of n) a.budget found) h.start (subst (λ k. IsFoundBy Past b.problem (node_of b.start) k found) h.budget f))
 
--- the search stands as it stood
+-- the search is as before
 pub searching_same : (Past : PastPlaces) (p : Problem) (mk mk' : List (List ℕ)) (s n : Growing) (looked ended : Bool) → IsSearching Past p mk s looked ended → mk' ≡ mk → IsSame Past p s n
     → IsSearching Past p mk' n looked ended
 searching_same Past p mk mk' s n looked ended h em e = record {

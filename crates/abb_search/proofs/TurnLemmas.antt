@@ -77,7 +77,7 @@ two_or_more : (m : Choice) → 2 ≤ option_count m
 two_or_more (choices.Material x) = omega arith
 two_or_more (choices.Unit u) = omega arith
 
--- each open leaf is refuted where the pool has no first one
+-- each open leaf is refuted if the pool has no first one
 pub whole : {Past : PastPlaces} {undercut : Option CostOver} (p : Problem) (s : Growing) → IsGrowingFor Past p undercut s → first s.pool.leaves ≡ None → (i : ℕ) → i < length s.pool.payloads → (cell_at s.pool.payloads i).end ≡ leaf untried → is_refuted (ready_at s i) ≡ true
 whole p s g e i lt h = elim (g.are_open.others i lt h) [ inl l ↦ absurd (none_first s.pool.leaves e i l) | inr r ↦ r ]
 
@@ -103,7 +103,8 @@ first_is_least s at is_first rising v e j h ne w k = by s.pool.leaves is_first r
         has_tail : (x : ℕ) (xs : List ℕ) → has (x ∷ xs) j ≡ true → (j ≡ x → ⊥) → has xs j ≡ true
         has_tail x xs m ne = elim (or_cases (x == j) (has xs j) m) [ inl e ↦ absurd (ne (sym (eqb-true x j e))) | inr h ↦ h ]
 
--- some relaxed flows of the first leaf cost at most any other leaf's value where they cost at most that of the leaf behind it
+-- some relaxed flows of the first leaf cost at most any other leaf's value, if they cost at most
+-- that of the next leaf in order
 pub second_is_least : (s : Growing) (at next : ℕ) (reached value : Mixed) → first s.pool.leaves ≡ Some at → second s.pool.leaves ≡ Some next → IsRising s.pool.values s.pool.leaves
     → slice_get s.pool.values next ≡ Some value → IsNoMore (cost_over reached) (cost_over value) → (j : ℕ) → has s.pool.leaves j ≡ true → (j ≡ at → ⊥) → (w : Mixed) → slice_get s.pool.values j ≡ Some w
     → IsNoMore (cost_over reached) (cost_over w)
@@ -127,7 +128,7 @@ second_is_least s at next reached value is_first is_second rising e le j h ne w 
         let b : y ≡ next = cc in
         elim (or_cases (x == j) (has (y ∷ ys) j) m) [ inl here ↦ absurd (ne (sym (eqb-true x j here) ∙ a)) | inr later ↦ same_or_more ys y b r.1.0 later ]
 
--- where no leaf is behind the first one, no other is open
+-- if no leaf follows the first one, no other is open
 pub alone : (xs : List ℕ) (at : ℕ) → first xs ≡ Some at → second xs ≡ None → (j : ℕ) → has xs j ≡ true → (j ≡ at → ⊥) → ⊥
 alone [] at f g j m ne = absurd (let q : first [] ≡ Some at = f in cc)
 alone (x ∷ []) at f g j m ne =
@@ -135,7 +136,7 @@ alone (x ∷ []) at f g j m ne =
     elim (or_cases (x == j) false m) [ inl here ↦ ne (sym (eqb-true x j here) ∙ a) | inr later ↦ true≢false (sym later) ]
 alone (x ∷ y ∷ ys) at f g j m ne = absurd (let q : Some y ≡ None = g in cc)
 
--- where no interval is known, the value is reached
+-- if no interval is known, the value is reached
 pub reached_value : (v : Mixed) (i : Option Interval) → i ≡ None → v ≡ reached_by v i
 reached_value v i e = ap (λ (o : Option Interval). reached_by v o) (sym e)
 
@@ -144,7 +145,7 @@ pub value_leads : (s : Growing) (at : ℕ) → interval_of (ready_at s at) ≡ N
 value_leads s at none has_least v e j h ne w k =
     subst (λ (x : Mixed). IsNoMore (cost_over x) (cost_over w)) (reached_value v (interval_of (ready_at s at)) none) (has_least v e j h ne w k)
 
--- an open leaf is one of the pool where it is settled what it is worth
+-- an open leaf is one of the pool if its worth is settled
 pub stopped_leaf : {Past : PastPlaces} {undercut : Option CostOver} (p : Problem) (s : Growing) → IsGrowingFor Past p undercut s → (at : ℕ) → at < length s.pool.payloads → (cell_at s.pool.payloads at).end ≡ leaf untried → IsSettledAt s at → has s.pool.leaves at ≡ true
 stopped_leaf p s g at there opens settled = elim (g.are_open.others at there opens) [ inl l ↦ l | inr r ↦ absurd (never_both (ready_at s at) settled r) ]
 
@@ -207,7 +208,7 @@ module _ {Past : PastPlaces} {undercut : Option CostOver} (p : Problem) (valid :
     splits = decides (shape_of p) (place_of (cell_at s.pool.payloads at)) m u;
   }
 
-  -- an open leaf is pending where it is settled what it is worth
+  -- an open leaf is pending if its worth is settled
   pub pending : (j : ℕ) → j < length s.pool.payloads → (cell_at s.pool.payloads j).end ≡ leaf untried → IsSettledAt s j → IsPending p (place_of (cell_at s.pool.payloads j))
   pending j lt e settled =
       let o = other j lt e in
@@ -219,20 +220,21 @@ module _ {Past : PastPlaces} {undercut : Option CostOver} (p : Problem) (valid :
             (ready_reached Past p (place_of (cell_at s.pool.payloads j)) o.value o.ready o.known (ap is_settled (sym o.is) ∙ settled));
       }
 
-  -- so it is where of no open leaf a lower bound is all that is known, and this one is not refuted
+  -- the same if no open leaf is one of which only a lower bound is known, and this one is not
+  -- refuted
   pub pending_or : AreSettled s → (j : ℕ) → j < length s.pool.payloads → (cell_at s.pool.payloads j).end ≡ leaf untried → refutation_of (ready_at s j) ≡ None → IsPending p (place_of (cell_at s.pool.payloads j))
   pending_or all j lt e lives =
       let o = other j lt e in
       pending j lt e (ap is_settled o.is ∙ else_settled o.ready (ap is_put_off (sym o.is) ∙ all j lt e) (ap refutation_of (sym o.is) ∙ lives))
 
-  -- the value that the pool has is the one at hand
+  -- the value that the pool has is the stored one
   value_here : (v : Mixed) → slice_get s.pool.values at ≡ Some v → at_hand.value ≡ v
   value_here v e = let q : Some at_hand.value ≡ Some v = sym at_hand.value_is ∙ e in cc
 
   same_value : (v : Mixed) → slice_get s.pool.values at ≡ Some v → (j : ℕ) (u : Mixed) → j ≡ at → slice_get s.pool.values j ≡ Some u → v ≡ u
   same_value v e j u same i = let q : Some v ≡ Some u = sym e ∙ (ap (λ k. slice_get s.pool.values k) (sym same) ∙ i) in cc
 
-  -- where a network costs no more than the least value, it costs no more than any
+  -- if a network costs no more than the least value, it costs no more than any
   pub beaten_by : HasLeastValue s at → (v : Mixed) → slice_get s.pool.values at ≡ Some v → (w : claims.Network) → IsPositive (cost_in w) → IsNoMore (cost_in w) (cost_over v) → AreBeaten s w
   beaten_by has_least v e w positive h = record {
     each = λ j u open_j i. elim (cases_eq j at) [
@@ -369,7 +371,7 @@ module _ {Past : PastPlaces} {undercut : Option CostOver} (p : Problem) (valid :
               (hand_more Past p (slice_set s.pool.payloads at now) s.pool.values freed new.ready
               (hand_freed Past p s.pool.payloads s.pool.values s.ready freed at now g.ready there untried_there refl frees) c.nodes.items gs c.ready.items placed h))
 
-          -- what is at hand for another open leaf stays
+          -- what is stored for another open leaf stays
           ready_kept : (j : ℕ) → j < length s.pool.payloads → (j ≡ at → ⊥) → (cell_at s.pool.payloads j).end ≡ leaf untried → (r : Ready) → ready_at s j ≡ Some r → ready_at new j ≡ Some r
           ready_kept j lt ne e r is =
               ap (λ (d : Cell). get new.ready d.key) (branched.others j lt ne)
@@ -437,7 +439,7 @@ module _ {Past : PastPlaces} {undercut : Option CostOver} (p : Problem) (valid :
         more_now u positive of_use new m choice few b.seen b.are_seen b.children b.freed b.frees b.placed b.wide b.cells b.values b.best b.fallen b.fallen_found b.some_best b.numbered b.open_after b.start b.budget b.nodes,
       )
 
-      -- so it does where the best network is to be undercut
+      -- so it does if the best network is to be undercut
       pub branched_step : LeafUndercuts s (claimed_cost (claim_with s.best)) at → (new : Growing) (m : Choice) (choice : IsChoice (shape_of p) (place_of (cell_at s.pool.payloads at)) m)
           → length s.pool.payloads + option_count m ≤ s.budget → IsBranching Past p (place_of (cell_at s.pool.payloads at)) s new at (way_of m)
           → GoesOn Past p new new.stop × (length s.pool.payloads < length new.pool.payloads)

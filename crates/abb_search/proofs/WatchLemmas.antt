@@ -1,4 +1,4 @@
--- The open leaf behind another one is open.
+-- The open leaf that follows another one is open.
 use Rattle.std.proofs.Common.{◌≡◌, ℕ, ◌==◌, Bool, true, false, cond, List, [], ◌∷◌, Option, Some, None, refl, sym, ap, ◌∙◌}
 use Rattle.std.proofs.lemmas.Bool.{or_right}
 use Rattle.link_lists.specs.Lists.{has, first, following}

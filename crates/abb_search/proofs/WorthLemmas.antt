@@ -1,5 +1,5 @@
--- What a node is worth whose least cost is known, or lies in an interval, or is bounded from below alone, and what it is worth where it
--- is refuted.
+-- The worth of a node: its least cost is known, or lies in an interval, or has a lower bound only,
+-- or the node is refuted.
 use Rattle.std.proofs.Common.{◌≡◌, ℕ, ℤ, true, false, List, Option, Some, None, refl, sym, subst, arith, true≢false}
 use Rattle.std.specs.Prelude.{is_some}
 use Rattle.std.proofs.lemmas.Int.{ints}
@@ -34,7 +34,7 @@ mixed_positive v = let h = denominator_positive v in omega (arith, ints)
 pub refuted_empty : (p : Problem) (n : Node) (ys : List ℤ) → IsRefuted p n ys → (z : ℕ → ℤ) (d : ℤ) → IsRelaxed (net_of p) n z d → ⊥
 refuted_empty p n ys h z d flows = refuted_is_empty p n (multiplier p n ys) h.refutes z d flows
 
--- so each node is no dearer
+-- so no node costs more
 pub dearer_refuted : (p : Problem) (n m : Node) (ys : List ℤ) → IsRefuted p m ys → IsNoDearer p n m
 dearer_refuted p n m ys h z d flows = absurd (refuted_empty p m ys h z d flows)
 
@@ -59,7 +59,8 @@ settled_lives (Some q) s = by q.worth s
     by (Settled b) s = refl
     by (Refuted ys) s = absurd (true≢false (sym s))
 
--- what is put off is neither settled nor refuted, and what is neither put off nor refuted is settled
+-- what is put off is neither settled nor refuted, and what is neither put off nor refuted is
+-- settled
 pub put_off_waits : (o : Option Ready) → is_put_off o ≡ true → is_settled o ≡ false
 put_off_waits None a = absurd (true≢false (sym a))
 put_off_waits (Some q) a = by q.worth a
@@ -86,7 +87,7 @@ else_settled q a r = by q.worth a r
     by (Settled b) a r = refl
     by (Refuted ys) a r = absurd (let q : Some ys ≡ None = r in cc)
 
--- where an interval is known it is settled what the leaf is worth
+-- if an interval is known, the worth of the leaf is settled
 pub interval_settled : (o : Option Ready) (i : Interval) → interval_of o ≡ Some i → is_settled o ≡ true
 interval_settled None i e = absurd (let q : None ≡ Some i = e in cc)
 interval_settled (Some q) i e = by q.worth e
@@ -107,7 +108,7 @@ module _ (Past : PastPlaces) (p : Problem) (n : Node) where
   worth_reached v None h = h.reached
   worth_reached v (Some r) h = h.1
 
-  -- a number of the program is past the range where an interval is known
+  -- a number of the program overflows if an interval is known
   pub worth_stop : (v : Mixed) (i : Option Interval) (r : Interval) → i ≡ Some r → IsWorthAs Past p n v i → Past p n r.stop.nonbasic r.stop.place
   worth_stop v i r e h = let k : IsWorthAs Past p n v (Some r) = subst (λ (o : Option Interval). IsWorthAs Past p n v o) e h in k.2
 
@@ -140,7 +141,7 @@ module _ (Past : PastPlaces) (p : Problem) (n : Node) where
       pub ready_under : IsUnder p (cost_over v) n
       ready_under = known_under r.worth k.worth
 
-      -- where it is settled what the leaf is worth, some cost at most what is reached
+      -- if the worth of the leaf is settled, some cost at most what is reached
       pub ready_reached : is_settled (Some r) ≡ true → HasCheaper p n (numerator (reached_by v (interval_of (Some r)))) (denominator (reached_by v (interval_of (Some r))))
       ready_reached e = known_reached r.worth k.worth e
 

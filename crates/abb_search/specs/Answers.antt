@@ -15,7 +15,7 @@ use Rattle.abb_search.specs.declared.growing.StoppedLeaf.{StoppedLeaf}
 use Rattle.abb_search.specs.Growing.{IsGoing}
 use Rattle.abb_search.specs.Found.{IsFoundBy}
 
--- what is found where a leaf stops the search
+-- what is found if a leaf stops the search
 abbrev pub past_with : Option claims.Network → Option StoppedLeaf → Tree → ℕ → Option Found
 past_with best None tree place = None
 past_with best (Some h) tree place = Some (Past best tree place h.stop.nonbasic h.stop.place)
@@ -28,12 +28,12 @@ network_in (Spent best tree next options) = best
 network_in (Past best tree node nonbasic place) = best
 network_in Memory = None
 
--- an answer has a network that costs no more than this one, where there is one
+-- an answer has a network that costs no more than this one, if there is one
 abbrev pub IsAgainst : Option claims.Network → Found → Type 0
 IsAgainst best Memory = Unit {0}
 IsAgainst best found = HasFallen (cost_of best) (cost_of (network_in found))
 
--- the search goes on with more nodes, and its network is no dearer
+-- the search goes on with more nodes, and its network costs no more
 pub record IsMore (Stops : PastPlaces) (p : Problem) (old new : Growing) : Type 0 where
   pub going : IsGoing Stops p new
   pub more : length old.pool.payloads < length new.pool.payloads
@@ -42,7 +42,7 @@ pub record IsMore (Stops : PastPlaces) (p : Problem) (old new : Growing) : Type 
   pub start : new.start ≡ old.start
   pub budget : new.budget ≡ old.budget
 
--- or it ends, with the nodes that there are
+-- or it ends, with the same number of nodes
 pub record IsEnd (Stops : PastPlaces) (p : Problem) (old new : Growing) (found : Found) : Type 0 where
   pub is_found : IsFoundBy Stops p (node_of old.start) old.budget found
   pub answers : found ≡ Memory → ⊥

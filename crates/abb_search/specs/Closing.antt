@@ -1,4 +1,4 @@
--- What shuts the open leaves, where a network costs no more than any of them, or where they are refuted.
+-- What shuts the open leaves, if a network costs no more than any of them, or if they are refuted.
 use Rattle.std.specs.Prelude.{◌≡◌, ℕ, ◌+◌, ℤ, ◌<◌, true, length, cond, List, Option, Some, None, slice_index_or}
 use Rattle.std.specs.List.{slice_get}
 use Rattle.link_lists.specs.Lists.{has}
@@ -38,7 +38,7 @@ use Rattle.abb_search.specs.Growing.{IsSettledAt, IsStoppedAt}
 pub record AreBeaten (s : Growing) (w : claims.Network) : Type 0 where
   pub each : (j : ℕ) (v : Mixed) → has s.pool.leaves j ≡ true → slice_get s.pool.values j ≡ Some v → IsNoMore (cost_in w) (cost_over v)
 
--- what is at hand for a node, where it is an open leaf
+-- what is stored for a node, if it is an open leaf
 abbrev pub hand_of : Growing → ℕ → Option Ready
 hand_of s j = cond (is_open (cell_at s.pool.payloads j).end) (get s.ready (cell_at s.pool.payloads j).key) None
 
@@ -50,7 +50,7 @@ pub record ProvesLeaf (p : Problem) (claimed : Option CostOver) (n : Node) (m : 
   pub scale : InRange m.d
   pub multipliers : AllInRange m.ys
 
--- these prove that the node has none
+-- these multipliers prove that the node has no relaxed flows
 pub record RefutesLeaf (p : Problem) (n : Node) (ys : List ℤ) : Type 0 where
   pub refuted : IsRefuted p n ys
   pub multipliers : AllInRange ys
@@ -59,27 +59,27 @@ abbrev pub ShutsNode : Problem → Option CostOver → Node → Shut → Type 0
 ShutsNode p claimed n (shuts.Bounded m) = ProvesLeaf p claimed n m
 ShutsNode p claimed n (shuts.Refuted ys) = RefutesLeaf p n ys
 
--- nothing need shut the cell where it is no open leaf
+-- a cell that is no open leaf may go without
 abbrev pub ShutsLeaf : Problem → Option CostOver → Cell → Option Shut → Type 0
 ShutsLeaf p claimed c None = c.end ≡ leaf untried → ⊥
 ShutsLeaf p claimed c (Some m) = ShutsNode p claimed (place_of c) m
 
--- all open leaves are shut, each by what stands at its number
+-- all open leaves are shut, each by the item at its number
 abbrev pub ShutAll : Problem → Growing → Option CostOver → List (Option Shut) → Type 0
 ShutAll p s claimed ms = (j : ℕ) → j < length s.pool.payloads → ShutsLeaf p claimed (cell_at s.pool.payloads j) (slice_index_or ms j None)
 
--- what shuts a leaf shuts its node, and nothing need
+-- what shuts a leaf shuts its node; no leaf has to be shut
 abbrev pub ShutsIfSome : Problem → Option CostOver → Node → Option Shut → Type 0
 ShutsIfSome p claimed n None = Unit {0}
 ShutsIfSome p claimed n (Some m) = ShutsNode p claimed n m
 
--- some leaves may be shut, each by what stands at its number
+-- some leaves may be shut, each by the item at its number
 abbrev pub ShutSome : Problem → Growing → Option CostOver → List (Option Shut) → Type 0
 ShutSome p s claimed ms = (j : ℕ) → j < length s.pool.payloads → ShutsIfSome p claimed (place_of (cell_at s.pool.payloads j)) (slice_index_or ms j None)
 
--- ---- where a network costs no more than any open leaf
+-- ---- if a network costs no more than any open leaf
 
--- what is answered for one node, and for all: what shuts it, or that a number is past the range there
+-- what is answered for one node, and for all: what shuts it, or that a number overflows there
 abbrev pub IsShutBy : PastPlaces → Problem → Growing → CostOver → ℕ → Shutting → Type 0
 IsShutBy Past p s cost j (shuttings.By m) = ShutsLeaf p (Some cost) (cell_at s.pool.payloads j) m
 IsShutBy Past p s cost j (shuttings.Stopped h) = IsStoppedAt Past p s j h × IsSettledAt s j
@@ -97,9 +97,9 @@ abbrev pub IsInRange : Proof → Type 0
 IsInRange (proofs.Scaled m) = InRange m.d × AllInRange m.ys
 IsInRange (proofs.Stopped h) = Unit {0}
 
--- ---- where leaves are refuted
+-- ---- leaves that are refuted
 
--- what shuts a leaf with these multipliers of a refutation, where there are some
+-- what shuts a leaf with these multipliers of a refutation, if there are some
 abbrev pub refuted_by : Option (List ℤ) → Option Shut
 refuted_by None = None
 refuted_by (Some ys) = Some (shuts.Refuted ys)
@@ -108,15 +108,15 @@ abbrev pub AreInRange : Option (List ℤ) → Type 0
 AreInRange None = Unit {0}
 AreInRange (Some ys) = AllInRange ys
 
--- at the number of each open leaf that is refuted stands its refutation, and nothing at the others
+-- each open leaf that is refuted has its refutation at its number, and the others have nothing
 abbrev pub RefutedShut : Growing → List (Option Shut) → Type 0
 RefutedShut s ms =
     (j : ℕ) → j < length s.pool.payloads → (slice_index_or ms j None ≡ refuted_by (refutation_of (hand_of s j))) × AreInRange (refutation_of (hand_of s j))
 
--- ---- where the budget is spent
+-- ---- the budget is spent
 
--- with some open leaves shut, all others are pending; the leaf is one of these, a least one, which may undercut the cost, and the nodes
--- with its children are more than the budget
+-- With some open leaves shut, all others are pending. The leaf is one of these, and a least open
+-- one. It may undercut the cost, and the nodes with its children are more than the budget.
 pub record IsSpentFor (p : Problem) (undercut : Option CostOver) (s : Growing) (ms : List (Option Shut)) (at options : ℕ) : Type 0 where
   pub shut : ShutSome p s undercut ms
   pub stays : slice_index_or ms at None ≡ None

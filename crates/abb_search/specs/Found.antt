@@ -1,4 +1,5 @@
--- What a search finds: a claim with the tree that proves it, or the tree as far as it came and where it stopped.
+-- What a search finds: a claim with the tree that proves it, or the tree so far with its stop.
+-- stopped.
 use Rattle.std.specs.Prelude.{ℕ, Option, Some, None}
 use Rattle.problem_rules.specs.Problem.{Problem}
 use Rattle.pns_rules.specs.Nodes.{Node}
@@ -19,7 +20,7 @@ abbrev pub found_with : Option claims.Network → Tree → Found
 found_with None tree = Infeasible tree
 found_with (Some w) tree = Solved w tree
 
--- `Stops` tells at which places an evaluator of nodes goes past the range
+-- `Stops` says at which places an evaluator of nodes overflows
 abbrev pub IsFoundBy : PastPlaces → Problem → Node → ℕ → Found → Type 0
 IsFoundBy Stops p start budget (Solved w tree) = IsProved p start (claims.network w) tree
 IsFoundBy Stops p start budget (Infeasible tree) = IsProved p start claims.infeasible tree
@@ -29,6 +30,6 @@ IsFoundBy Stops p start budget (Past best tree node nonbasic place) =
     IsStopped p start (claim_with best) tree × IsPast p IsUntried start tree (λ n. Stops p n nonbasic place) node
 IsFoundBy Stops p start budget Memory = Unit {0}
 
--- what a search finds that the simplex method bounds
+-- what a search over the simplex method finds
 abbrev pub IsFound : Problem → Node → ℕ → Found → Type 0
 IsFound p start budget found = IsFoundBy IsPastAt p start budget found

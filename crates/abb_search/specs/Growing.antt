@@ -37,8 +37,8 @@ use Rattle.abb_search.specs.Hand.{AreAtHand, IsPlaced, ArePlaced}
 use Rattle.abb_search.specs.declared.growing.Growing.{Growing}
 use Rattle.abb_search.specs.declared.growing.StoppedLeaf.{StoppedLeaf}
 
--- the tree is one that a search keeps for networks that undercut a cost, with numbers that the problem knows; the best network
--- passes, and there is one where a leaf is bounded
+-- The tree is one that a search keeps for networks that undercut a cost, and its numbers are known
+-- to the problem. The best network passes, and there is one if a leaf is bounded.
 pub record IsTreeKeptFor (p : Problem) (undercut : Option CostOver) (s : Growing) : Type 0 where
   pub last : Option Node
   pub kept : IsKeptFor p (node_of s.start) (claim_with s.best) undercut last s.pool.payloads
@@ -49,16 +49,17 @@ pub record IsTreeKeptFor (p : Problem) (undercut : Option CostOver) (s : Growing
   pub few : length s.pool.payloads ≤ s.budget
   pub numbered : length s.pool.payloads < 2 ^ 32 - 1
 
--- what is at hand under the leaf's key
+-- what is stored under the leaf's key
 abbrev pub ready_at : Growing → ℕ → Option Ready
 ready_at s at = get s.ready (cell_at s.pool.payloads at).key
 
--- each leaf of the pool is open, and each open leaf is one of the pool or is refuted, though its cell stays open
+-- each leaf of the pool is open, and each open leaf is one of the pool or is refuted, though its
+-- cell stays open
 pub record AreOpen (s : Growing) : Type 0 where
   pub opens : (j : ℕ) → j < length s.pool.payloads → has s.pool.leaves j ≡ true → (cell_at s.pool.payloads j).end ≡ leaf untried
   pub others : (j : ℕ) → j < length s.pool.payloads → (cell_at s.pool.payloads j).end ≡ leaf untried → (has s.pool.leaves j ≡ true) ⊎ (is_refuted (ready_at s j) ≡ true)
 
--- and all is at hand for each open leaf
+-- and each open leaf has its data stored
 pub record IsGrowingFor (Past : PastPlaces) (p : Problem) (undercut : Option CostOver) (s : Growing) : Type 0 where
   pub tree : IsTreeKeptFor p undercut s
   pub are_open : AreOpen s
@@ -76,7 +77,7 @@ abbrev pub choice_of : Option Ready → Choice
 choice_of None = choices.Unit 0
 choice_of (Some r) = r.choice
 
--- no open leaf has a lesser value than this one
+-- no open leaf has a smaller value than this one
 abbrev pub HasLeastValue : Growing → ℕ → Type 0
 HasLeastValue s at =
     (v : Mixed) → slice_get s.pool.values at ≡ Some v → (j : ℕ) → has s.pool.leaves j ≡ true → (j ≡ at → ⊥) → (w : Mixed) → slice_get s.pool.values j ≡ Some w
@@ -84,7 +85,7 @@ HasLeastValue s at =
 
 -- ---- which leaf may be branched
 
--- it is settled what the leaf is worth, and that it has relaxed flows
+-- the worth of the leaf is settled, and it has relaxed flows
 abbrev pub IsSettledAt : Growing → ℕ → Type 0
 IsSettledAt s at = is_settled (ready_at s at) ≡ true
 
@@ -92,7 +93,7 @@ pub record HasInterval (s : Growing) (at : ℕ) : Type 0 where
   pub interval : Interval
   pub is : interval_of (ready_at s at) ≡ Some interval
 
--- what some relaxed flows of a leaf cost at most, where it is settled what it is worth: the value, or what the interval reaches
+-- what some relaxed flows of a settled leaf cost at most: the value, or what the interval reaches
 abbrev pub reached_by : Mixed → Option Interval → Mixed
 reached_by value None = value
 reached_by value (Some r) = r.reached
@@ -102,13 +103,13 @@ pub record IsReachedAt (s : Growing) (at : ℕ) (reached : Mixed) : Type 0 where
   pub value_is : slice_get s.pool.values at ≡ Some value
   pub reached_is : reached ≡ reached_by value (interval_of (ready_at s at))
 
--- where it is settled what the leaf is worth, some relaxed flows of it cost at most any other open leaf's value
+-- some relaxed flows of the leaf, if it is settled, cost at most any other open leaf's value
 abbrev pub IsLeastLeaf : Growing → ℕ → Type 0
 IsLeastLeaf s at =
     (v : Mixed) → slice_get s.pool.values at ≡ Some v → (j : ℕ) → has s.pool.leaves j ≡ true → (j ≡ at → ⊥) → (w : Mixed) → slice_get s.pool.values j ≡ Some w
     → IsNoMore (cost_over (reached_by v (interval_of (ready_at s at)))) (cost_over w)
 
--- the interval reaches more than the value of the leaf behind it in the order of the open leaves
+-- the interval reaches more than the value of the next leaf in the order of the open leaves
 pub record IsHeldUp (s : Growing) (at : ℕ) : Type 0 where
   pub behind : ℕ
   pub is_behind : second s.pool.leaves ≡ Some behind
@@ -124,7 +125,7 @@ LeafUndercuts s undercut at =
 
 -- ---- a leaf that stops the search
 
--- where the path of a leaf stops that may not be branched, since its least cost is past the range
+-- the leaf as one that stops the search, if its least cost overflows: it may not be branched
 abbrev pub interval_stop : ℕ → Option Interval → Option StoppedLeaf
 interval_stop at None = None
 interval_stop at (Some r) = Some (record { leaf = at; stop = r.stop })
@@ -139,7 +140,7 @@ pub record IsStoppedAt (Past : PastPlaces) (p : Problem) (s : Growing) (at : ℕ
   pub is_open : (cell_at s.pool.payloads at).end ≡ leaf untried
   pub stopped : IsStop Past p (place_of (cell_at s.pool.payloads at)) h
 
--- between two turns: all is at hand for each open leaf, or one stops the search
+-- between two turns: each open leaf has its data stored, or one stops the search
 abbrev pub GoesOnFor : PastPlaces → Problem → Option CostOver → Growing → Option StoppedLeaf → Type 0
 GoesOnFor Past p undercut s None = IsGrowingFor Past p undercut s
 GoesOnFor Past p undercut s (Some h) = IsTreeKeptFor p undercut s × IsStoppedAt Past p s h.leaf h.stop
@@ -168,7 +169,8 @@ abbrev pub root_stop : Option PastStop → Option StoppedLeaf
 root_stop None = None
 root_stop (Some h) = Some (record { leaf = 0; stop = h })
 
--- the tree is the root as it is seen, and the best network is the cheaper one of that to be undercut and that found there
+-- the tree is the root after its look, and the best network is the cheaper one of that to be
+-- undercut and that found there
 pub record IsLookedRoot (Past : PastPlaces) (p : Problem) (start : starts.Node) (budget : ℕ) (best : Option claims.Network) (s : Growing) : Type 0 where
   pub looked : Looked
   pub is_looked : IsLooked Past p (node_of start) [] looked
@@ -189,7 +191,7 @@ pub record IsLookedRoot (Past : PastPlaces) (p : Problem) (start : starts.Node) 
 
 -- ---- what stays
 
--- the nodes and all that is kept with them are as before; only the room that stands ready may be more
+-- the nodes and all that is kept with them are as before; only the reserved room may be more
 pub record IsSameButRoom (old new : Growing) : Type 0 where
   pub start : new.start ≡ old.start
   pub budget : new.budget ≡ old.budget
@@ -199,8 +201,8 @@ pub record IsSameButRoom (old new : Growing) : Type 0 where
   pub best : new.best ≡ old.best
   pub stop : new.stop ≡ old.stop
 
--- the nodes and the best network are as before. Values, what is at hand, and which open leaves the pool has may be others, and what a
--- search keeps of them holds again.
+-- The nodes and the best network are as before. Values, what is stored, and which open leaves the
+-- pool has may have changed, but what a search keeps of them holds again.
 pub record IsSame (Past : PastPlaces) (p : Problem) (old new : Growing) : Type 0 where
   pub start : new.start ≡ old.start
   pub budget : new.budget ≡ old.budget
@@ -210,7 +212,7 @@ pub record IsSame (Past : PastPlaces) (p : Problem) (old new : Growing) : Type 0
   pub stop : new.stop ≡ old.stop
   pub growing : (undercut : Option CostOver) → IsGrowingFor Past p undercut old → IsGrowingFor Past p undercut new
 
--- all but what is at hand for the open leaves is as before
+-- all is as before but what is stored for the open leaves
 pub record IsSameButHand (old new : Growing) : Type 0 where
   pub start : new.start ≡ old.start
   pub budget : new.budget ≡ old.budget
@@ -225,8 +227,8 @@ abbrev pub stop_at : ℕ → Option StoppedAt → Option StoppedLeaf
 stop_at first None = None
 stop_at first (Some h) = Some (record { leaf = first + h.at; stop = h.stop })
 
--- leaf `at` is branched in this way, at the node n, and its children are as they are seen, with keys; the best network is then
--- the cheaper one of the two
+-- Leaf `at` is branched in this way, at the node n, and its children are as they are seen, with
+-- keys. The best network is then the cheaper one of the two.
 pub record IsBranching (Past : PastPlaces) (p : Problem) (n : Node) (old new : Growing) (at : ℕ) (w : Way) : Type 0 where
   pub seen : Children
   pub are_seen : AreSeen Past p n w seen

@@ -30,7 +30,8 @@ abbrev pub undercut_of : Goal → Growing → Option CostOver
 undercut_of goals.Best s = claimed_cost (claim_with s.best)
 undercut_of (goals.Given w) s = cost_of (option_copied w)
 
--- the network is the one to be undercut, and costs no more than the value; or the value is at most what is to be undercut
+-- the network is the one to be undercut, and costs no more than the value; or the value is at most
+-- what is to be undercut
 abbrev pub IsBeating : Option CostOver → Mixed → Option Network → Type 0
 IsBeating undercut value None = IsAtMost undercut (numerator value) (denominator value)
 IsBeating undercut value (Some w) = (undercut ≡ Some (cost_in w)) × IsNoMore (cost_in w) (cost_over value)
@@ -39,13 +40,14 @@ IsBeating undercut value (Some w) = (undercut ≡ Some (cost_in w)) × IsNoMore 
 abbrev pub ValueUndercuts : Growing → Option CostOver → ℕ → Type 0
 ValueUndercuts s undercut at = (v : Mixed) → slice_get s.pool.values at ≡ Some v → IsAtMost undercut (numerator v) (denominator v)
 
--- where the network that is to be undercut costs no more than any open leaf: all of these are shut; or a number is past the range at a
--- settled one, which is a least one where it has relaxed flows that cost at most what is to be undercut
+-- If the network that is to be undercut costs no more than any open leaf, all of these are shut; or
+-- a number overflows at a settled one. That one is a least leaf if it has relaxed flows that cost
+-- at most what is to be undercut.
 abbrev pub ClosingHolds : PastPlaces → Problem → Growing → Option CostOver → Closing → Type 0
 ClosingHolds Past p s undercut (Proved ms) = ShutAll p s undercut ms.items
 ClosingHolds Past p s undercut (Stopped h) = IsStoppedAt Past p s h.leaf h.stop × IsSettledAt s h.leaf × (LeafUndercuts s undercut h.leaf → IsLeastLeaf s h.leaf)
 
--- so it is, or the value of the leaf is at most what is to be undercut
+-- that holds, or the value of the leaf is at most what is to be undercut
 abbrev pub IsClosing : PastPlaces → Problem → Growing → Option CostOver → ℕ → Option Closing → Type 0
 IsClosing Past p s undercut at None = ValueUndercuts s undercut at
 IsClosing Past p s undercut at (Some closing) = ClosingHolds Past p s undercut closing
@@ -56,8 +58,8 @@ EndsWith Past p s undercut (endings.Whole proofs) = ShutAll p s undercut proofs.
 EndsWith Past p s undercut (endings.Spent at options refuted) = IsSpentFor p undercut s refuted.items at options
 EndsWith Past p s undercut (endings.Past h) = IsStoppedAt Past p s h.leaf h.stop
 
--- the leaf is open, it is settled what it is worth, and it has relaxed flows that cost at most any other open leaf's value, and at most
--- what is to be undercut
+-- the leaf is open, its worth is settled, and it has relaxed flows that cost at most any other open
+-- leaf's value, and at most what is to be undercut
 pub record IsNextLeaf (s : Growing) (undercut : Option CostOver) (at : ℕ) : Type 0 where
   pub is_open : has s.pool.leaves at ≡ true
   pub settled : IsSettledAt s at
@@ -69,8 +71,8 @@ pub record FitsBudget (s : Growing) (at : ℕ) : Type 0 where
   pub within : length s.pool.payloads + option_count (choice_of (ready_at s at)) ≤ s.budget
   pub numbered : s.budget < 2 ^ 32
 
--- the leaf is open, its least cost is past the range, and its interval reaches more than the value of the leaf behind it, or than what is
--- to be undercut
+-- the leaf is open, its least cost overflows, and its interval reaches more than the value of the
+-- next leaf in the pool's order, or than what is to be undercut
 pub record IsStopLeaf (s : Growing) (undercut : Option CostOver) (at : ℕ) : Type 0 where
   pub is_open : has s.pool.leaves at ≡ true
   pub past : HasInterval s at
@@ -82,12 +84,13 @@ IsNext Past p s undercut (nexts.Branch at) = IsNextLeaf s undercut at × FitsBud
 IsNext Past p s undercut (nexts.Stop at) = IsStopLeaf s undercut at
 IsNext Past p s undercut (nexts.End ending) = EndsWith Past p s undercut ending
 
--- what a round leads to: fewer leaves wait for what they are worth to be settled, or it stands what a turn does next
+-- what a round leads to: fewer leaves wait for their worth to be settled, or it is known what a
+-- turn does next
 abbrev pub RoundHolds : PastPlaces → Problem → Growing → Growing → Option CostOver → Option Next → Type 0
 RoundHolds Past p old new undercut None = waiting new < waiting old
 RoundHolds Past p old new undercut (Some next) = IsNext Past p new undercut next
 
--- the search ends where a number is past the range at a leaf that was to be settled
+-- the search ends if a number overflows at a leaf that was to be settled
 abbrev pub ends_at : Option StoppedLeaf → Option Next
 ends_at None = None
 ends_at (Some h) = Some (nexts.End (endings.Past h))

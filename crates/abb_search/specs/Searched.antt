@@ -23,8 +23,8 @@ use Rattle.abb_search.specs.Found.{IsFoundBy}
 use Rattle.abb_search.specs.Answers.{IsAgainst}
 use Rattle.abb_search.specs.Growing.{open_cell, IsTreeKept, IsGoing}
 
--- the problem, the node that the search starts from, the most nodes that it may take, its nodes in the order of adding, the
--- cheapest network that it found, and whether it ended
+-- the problem, the node that the search starts from, the most nodes that it may take, its nodes in
+-- the order of adding, the cheapest network that it found, and whether it ended
 pub record Searched : Type 0 where
   pub problem : Problem
   pub start : Node
@@ -33,7 +33,7 @@ pub record Searched : Type 0 where
   pub best : Option claims.Network
   pub ended : Bool
 
--- a search before its first turn, against a network where one is handed in
+-- a search before its first turn, against a network if one is given
 abbrev pub opened : Problem → Node → ℕ → Option claims.Network → Searched
 opened p start budget best = record { problem = p; start = start; budget = budget; cells = open_cell start ∷ []; best = best; ended = false }
 
@@ -45,7 +45,7 @@ pub record IsSameSearch (old new : Searched) : Type 0 where
   pub start : new.start ≡ old.start
   pub budget : new.budget ≡ old.budget
 
--- the search goes on, its nodes are more, and its network is no dearer
+-- the search goes on with more nodes, and its network costs no more
 pub record GoesOn (old new : Searched) : Type 0 where
   pub same : IsSameSearch old new
   pub more : length old.cells < length new.cells
@@ -54,7 +54,7 @@ pub record GoesOn (old new : Searched) : Type 0 where
   pub fallen : HasFallen (cost_of old.best) (cost_of new.best)
   pub positive : IsPositiveCost (cost_of new.best)
 
--- the search ends with one of the first four answers, and its nodes are as many as before
+-- the search ends with one of the first four answers, and has as many nodes as before
 pub record HasEnded (Past : PastPlaces) (old new : Searched) (found : Found) : Type 0 where
   pub same : IsSameSearch old new
   pub is_found : IsFoundBy Past old.problem (node_of old.start) old.budget found

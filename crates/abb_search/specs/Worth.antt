@@ -1,11 +1,11 @@
--- What is known of what an open leaf is worth, as it is at hand.
+-- What is known of the worth of an open leaf, as it is stored.
 use Rattle.std.specs.Prelude.{ℤ, Bool, true, false, List, Option, Some, None, is_some}
 use Rattle.node_evaluation.specs.declared.evaluator.Interval.{Interval}
 use Rattle.node_evaluation.specs.declared.looks.Worth.{Worth}
 use Rattle.node_evaluation.specs.declared.looks.Worth.TheVariants.{AtLeast, Settled, Refuted}
 use Rattle.node_evaluation.specs.declared.looks.Ready.{Ready}
 
--- the interval that its least cost lies in, where this is past the range
+-- the interval that its least cost lies in, if this overflows
 abbrev pub interval_in : Worth → Option Interval
 interval_in (AtLeast b) = None
 interval_in (Settled b) = b.interval
@@ -28,7 +28,7 @@ refutation_of (Some r) = refutation_in r.worth
 abbrev pub is_refuted : Option Ready → Bool
 is_refuted r = is_some (refutation_of r)
 
--- whether it is settled what the leaf is worth, and that it has relaxed flows
+-- whether the worth of the leaf is settled, and it has relaxed flows
 abbrev pub is_settled_worth : Worth → Bool
 is_settled_worth (AtLeast b) = false
 is_settled_worth (Settled b) = true
@@ -38,7 +38,7 @@ abbrev pub is_settled : Option Ready → Bool
 is_settled None = false
 is_settled (Some r) = is_settled_worth r.worth
 
--- whether a lower bound is all that is known
+-- whether only a lower bound is known
 abbrev pub is_put_off_worth : Worth → Bool
 is_put_off_worth (AtLeast b) = true
 is_put_off_worth (Settled b) = false

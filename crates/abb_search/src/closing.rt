@@ -1,5 +1,4 @@
-//! What shuts the open leaves, where a network costs no more than any of them, or where they are
-//! refuted.
+//! What shuts the open leaves, if a network costs no more than any of them, or if they are refuted.
 ghost use Rattle.std.specs.Prelude.{◌≡◌, ◌<◌, ℕ, false, None, length, IfOk, Option, option_copied};
 ghost use Rattle.pns_rules.specs.Shape.{shape_of};
 ghost use Rattle.pns_rules.specs.Ends.{IsSound, IsReduced};
@@ -24,20 +23,20 @@ use unit_sets::Node;
 pub enum Closing {
     /// What shuts each open leaf, by its number.
     Proved(Vec<Option<Shut>>),
-    /// A number overflows at an open leaf of which it is settled what it is worth.
+    /// A number overflows at an open leaf whose worth is settled.
     Stopped(StoppedLeaf),
 }
 
 /// What shuts one node.
 #[derive(Drop)]
 enum Shutting {
-    /// This shuts it, or nothing, where it is no open leaf.
+    /// This shuts it, or nothing if it is no open leaf.
     By(Option<Shut>),
     /// A number overflows there.
     Stopped(PastStop),
 }
 
-// The numbers of multipliers are in range. A call tells a proof so, and does nothing.
+// The numbers of multipliers are in range. A call proves this, and does nothing.
 fn is_in_range(proof: &Proof)
     ensures { IsInRange proof.now }
 {
@@ -47,8 +46,8 @@ fn is_in_range(proof: &Proof)
     }
 }
 
-/// What proves that a node is worth no less than the network's cost: the multipliers at hand where
-/// they reach it, else what the evaluator proves.
+/// What proves that a node is worth no less than the network's cost: the multipliers of its bound
+/// if that reaches the cost, else what the evaluator proves.
 fn proof_for<E: Evaluator>(
     workspace: &mut Workspace<E>,
     site: &Site<'_>,
@@ -75,7 +74,7 @@ fn proof_for<E: Evaluator>(
         .prove(workspace.alloc, site, node, network)
 }
 
-/// What is at hand for a node, where it is an open leaf.
+/// What is stored for a node, if it is an open leaf.
 pub(crate) fn hand_at(growing: &Growing, leaf: u32) -> Option<&Ready>
     requires { leaf < length growing.now.pool.payloads }
     ensures { option_copied result ≡ hand_of growing.now leaf }
@@ -99,7 +98,7 @@ fn shut_by(proof: Proof) -> Shutting
     }
 }
 
-/// What shuts a node, where it is an open leaf.
+/// What shuts a node, if it is an open leaf.
 fn shut_at<E: Evaluator>(
     workspace: &mut Workspace<E>,
     site: &Site<'_>,
@@ -139,7 +138,7 @@ fn shut_at<E: Evaluator>(
     }
 }
 
-/// What shuts each open leaf; or the first of them at which a number overflows. `Err` comes when
+/// What shuts each open leaf; or the first of them at which a number overflows. `Err` comes if
 /// memory is refused.
 pub fn close_all<E: Evaluator>(
     workspace: &mut Workspace<E>,
@@ -165,7 +164,7 @@ pub fn close_all<E: Evaluator>(
     Ok(Closing::Proved(proofs))
 }
 
-/// The multipliers of a refutation, where there are some.
+/// The multipliers of a refutation, if there are some.
 fn refutation_in(worth: &Worth) -> Option<&Multipliers>
     ensures { option_copied result ≡ refutation_in worth.now }
 {
@@ -175,7 +174,7 @@ fn refutation_in(worth: &Worth) -> Option<&Multipliers>
     }
 }
 
-/// The refutation of a node, where it is an open leaf that is refuted.
+/// The refutation of a node, if it is an open leaf that is refuted.
 fn refutation_at(growing: &Growing, leaf: u32) -> Option<&Multipliers>
     requires { leaf < length growing.now.pool.payloads }
     ensures { option_copied result ≡ refutation_of (hand_of growing.now leaf) }
@@ -197,7 +196,7 @@ fn has_refuted(growing: &Growing) -> bool
     false
 }
 
-/// What shuts a leaf with a refutation, where there is one.
+/// What shuts a leaf with a refutation, if there is one.
 fn refute(alloc: Global, ys: Option<&Multipliers>) -> Result<Option<Shut>, AllocError>
     ensures { IfOk result (λ m. (m ≡ refuted_by (option_copied ys.entry)) × AreInRange (option_copied ys.entry)) }
 {
@@ -211,8 +210,8 @@ fn refute(alloc: Global, ys: Option<&Multipliers>) -> Result<Option<Shut>, Alloc
     }
 }
 
-/// What shuts the open leaves that are refuted, by their numbers. It takes memory only where there
-/// are some; `Err` comes when it is refused.
+/// What shuts the open leaves that are refuted, by their numbers. It takes memory only if there are
+/// some; `Err` comes if it is refused.
 pub fn shut_refuted(alloc: Global, growing: &Growing) -> Result<Vec<Option<Shut>>, AllocError>
     requires { growing.now.nodes ≡ length growing.now.pool.payloads }
     ensures { IfOk result (λ proofs. RefutedShut growing.now proofs.items) }

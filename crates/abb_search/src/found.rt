@@ -20,7 +20,7 @@ pub(crate) struct Placed {
     pub place: u32,
 }
 
-/// A network has a set of units below 128. A call tells a proof so, and does nothing.
+/// A network has a set of units below 128. A call proves this, and does nothing.
 pub(crate) fn is_sized(best: &Option<Network>)
     ensures { IfSome best.now IsSized }
 {
@@ -29,8 +29,8 @@ pub(crate) fn is_sized(best: &Option<Network>)
     }
 }
 
-/// The tree of the nodes, and where a node stands in it. An open leaf at whose number something
-/// stands is shut there by this.
+/// The tree of the nodes, and the place of a node in it. An open leaf is shut if `proofs` has
+/// something at its number.
 pub(crate) fn shut_tree(
     alloc: Global,
     growing: &Growing,
@@ -52,7 +52,7 @@ pub(crate) fn shut_tree(
     })
 }
 
-/// The tree of the nodes as they are, and where the leaf stands in it.
+/// The tree of the nodes as they are, and the place of the leaf in it.
 pub(crate) fn tree_with(alloc: Global, growing: &Growing, leaf: u32) -> Result<Placed, AllocError>
     requires linked { IsLinked growing.now.pool.payloads }
     requires root { (cell_at growing.now.pool.payloads 0).option ≡ [] }
@@ -63,7 +63,7 @@ pub(crate) fn tree_with(alloc: Global, growing: &Growing, leaf: u32) -> Result<P
     shut_tree(alloc, growing, &[], leaf)
 }
 
-/// What is found where no leaf is open.
+/// What is found if no leaf is open.
 pub(crate) fn whole_found(best: Option<Network>, tree: Tree) -> Found
     ensures { result ≡ found_with best tree }
 {
@@ -73,7 +73,7 @@ pub(crate) fn whole_found(best: Option<Network>, tree: Tree) -> Found
     }
 }
 
-/// What is found where a leaf stops the search, which stands at this place of the tree.
+/// What is found if a leaf stops the search, which has this place in the tree.
 pub(crate) fn past_found(
     best: Option<Network>,
     stop: Option<StoppedLeaf>,

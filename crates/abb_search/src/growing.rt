@@ -39,8 +39,8 @@ pub struct StoppedLeaf {
     pub stop: PastStop,
 }
 
-/// A search: where it starts, how many nodes it may take, its nodes, what is at hand for each that
-/// is an open leaf, the cheapest network that it found, and the leaf that stops it.
+/// A search: its start, its budget of nodes, its nodes, what is stored for each open leaf, the
+/// cheapest network that it found, and the leaf that stops it.
 #[derive(Drop)]
 pub struct Growing {
     pub start: Node,
@@ -98,7 +98,7 @@ fn has_numbers(nodes: u32, more: usize) -> bool
     more < (u32::MAX - nodes) as usize
 }
 
-/// The leaf that stops the search, where the children begin with the node `first`.
+/// The leaf that stops the search. The numbers of the children begin with `first`.
 fn stop_at(first: u32, stop: Option<StoppedAt>) -> Option<StoppedLeaf>
     requires { MatchOption stop Unit (λ h. first + h.at < 2 ^ 32) }
     ensures { result ≡ stop_at first stop }
@@ -122,7 +122,7 @@ pub fn stopped_leaf(stop: &Option<StoppedLeaf>) -> Option<u32>
     }
 }
 
-/// The key of what is at hand for an open leaf.
+/// The key under which an open leaf has its data.
 pub(crate) fn key_at(pool: &Pool<Cell>, leaf: u32) -> usize
     requires { leaf < length pool.now.payloads }
     ensures { result ≡ (cell_at pool.now.payloads leaf).key }
@@ -131,7 +131,7 @@ pub(crate) fn key_at(pool: &Pool<Cell>, leaf: u32) -> usize
     pool.payload(leaf).key
 }
 
-/// The interval that a least cost lies in, where it is settled that this overflows.
+/// The interval that a least cost lies in, if the worth is settled and the least cost overflows.
 fn interval_in(worth: &Worth) -> Option<&Interval>
     ensures { option_copied result ≡ interval_in worth.now }
 {
@@ -141,8 +141,8 @@ fn interval_in(worth: &Worth) -> Option<&Interval>
     }
 }
 
-/// The interval that the least cost of an open leaf lies in, where it is settled that this
-/// overflows.
+/// The interval that the least cost of an open leaf lies in, if its worth is settled and its least
+/// cost overflows.
 fn interval_at(growing: &Growing, leaf: u32) -> Option<&Interval>
     requires { leaf < length growing.now.pool.payloads }
     ensures { option_copied result ≡ interval_of (ready_at growing.now leaf) }
@@ -151,8 +151,8 @@ fn interval_at(growing: &Growing, leaf: u32) -> Option<&Interval>
     interval_in(&ready.worth)
 }
 
-/// What some relaxed flows of an open leaf cost at most, where it is settled what it is worth: its
-/// value, or what the interval reaches.
+/// What some relaxed flows of a settled open leaf cost at most: its value, or what the interval
+/// reaches.
 pub fn reached_at(growing: &Growing, leaf: u32) -> Mixed
     requires { leaf < length growing.now.pool.payloads }
     ensures { IsReachedAt growing.now leaf result }
@@ -165,8 +165,8 @@ pub fn reached_at(growing: &Growing, leaf: u32) -> Mixed
     }
 }
 
-/// Whether the open leaf of least value, where it is settled what it is worth, has relaxed flows
-/// that cost at most any other open leaf's value: it has, but where its least cost overflows.
+/// Whether the open leaf of least value, if settled, has relaxed flows that cost at most any other
+/// open leaf's value. It has, unless its least cost overflows.
 pub fn leads(growing: &Growing, leaf: u32) -> bool
     requires { first growing.now.pool.leaves ≡ Some leaf }
     ensures least { result ≡ true → IsLeastLeaf growing.now leaf }
@@ -183,7 +183,7 @@ pub fn leads(growing: &Growing, leaf: u32) -> bool
     }
 }
 
-/// Where the path of a leaf stops, where its least cost overflows.
+/// The leaf as one that stops the search, if its least cost overflows.
 fn stop_in(leaf: u32, interval: Option<Interval>) -> Option<StoppedLeaf>
     ensures { result ≡ interval_stop leaf interval }
 {
@@ -196,8 +196,8 @@ fn stop_in(leaf: u32, interval: Option<Interval>) -> Option<StoppedLeaf>
     }
 }
 
-/// Takes out where the path of an open leaf stops, where its least cost overflows. What is at hand
-/// for it is then gone.
+/// Takes out the place at which the path of an open leaf stops, if its least cost overflows.
+/// Nothing is stored for the leaf after that.
 pub fn take_stop(growing: &mut Growing, leaf: u32) -> Option<StoppedLeaf>
     requires { leaf < length growing.old.pool.payloads }
     ensures stop { result ≡ interval_stop leaf (interval_of (ready_at growing.old leaf)) }
@@ -223,7 +223,7 @@ pub fn choice_at(growing: &Growing, leaf: u32) -> Choice
     }
 }
 
-/// The end of a node that is branched so.
+/// The end of a node that is branched in this way.
 fn end_with(choice: Choice) -> End
     ensures { end_of result ≡ branch (way_of choice) }
 {
@@ -244,8 +244,8 @@ pub fn node_at(pool: &Pool<Cell>, leaf: u32) -> Node
     pool.payload(leaf).node
 }
 
-/// Branches an open leaf. The answer is the network that was found at each child, where `all` are
-/// asked for. After `Err`, which comes when memory is refused, the tree is as before.
+/// Branches an open leaf. The answer is the network that was found at each child, if `all` are
+/// asked for. After `Err`, which comes if memory is refused, the tree is as before.
 pub fn branch_leaf<E: Evaluator>(
     workspace: &mut Workspace<E>,
     site: &Site<'_>,

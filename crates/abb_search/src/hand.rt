@@ -1,4 +1,4 @@
-//! What is at hand for the open leaves, each under a key.
+//! What is stored for the open leaves, each under a key.
 ghost use Rattle.std.specs.Prelude.{◌≡◌, ◌<◌, ◌≤◌, ◌+◌, [], ◌∷◌, ◌++◌, length, reverse, vec_len, vec_capacity};
 ghost use Rattle.slab.specs.Slab.{get, slab_len, HasRoomFor, Updates};
 ghost use Rattle.abb_search.specs.Worth.{with_worth};
@@ -19,7 +19,7 @@ fn take_last(ready: &mut Vec<Option<Ready>>) -> Option<Ready>
     }
 }
 
-/// Puts what is at hand for a child into the slab, where something is, and notes its key. It takes
+/// Puts what a child brings along into the slab, if there is something, and notes its key. It takes
 /// no memory.
 pub(crate) fn place(fresh: Fresh, ready: Option<Ready>, hand: &mut Slab<Ready>) -> Fresh
     requires room { HasRoomFor hand.old 1 }
@@ -38,8 +38,8 @@ pub(crate) fn place(fresh: Fresh, ready: Option<Ready>, hand: &mut Slab<Ready>) 
     }
 }
 
-/// Does so for each child, the last one first, and gives the children in that order. It takes no
-/// memory where `placed`, which is empty, and the slab have room for them.
+/// Places each child in this way, the last one first, and gives the children in that order. It
+/// takes no memory if the slab and `placed`, which is empty, have room for them.
 pub(crate) fn place_all(
     children: Vec<Fresh>,
     ready: Vec<Option<Ready>>,
@@ -62,7 +62,7 @@ pub(crate) fn place_all(
     placed
 }
 
-/// Puts another worth at hand under a key, where something is. It takes no memory.
+/// Stores another worth under a key, if something is stored there. It takes no memory.
 pub(crate) fn put_worth(hand: &mut Slab<Ready>, key: usize, worth: Worth)
     ensures { Updates hand.old hand.new key (with_worth worth (get hand.old key)) }
 {

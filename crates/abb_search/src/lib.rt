@@ -1,27 +1,19 @@
-//! Accelerated branch and bound: a best-first search of the structures of a node.
+//! A search that always ends: at each turn a tree proves its best network, but for open leaves.
 //!
-//! A search is an object: each turn branches an open leaf of least value, so that the nodes are
-//! more, or tells the end. When memory is refused, all is as before the turn. It stands on an
-//! evaluator of nodes. The value of a new leaf is a cost that no relaxed flows undercut, as a first
-//! look tells it. What the leaf is worth is settled when no other is less and it is to be branched:
-//! its value rises then, or it is refuted, and waits for its shutting in the tree of the end. A
-//! leaf whose least cost overflows keeps a cost that no relaxed flows undercut as its value; it is
-//! branched where some are known that cost at most as much as any other leaf's value.
+//! It is accelerated branch and bound over the structures of a node's family. [`search`] runs to
+//! the end, [`search_against`] looks for a network cheaper than a given one, and a [`Search`] is
+//! taken turn by turn. Each turn branches an open leaf of least value, or says how the search ends
+//! ([`Found`]). If memory is refused, all is as before the turn. [`SearchWith`] is the same over
+//! any evaluator of nodes.
 //!
-//! - `growing`: the tree while it grows, and how a leaf is branched
-//! - `settling`: what open leaves are worth is settled
-//! - `closing`: what shuts the open leaves, where the best network costs no more than any of them
-//!   or they are refuted
-//! - `hand`: what is at hand for the open leaves, each under a key
-//! - `root`: the root, before and after the steps that are possible there
-//! - `outcome`: what a search finds, and what a turn answers
-//! - `found`: the tree that shows what is found
-//! - `rounds`: which leaf is branched next, or how the search ends, whatever is to be undercut
-//! - `step`: a turn over the tree
-//! - `turns`: the object over any evaluator
-//! - `runs`: the loop over the turns of a search
-//! - `watching`: how far a search is, for those who watch it
-//! - `whole`: the same over the simplex method
+//! A new leaf has a value at first that no relaxed flows undercut, from a quick look. Its worth is
+//! settled only when it is to be branched: then its value rises, or it is refuted. A leaf whose
+//! least cost overflows keeps a lower bound as its value.
+//!
+//! Modules: `growing` the tree and how a leaf is branched; `settling` the worth of leaves;
+//! `closing` what shuts leaves; `hand` what is stored for them; `root` the root; `outcome` answers;
+//! `found` the tree of an answer; `rounds` which leaf is next; `step` a turn; `turns` the object;
+//! `runs` the loop; `watching` progress; `whole` the search over the simplex method.
 #![tactic(auto)]
 
 mod closing;

@@ -20,7 +20,7 @@ use slab::Slab;
 use std::alloc::{AllocError, Global};
 use unit_sets::{Node, UnitSet};
 
-/// Adds the root. It is an open leaf where its cell is one.
+/// Adds the root. It is an open leaf if its cell is one.
 fn add_root(pool: &mut Pool<Cell>, cell: Cell, value: Mixed) -> Result<(), AllocError>
     requires parents { pool.old.parents ≡ [] }
     requires cells { pool.old.payloads ≡ [] }

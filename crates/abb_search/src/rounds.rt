@@ -1,4 +1,4 @@
-//! Rounds, which settle what open leaves are worth until it stands which leaf is branched next, or
+//! Rounds, which settle the worth of open leaves until it is known which leaf is branched next, or
 //! how the search ends.
 ghost use Rattle.std.specs.Prelude.{◌≡◌, ◌↔◌, ◌<◌, ◌+◌, IsTrue, IfOk, Option, option_copied, length};
 ghost use Rattle.link_lists.specs.Lists.{first};
@@ -24,7 +24,7 @@ use std::alloc::{AllocError, Global};
 /// What is to be undercut.
 #[derive(Drop)]
 pub enum Goal<'a> {
-    /// The search's own best network, where there is one.
+    /// The search's own best network, if there is one.
     Best,
     /// This network, or nothing yet.
     Given(Option<&'a Network>),
@@ -35,8 +35,8 @@ pub enum Goal<'a> {
 pub enum Ending {
     /// This shuts each leaf that is open, by its number.
     Whole(Vec<Option<Shut>>),
-    /// The leaf would be branched next, into too many children. It is settled what each open leaf
-    /// is worth, and this shuts those that are refuted, by their numbers.
+    /// The leaf would be branched next, into too many children. The worth of each open leaf is
+    /// settled, and this shuts those that are refuted, by their numbers.
     Spent {
         leaf: u32,
         options: u128,
@@ -46,20 +46,20 @@ pub enum Ending {
     Past(StoppedLeaf),
 }
 
-/// What a turn does where no leaf stops the search.
+/// What a turn does if no leaf stops the search.
 #[derive(Drop)]
 pub enum Next {
     /// Branches this leaf.
     Branch(u32),
-    /// Stops at this leaf, whose least cost overflows, and which may be dearer than another one or
-    /// what is to be undercut.
+    /// Stops at this leaf. Its least cost overflows, and it may cost more than another leaf, or
+    /// more than what is to be undercut.
     Stop(u32),
     /// Ends the search.
     End(Ending),
 }
 
 impl<'a> Goal<'a> {
-    /// The network that is to be undercut, where there is one.
+    /// The network that is to be undercut, if there is one.
     fn to_beat<'b>(&'b self, growing: &'b Growing) -> Option<&'b Network>
         ensures { cost_of (option_copied result) ≡ undercut_of self.now growing.now }
     {
@@ -69,7 +69,7 @@ impl<'a> Goal<'a> {
         }
     }
 
-    /// The network that is to be undercut, where it costs no more than the value.
+    /// The network that is to be undercut, if it costs no more than the value.
     fn beating<'b>(&'b self, growing: &'b Growing, value: &Mixed) -> Option<&'b Network>
         ensures { IsBeating (undercut_of self.now growing.now) value.now (option_copied result) }
     {
@@ -81,8 +81,8 @@ impl<'a> Goal<'a> {
         }
     }
 
-    /// Whether an open leaf, where it is settled what it is worth, has relaxed flows that cost at
-    /// most as much as what is to be undercut.
+    /// Whether a settled open leaf has relaxed flows that cost at most as much as what is to be
+    /// undercut.
     fn may_be_undercut(&self, growing: &Growing, leaf: u32) -> bool
         requires { leaf < length growing.now.pool.payloads }
         ensures { IsTrue result ↔ LeafUndercuts growing.now (undercut_of self.now growing.now) leaf }
@@ -95,7 +95,7 @@ impl<'a> Goal<'a> {
     }
 }
 
-/// The search ends at a leaf where a number overflows as it is settled.
+/// The search ends if a number overflows at the leaf that was to be settled.
 fn ends_at(stopped: Option<StoppedLeaf>) -> Option<Next>
     ensures { result ≡ ends_at stopped }
 {
@@ -105,8 +105,8 @@ fn ends_at(stopped: Option<StoppedLeaf>) -> Option<Next>
     }
 }
 
-/// The search ends before a leaf whose children are above the budget, once it is settled what each
-/// open leaf is worth: another one may be a least one then.
+/// The search ends before a leaf whose children are above the budget. First the worth of each open
+/// leaf is settled, since another leaf may then be a least one.
 fn spend<E: Evaluator>(
     workspace: &mut Workspace<E>,
     site: &Site<'_>,
@@ -137,8 +137,8 @@ fn spend<E: Evaluator>(
     })))
 }
 
-/// Branches a leaf that is no dearer than any other and may undercut what is to be undercut, or
-/// tells that the budget is spent.
+/// Branches a least leaf that may undercut what is to be undercut, or says that the budget is
+/// spent.
 fn branch_least<E: Evaluator>(
     workspace: &mut Workspace<E>,
     site: &Site<'_>,
@@ -164,8 +164,8 @@ fn branch_least<E: Evaluator>(
     Ok(Some(Next::Branch(leaf)))
 }
 
-/// What shuts each open leaf, where the network that is to be undercut costs no more than the least
-/// value, which this leaf has.
+/// What shuts each open leaf, if the network that is to be undercut costs no more than the value of
+/// this leaf, which is the least.
 fn close<E: Evaluator>(
     workspace: &mut Workspace<E>,
     site: &Site<'_>,
@@ -190,9 +190,9 @@ fn close<E: Evaluator>(
     Ok(Some(closing))
 }
 
-/// Ends the search where all open leaves are shut. A leaf that can't be, since a number overflows
-/// there, is branched where it has relaxed flows that cost just as much as what is to be undercut,
-/// and else the search ends there.
+/// Ends the search if all open leaves are shut. A leaf at which a number overflows cannot be shut.
+/// It is branched if it has relaxed flows that cost just as much as what is to be undercut; else
+/// the search ends there.
 fn after_closing<E: Evaluator>(
     workspace: &mut Workspace<E>,
     site: &Site<'_>,
@@ -221,10 +221,9 @@ fn after_closing<E: Evaluator>(
     }
 }
 
-/// Branches the leaf of least value, of which it is settled what it is worth; or the search stops
-/// there, since its least cost overflows, and it may be dearer than another one or what is to be
-/// undercut. Where it may be dearer than the leaf behind it, it is settled first what that is
-/// worth.
+/// Branches the settled leaf of least value. If it may cost more than the next leaf in the order of
+/// values, the worth of that one is settled first. The search stops at a leaf whose least cost
+/// overflows, if it may cost more than another one or than what is to be undercut.
 fn take_least<E: Evaluator>(
     workspace: &mut Workspace<E>,
     site: &Site<'_>,
@@ -255,10 +254,10 @@ fn take_least<E: Evaluator>(
     Ok(Some(Next::Stop(leaf)))
 }
 
-/// Takes a round at the leaf of least value: it is settled what that is worth, or it stands what
-/// comes next. Where the network that is to be undercut costs no more than that value, all open
-/// leaves are shut. No leaf stops the search but that of least value, where it may not be branched
-/// since its least cost overflows, or one at which a number overflows as it is settled or shut.
+/// Takes a round at the leaf of least value: its worth is settled, or it is found out what comes
+/// next. If the network that is to be undercut costs no more than that value, all open leaves are
+/// shut. Two kinds of leaves stop the search: the leaf of least value, if it may not be branched
+/// since its least cost overflows, and one at which a number overflows as it is settled or shut.
 fn round<E: Evaluator>(
     workspace: &mut Workspace<E>,
     site: &Site<'_>,
@@ -288,8 +287,8 @@ fn round<E: Evaluator>(
     Ok(ends_at(stopped))
 }
 
-/// Takes rounds until it stands what comes next. Each round but the last leaves fewer leaves of
-/// which it is not settled what they are worth. `Err` comes when memory is refused.
+/// Takes rounds until it is known what comes next. After each round but the last, fewer leaves wait
+/// for their worth to be settled. `Err` comes if memory is refused.
 pub fn next_leaf<E: Evaluator>(
     workspace: &mut Workspace<E>,
     site: &Site<'_>,

@@ -46,9 +46,8 @@ fn run<E: Evaluator, W: Watch>(
     }
 }
 
-/// Searches the structures of the family of a node for one whose flows are cheapest, or cheaper
-/// than those of the network `best`, where one is handed in: then what is found is that network or
-/// a cheaper one.
+/// Searches the structures of the family of a node for one whose flows are cheapest. If a network
+/// `best` is given, what is found is that network or a cheaper one.
 pub fn search_with<E: Evaluator, W: Watch>(
     workspace: &mut Workspace<E>,
     site: &Site<'_>,

@@ -1,5 +1,5 @@
-//! What open leaves are worth is settled: when a leaf is to be branched, and before a search ends
-//! whose budget is spent.
+//! The worth of open leaves is settled: when a leaf is to be branched, and before a search ends
+//! because its budget is spent.
 ghost use Rattle.std.specs.Prelude.{◌≡◌, ◌<◌, true, IfOk, IfSome, IfNone, Option, length};
 ghost use Rattle.pns_rules.specs.Shape.{shape_of};
 ghost use Rattle.pgraph.specs.View.{node_of};
@@ -20,7 +20,7 @@ use search_tree::copy_multipliers;
 use std::alloc::{AllocError, Global};
 use unit_sets::Node;
 
-/// Whether it is settled so what a node is worth, and that it has relaxed flows.
+/// Whether the worth is settled, and the node has relaxed flows.
 fn is_settled_worth(worth: &Worth) -> bool
     ensures { result ≡ is_settled_worth worth.now }
 {
@@ -40,7 +40,7 @@ fn is_put_off_worth(worth: &Worth) -> bool
     }
 }
 
-/// Whether it is settled what an open leaf is worth, and that it has relaxed flows.
+/// Whether the worth of an open leaf is settled, and it has relaxed flows.
 pub fn is_settled(growing: &Growing, leaf: u32) -> bool
     requires { leaf < length growing.now.pool.payloads }
     ensures { result ≡ is_settled (ready_at growing.now leaf) }
@@ -51,7 +51,7 @@ pub fn is_settled(growing: &Growing, leaf: u32) -> bool
     }
 }
 
-/// Whether a node is an open leaf of which a lower bound is all that is known.
+/// Whether a node is an open leaf of which only a lower bound is known.
 fn is_put_off(growing: &Growing, leaf: u32) -> bool
     requires { leaf < length growing.now.pool.payloads }
     ensures { result ≡ is_put_off (hand_of growing.now leaf) }
@@ -62,8 +62,8 @@ fn is_put_off(growing: &Growing, leaf: u32) -> bool
     }
 }
 
-/// The leaf behind that of least value in the order of the pool's open leaves, where it is not
-/// settled what that is worth.
+/// The leaf that follows that of least value in the order of the pool's open leaves, if its worth
+/// is not settled.
 pub fn next_waiting(growing: &Growing) -> Option<u32>
     ensures { IfSome result (λ leaf. is_waiting growing.now leaf ≡ true) }
 {
@@ -78,7 +78,7 @@ pub fn next_waiting(growing: &Growing) -> Option<u32>
     }
 }
 
-/// The first open leaf of which a lower bound is all that is known.
+/// The first open leaf of which only a lower bound is known.
 pub fn first_put_off(growing: &Growing) -> Option<u32>
     requires counted { growing.now.nodes ≡ length growing.now.pool.payloads }
     requires open { AreOpen growing.now }
@@ -93,8 +93,8 @@ pub fn first_put_off(growing: &Growing) -> Option<u32>
     None
 }
 
-/// What an open leaf is worth: it is settled now, from what its first look told, or it is refuted
-/// already.
+/// The worth of an open leaf: it is settled now, from what its first look found, or the leaf is
+/// refuted already.
 fn settling_at<E: Evaluator>(
     workspace: &mut Workspace<E>,
     site: &Site<'_>,
@@ -124,9 +124,9 @@ fn settling_at<E: Evaluator>(
     }
 }
 
-/// Settles what an open leaf is worth. Its value may rise then, and where it turns out to have no
-/// relaxed flows, it leaves the pool, and its cell stays open. The answer is where a number
-/// overflows there. `Err` comes when memory is refused.
+/// Settles the worth of an open leaf. Its value may rise then. If it turns out to have no relaxed
+/// flows, it leaves the pool, and its cell stays open. The answer is the place at which a number
+/// overflows there. `Err` comes if memory is refused.
 pub fn settle_leaf<E: Evaluator>(
     workspace: &mut Workspace<E>,
     site: &Site<'_>,
@@ -167,8 +167,8 @@ pub fn settle_leaf<E: Evaluator>(
     }
 }
 
-/// Settles a node where it is an open leaf of which a lower bound is all that is known, as
-/// [`settle_leaf`] does.
+/// Settles a node as [`settle_leaf`] does, if it is an open leaf of which only a lower bound is
+/// known.
 fn settle_put_off<E: Evaluator>(
     workspace: &mut Workspace<E>,
     site: &Site<'_>,
@@ -190,9 +190,9 @@ fn settle_put_off<E: Evaluator>(
     }
 }
 
-/// Settles an open leaf, and each one behind it in the order of adding of which a lower bound is
-/// all that is known, in one pass. It ends at the first of them at which a number overflows, which
-/// is the answer. `Err` comes when memory is refused.
+/// Settles an open leaf, and each later one in the order of adding of which only a lower bound is
+/// known, in one pass. It ends at the first of them at which a number overflows, which is the
+/// answer. `Err` comes if memory is refused.
 pub fn settle_from<E: Evaluator>(
     workspace: &mut Workspace<E>,
     site: &Site<'_>,

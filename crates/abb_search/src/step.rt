@@ -46,8 +46,8 @@ fn branch_next<E: Evaluator>(
     Ok(())
 }
 
-/// What is found where the search stops at a leaf, since its least cost overflows. After `Err`,
-/// which comes when memory is refused, the tree is as before.
+/// What is found if the search stops at a leaf because its least cost overflows. After `Err`, which
+/// comes if memory is refused, the tree is as before.
 fn stop_there<E: Evaluator>(
     alloc: Global,
     site: &Site<'_>,
@@ -66,7 +66,7 @@ fn stop_there<E: Evaluator>(
     Ok(past_found(growing.best.take(), stop, placed))
 }
 
-/// What is found where the search ends so. After `Err`, which comes when memory is refused, the
+/// What is found if the search ends in this way. After `Err`, which comes if memory is refused, the
 /// tree is as before.
 fn found_by<E: Evaluator>(
     alloc: Global,
@@ -105,7 +105,7 @@ fn found_by<E: Evaluator>(
     }
 }
 
-/// Branches the open leaf that comes next, so that the nodes are more, or tells what is found. No
+/// Branches the open leaf that comes next, so that the nodes are more, or says what is found. No
 /// leaf stops the search yet.
 fn go_on<E: Evaluator>(
     workspace: &mut Workspace<E>,
@@ -130,8 +130,8 @@ fn go_on<E: Evaluator>(
     }
 }
 
-/// Makes the nodes more, or tells what is found. After `Err`, which comes when memory is refused,
-/// the tree is as before.
+/// Adds nodes, or says what is found. After `Err`, which comes if memory is refused, the tree is as
+/// before.
 pub(crate) fn step<E: Evaluator>(
     workspace: &mut Workspace<E>,
     site: &Site<'_>,
@@ -152,8 +152,8 @@ pub(crate) fn step<E: Evaluator>(
     Ok(past_found(growing.best.take(), growing.stop.take(), placed))
 }
 
-/// Takes a search so far that its nodes are more, or to its end; before the first turn the root is
-/// not looked at yet. After `Err`, which comes when memory is refused, the tree is as before.
+/// Takes a search on until it has more nodes, or to its end. Before the first turn the root is not
+/// looked at yet. After `Err`, which comes if memory is refused, the tree is as before.
 pub(crate) fn take_turn<E: Evaluator>(
     workspace: &mut Workspace<E>,
     site: &Site<'_>,

@@ -51,8 +51,7 @@ impl<'a, E: Evaluator> Model for SearchWith<'a, E> {
 }
 
 impl<'a, E: Evaluator + Drop> SearchWith<'a, E> {
-    /// A search before its first turn, for a network that is cheaper than `best`, where there is
-    /// one.
+    /// A search before its first turn, for a network that is cheaper than `best` if there is one.
     pub fn open_with(
         workspace: Workspace<E>,
         site: Site<'a>,
@@ -78,8 +77,8 @@ impl<'a, E: Evaluator + Drop> SearchWith<'a, E> {
         })
     }
 
-    /// Takes the search so far that its nodes are more, or to its end. It takes all its memory
-    /// before it changes a node.
+    /// Takes the search on until it has more nodes, or to its end. It takes all its memory before
+    /// it changes a node.
     pub fn turn(&mut self) -> Turn
         requires { self.old.ended ≡ false }
         ensures { TurnHolds E.past self.old self.new result }
@@ -117,7 +116,7 @@ impl<'a, E: Evaluator + Drop> SearchWith<'a, E> {
         self.ended
     }
 
-    /// The cheapest network that was found or handed in, none only where no leaf of the tree is
+    /// The cheapest network that was found or given. There is none only if no leaf of the tree is
     /// bounded.
     pub fn best(&self) -> Option<&Network>
         requires { self.now.ended ≡ false }
@@ -127,7 +126,7 @@ impl<'a, E: Evaluator + Drop> SearchWith<'a, E> {
         self.growing.best.as_ref()
     }
 
-    /// The tree as far as it is.
+    /// The tree so far.
     pub fn tree(&self, alloc: Global) -> Result<Tree, AllocError>
         requires { self.now.ended ≡ false }
         ensures stopped { IfOk result (IsStopped self.now.problem (node_of self.now.start) (claim_with self.now.best)) }

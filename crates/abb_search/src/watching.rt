@@ -1,4 +1,4 @@
-//! How far a search is.
+//! Progress reports of a search.
 
 use crate::growing::Growing;
 use branch_tree::Network;
@@ -48,7 +48,7 @@ fn progress_of(site: &Site<'_>, growing: &Growing) -> Progress {
     }
 }
 
-/// Reports to the watch how far the search is, if that is due. The open leaves are counted for that
+/// Reports to the watch how far the search is, if that is due. The open leaves are counted for this
 /// alone.
 pub fn report_progress<W: Watch>(watch: &mut W, site: &Site<'_>, growing: &Growing) {
     if watch.is_due() {

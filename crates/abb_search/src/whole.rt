@@ -1,4 +1,4 @@
-//! The search that the simplex method bounds.
+//! The search over the simplex method.
 ghost use Rattle.std.specs.Prelude.{◌≡◌, ◌≤◌, true, Some, None, IfOk};
 ghost use Rattle.pns_rules.specs.Shape.{shape_of};
 ghost use Rattle.pns_rules.specs.Ends.{IsSound};
@@ -30,7 +30,7 @@ pub type Search<'a> = SearchWith<'a, FlowEvaluator>;
 /// What such searches work with.
 pub type FlowWorkspace = Workspace<FlowEvaluator>;
 
-/// A workspace over the site, whose evaluator bounds nodes by the simplex method. `Err` comes when
+/// A workspace over the site, whose evaluator bounds nodes by the simplex method. `Err` comes if
 /// memory is refused.
 pub fn workspace_of(alloc: Global, site: &Site<'_>) -> Result<FlowWorkspace, AllocError>
     ensures own { IfOk result (λ w. IsFor site.now w.evaluator) }
@@ -41,8 +41,7 @@ pub fn workspace_of(alloc: Global, site: &Site<'_>) -> Result<FlowWorkspace, All
 }
 
 impl<'a> SearchWith<'a, FlowEvaluator> {
-    /// A search before its first turn, for a network that is cheaper than `best`, where there is
-    /// one.
+    /// A search before its first turn, for a network that is cheaper than `best` if there is one.
     fn open_at(
         alloc: Global,
         site: Site<'a>,
@@ -76,8 +75,8 @@ impl<'a> SearchWith<'a, FlowEvaluator> {
         Search::open_at(alloc, Site::of(problem, graph), start, budget, None)
     }
 
-    /// A search before its first turn for a network that is cheaper than the one that is handed in,
-    /// which passes as a claim. What it finds in the end is that network or a cheaper one.
+    /// A search before its first turn for a network that is cheaper than the given one, which
+    /// passes as a claim. What it finds in the end is that network or a cheaper one.
     pub fn open_against(
         alloc: Global,
         problem: &'a Problem,
@@ -139,8 +138,8 @@ pub fn search(alloc: Global, problem: &Problem, graph: &Graph, start: Node, budg
 }
 
 /// Searches the structures of the family of a node for one whose flows are cheaper than those of
-/// the network that is handed in, which passes as a claim: what the turns of a [`Search`] find that
-/// is opened against it. What is found is that network or a cheaper one.
+/// the given network, which passes as a claim. It finds what the turns of a [`Search`] find that is
+/// opened against it: that network or a cheaper one.
 pub fn search_against(
     alloc: Global,
     problem: &Problem,

@@ -16,7 +16,7 @@ decisive_from g n x u needed h =
     let q = and_parts (is_free g n u) (g.makes u x) p.1 in
     record { material = x; needed = needed; known = ltb-true u g.units p.0; makes = q.1; free = q.0 }
 
--- the first number of a list and those behind it are in what the list is within
+-- the first number of a list and the later ones are in what the list is within
 pub within_first : (s : ℕ → Bool) (xs : List ℕ) (x : ℕ) (rest : List ℕ) → IsWithin (has xs) s → xs ≡ x ∷ rest → s x ≡ true
 within_first s xs x rest h e = h x (ap (λ ys. has ys x) e ∙ or_left (x == x) (has rest x) (eq-eqb x x refl))
 

@@ -1,5 +1,5 @@
--- Where a node is branched so that there is something to decide: at a needed material with three options, or at a unit that goes
--- in or goes out and makes a needed material.
+-- How a node is branched so that there is something to decide: at a needed material with three
+-- options, or at a unit that goes in or goes out and makes a needed material.
 use Rattle.std.specs.Prelude.{◌≡◌, ℕ, ◌<◌, true, length}
 use Rattle.pns_rules.specs.Shape.{Shape}
 use Rattle.pns_rules.specs.Structure.{is_needed}

@@ -18,7 +18,7 @@ struct Candidate {
     score: i128,
 }
 
-/// The one of greater score, that of the lesser number where they have the same.
+/// The one of greater score; of two with the same score, the one of the smaller number.
 fn better(best: Candidate, next: Candidate) -> Candidate
     ensures { (result ≡ best) ⊎ (result ≡ next) }
 {
@@ -60,8 +60,8 @@ fn look_at(graph: &Graph, node: &Node, dues: &Dues, best: Candidate, x: u32) -> 
     best
 }
 
-/// The free maker of a needed material that has the greatest score, the least number of them.
-/// `first` has such a maker.
+/// The free maker of a needed material that has the greatest score, with the least number among
+/// equals. `first` has such a maker.
 pub(crate) fn best_unit(graph: &Graph, node: &Node, needed: MatSet, dues: &Dues, first: u32) -> u32
     requires needed { has needed ≡ is_needed (shape graph.now) (node_of node.now).inside }
     requires first { IsUndecided (shape graph.now) (node_of node.now) first }

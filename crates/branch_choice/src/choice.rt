@@ -14,7 +14,7 @@ use crate::dues::Dues;
 use pgraph::{Graph, Site};
 use unit_sets::{MatSet, Node, UnitSet};
 
-/// Where an open leaf is branched: at a material with three options, or in two at one unit.
+/// How an open leaf is branched: at a material with three options, or in two at one unit.
 #[derive(Clone, Copy, Debug)]
 pub enum Choice {
     Material(u32),
@@ -68,17 +68,20 @@ fn has_two_free(graph: &Graph, node: &Node) -> bool {
     units.minus(node.inside).minus(node.outside).count() == 2
 }
 
-/// Where the leaf is branched. Where just two units are free, and both make a needed material that
-/// no unit taken in makes, it is at the least such material. Else it is at the free maker of a
-/// needed material that has the greatest score, the least number of them. A unit of a size above 0
-/// scores what it owes of its fixed cost, and one more; another unit the greatest share that a
-/// needed material owes which it makes and no unit taken in. A free unit without a fixed cost owes
-/// what the only unit left owes that makes a material it uses, where that one is free too; in use
-/// it scores the whole fixed cost of that one in the ratio of their sizes. Where the unit of the
-/// greatest score owes nothing, those come first behind which units in use stand that owe
-/// something: at the end of a chain of free units each of which uses what the one behind it makes.
-/// Where there are none, units that lead on from units in use without a path to a product come
-/// before all that score less than 2.
+/// How the leaf is branched. If just two units are free, and both make a needed material that no
+/// unit taken in makes, it is at the least such material. Else it is at the free maker of a needed
+/// material that has the greatest score, with the least number among equals.
+///
+/// A unit of a size above 0 scores what it owes of its fixed cost, and one more. Another unit makes
+/// needed materials that no unit taken in makes. It scores the greatest share that one of them
+/// owes. A free unit without a fixed cost may use a material that only one unit is left to make. If
+/// that unit is free too, the first one owes what that unit owes. In use it scores the whole fixed
+/// cost of that unit in the ratio of their sizes.
+///
+/// If the unit of the greatest score owes nothing, units downstream of units in use that owe
+/// something come first: each ends a chain of free units, in which each unit uses what the one
+/// before it makes. If there are none, units that lead on from units in use without a path to a
+/// product come before all that score less than 2.
 ///
 /// `first` is a material that is to decide. `sizes` has the sizes of the units that are not left
 /// out, in rising order and in millionths; an entry that is missing counts as 0.

@@ -1,6 +1,5 @@
 //! What units and materials still owe at the last basis of a node. It guides a search, and nothing
-//! is promised of it: the sums stay far inside their range, and would be held at its ends if they
-//! did not.
+//! is promised of it. The sums stay far inside their range, and would be clamped if they did not.
 ghost use Rattle.std.specs.Prelude.{◌≡◌, ◌<◌, ℕ, length};
 ghost use Rattle.pns_rules.specs.Shape.{shape_of};
 ghost use Rattle.pgraph.specs.Tables.{shape};
@@ -10,16 +9,16 @@ use pgraph::Graph;
 use pns_problem::{OperatingUnit, Problem};
 use unit_sets::{Node, UnitSet};
 
-/// What is known of a unit: its fixed cost, what it owes of it, and its size, all 0 where it is
-/// left out.
+/// What is known of a unit: its fixed cost, what it owes of it, and its size, all 0 if it is left
+/// out.
 #[derive(Clone, Copy)]
 struct Due {
     fixed: i128,
     unpaid: i128,
     size: i64,
-    // What it scores where it has a size above 0.
+    // What it scores if it has a size above 0.
     share: i128,
-    // What stands behind it, where that was looked for.
+    // The score that reaches it from upstream, if that was looked for.
     behind: i128,
 }
 
@@ -31,10 +30,10 @@ const NOTHING: Due = Due {
     behind: 0,
 };
 
-// A unit that something stands behind scores so much more, which is more than any other score.
+// A unit with such a score gets so much more, which is more than any other score.
 const AHEAD: i128 = 1_000_000_000_000_000_000_000_000_000_000;
 
-// What stands behind a unit is divided by this for each unit in use on the way, and by that for
+// This score is divided by `STEP` for each unit in use on the way, and by `STEP_NOT_IN_USE` for
 // each other one.
 const STEP: i128 = 2;
 
@@ -45,7 +44,7 @@ const STEP_NOT_IN_USE: i128 = 1024;
 pub(crate) struct Dues {
     dues: [Due; 128],
     used: UnitSet,
-    // The units that lead on from units in use without a path to a product, where they were looked
+    // The units that lead on from units in use without a path to a product, if they were looked
     // for.
     leading: UnitSet,
 }
@@ -76,8 +75,8 @@ fn due_of(unit: &OperatingUnit, payout: i64, size: i64) -> Due {
     }
 }
 
-/// What a unit without a fixed cost owes that stands behind this maker, and what it scores in use:
-/// the whole fixed cost of the maker, in the ratio of their sizes.
+/// What a unit without a fixed cost owes that uses what this maker makes, and what it scores in
+/// use: the whole fixed cost of the maker, in the ratio of their sizes.
 fn passed(due: Due, maker: Due) -> Due {
     let share = if maker.size < 1 {
         0
@@ -94,7 +93,7 @@ fn passed(due: Due, maker: Due) -> Due {
 }
 
 impl Dues {
-    /// What the units owe where those that are not left out have these sizes, in rising order.
+    /// What the units owe, if those that are not left out have these sizes, in rising order.
     pub(crate) fn of(problem: &Problem, graph: &Graph, node: &Node, sizes: &[i64]) -> Dues
         requires { shape graph.now ≡ shape_of problem.now }
     {
@@ -127,8 +126,8 @@ impl Dues {
         dues
     }
 
-    /// Lets each of the users, free units without a fixed cost, owe what the one unit owes that is
-    /// left to make a material which they use, where this unit is free too.
+    /// Lets each of the users, free units without a fixed cost, owe what the maker of a material
+    /// that they use owes, if it is the only one left to make it, and free too.
     fn pass_on(&mut self, graph: &Graph, node: &Node, users: UnitSet) {
         graph.is_proper();
         for x in 0..graph.material_count() {
@@ -157,9 +156,9 @@ impl Dues {
         self.dues[u as usize].unpaid > 0
     }
 
-    /// Looks for what stands behind the free units: what a unit in use scores that owes something
-    /// and makes what they use, one behind the other. It gets less with each unit on the way, much
-    /// less with one that is not in use.
+    /// Looks for the scores that reach the free units from upstream. They start at units in use
+    /// that owe something, and go from maker to user. A score gets less with each unit on the way,
+    /// and much less with one that is not in use.
     pub(crate) fn look_behind(&mut self, graph: &Graph, node: &Node) {
         graph.is_proper();
         let units = UnitSet::below(graph.unit_count());
@@ -183,8 +182,8 @@ impl Dues {
         }
     }
 
-    /// Passes what stands behind the free makers of each material to its free users, and tells
-    /// whether that changed anything.
+    /// Passes the scores of the free makers of each material to its free users, and says whether
+    /// that changed anything.
     fn pass_behind(&mut self, graph: &Graph, free: UnitSet) -> bool {
         graph.is_proper();
         let mut has_changed = false;
@@ -199,7 +198,7 @@ impl Dues {
         has_changed
     }
 
-    /// The most that stands behind a unit of the set.
+    /// The greatest such score of a unit of the set.
     fn most_behind(&self, set: UnitSet) -> i128 {
         let mut most = 0;
         for u in set {
@@ -210,7 +209,7 @@ impl Dues {
         most
     }
 
-    /// Lets at least so much stand behind the units, and tells whether it was less behind some.
+    /// Raises the scores of the units to at least so much, and says whether that changed any.
     fn raise(&mut self, set: UnitSet, behind: i128) -> bool {
         let mut has_changed = false;
         for u in set {
@@ -224,7 +223,7 @@ impl Dues {
         has_changed
     }
 
-    /// Whether something stands behind the unit.
+    /// Whether a score reaches the unit from upstream.
     pub(crate) fn has_behind(&self, u: u32) -> bool
         requires { u < 128 }
     {

@@ -1,12 +1,12 @@
-//! Where an open leaf of a search is branched: at a material, or in two at one unit.
+//! How an open leaf is branched: at a material, or in two at one unit.
 //!
-//! [`choose`] keeps the tree small: it parts a leaf where most fixed cost is not paid yet, by the
-//! sizes of the last basis. That rule is only a guide. What [`choose`] promises is that there is
+//! [`choose`] keeps the tree small: it splits a leaf at a unit that owes most of its fixed cost, by
+//! the sizes of the last basis. That rule is only a guide. [`choose`] promises that there is
 //! something to decide there ([`choices_decide`]), and that the children are two or three. No call
 //! takes memory.
 //!
-//! Modules: `choice` (the rule), `dues` (what units and materials owe), `candidates` (the unit that
-//! owes most), `paths` (units in use that lead to no product), `laws`.
+//! Modules: `choice` the rule; `dues` what units and materials owe; `candidates` the unit of the
+//! greatest score; `paths` units in use that lead to no product; `laws`.
 #![tactic(auto)]
 
 mod candidates;

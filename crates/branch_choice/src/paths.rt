@@ -9,12 +9,12 @@ use pgraph::Graph;
 use pns_problem::{OperatingUnit, Problem};
 use unit_sets::{MatSet, Node, UnitSet};
 
-/// Whether a unit may stand still at no cost.
+/// Whether a unit may be idle at no cost.
 fn can_stand_still(unit: &OperatingUnit) -> bool {
     unit.lower < 1 && unit.fix < 1 && unit.investment_fix < 1
 }
 
-/// The units that are not left out and may stand still at no cost.
+/// The units that are not left out and may be idle at no cost.
 fn standing_still(problem: &Problem, graph: &Graph, node: &Node) -> UnitSet
     requires { shape graph.now ≡ shape_of problem.now }
 {
@@ -54,7 +54,7 @@ fn with_users(graph: &Graph, free: UnitSet, set: UnitSet) -> UnitSet {
     more
 }
 
-/// The set with the free units that use, one behind the other, what it makes.
+/// The set with the free units that use, along chains, what it makes.
 fn led_on(graph: &Graph, free: UnitSet, set: UnitSet) -> UnitSet {
     let mut reached = set;
     for _turn in 0..graph.unit_count() {
@@ -67,9 +67,10 @@ fn led_on(graph: &Graph, free: UnitSet, set: UnitSet) -> UnitSet {
     reached
 }
 
-/// The free units that lead on from units in use which no structure has whose units are in use or
-/// stand still at no cost: before one of them goes in, what those units earn is counted and no path
-/// to a product paid for. None where there is no such structure, too.
+/// The free units that lead on from stuck units. A unit in use is stuck if it is in no structure
+/// whose units are all in use or may be idle at no cost. Before a unit that leads on goes in, what
+/// stuck units earn counts, and no path to a product is paid for. There are none if there is no
+/// such structure at all.
 pub(crate) fn leading(problem: &Problem, graph: &Graph, node: &Node, used: UnitSet) -> UnitSet
     requires { shape graph.now ≡ shape_of problem.now }
 {

@@ -1,4 +1,4 @@
--- What is told of a node, from what the checks say.
+-- The answers for a node, from what the checks say.
 use Rattle.std.proofs.Common.{◌≡◌, ℕ, Option, Some, None, Result, Ok, Err, IfOk, IfSome, List, [], ◌∷◌, sym, ◌∙◌, arith, pos, ℤ, ◌*ℤ◌, ◌≤ℤ◌}
 use Rattle.std.proofs.lemmas.Int.{ints}
 use Rattle.integer_laws.specs.Range.{InRange}

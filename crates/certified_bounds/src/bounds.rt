@@ -41,7 +41,7 @@ impl Model for CertifiedBounds {
 }
 
 impl CertifiedBounds {
-    /// Makes room for the nodes of the problem. `Err` comes when memory is refused.
+    /// Makes room for the nodes of the problem. `Err` comes if memory is refused.
     pub fn open(alloc: Global, site: &Site<'_>) -> Result<CertifiedBounds, AllocError>
         ensures { IfOk result (AreDivisors (net_of site.now)) }
     {
@@ -52,7 +52,7 @@ impl CertifiedBounds {
     }
 
     /// Goes over to the nodes of another problem with as many units and materials, and takes no new
-    /// room for them. `Err` comes when memory is refused.
+    /// room for them. `Err` comes if memory is refused.
     pub fn rebind(&mut self, alloc: Global, site: &Site<'_>) -> Result<(), AllocError>
         ensures { OnOk result (AreDivisors (net_of site.now) self.new) }
     {
@@ -63,9 +63,9 @@ impl CertifiedBounds {
         Ok(())
     }
 
-    /// Tells a cost that no relaxed flows of the node undercut, and does not find the least: short
-    /// multipliers of a guess prove it. It takes no memory but for what it hands out, and `Err`
-    /// comes when that is refused.
+    /// A cost that no relaxed flows of the node undercut, and not the least cost: short multipliers
+    /// of a guess prove it. It takes no memory but for what it returns, and `Err` comes if that
+    /// is refused.
     pub fn look_first(
         &mut self,
         alloc: Global,
@@ -83,8 +83,8 @@ impl CertifiedBounds {
         }
     }
 
-    /// Tells what the node is worth; `decided` tells whether all is decided there. It takes no
-    /// memory but for what it hands out, and `Err` comes when that is refused.
+    /// What the node is worth; `decided` says whether all is decided there. It takes no memory but
+    /// for what it returns, and `Err` comes if that is refused.
     pub fn look(
         &mut self,
         alloc: Global,
@@ -123,8 +123,8 @@ impl CertifiedBounds {
         self.judged(alloc, site, node, decided, proposed)
     }
 
-    /// Tells what a node is worth that a first look bounded: the basis that it guessed is solved.
-    /// It takes no memory but for what it hands out, and `Err` comes when that is refused.
+    /// What a node is worth that a first look bounded: the basis that it guessed is solved. It
+    /// takes no memory but for what it returns, and `Err` comes if that is refused.
     pub fn settle(
         &mut self,
         alloc: Global,
@@ -141,7 +141,7 @@ impl CertifiedBounds {
         self.judged(alloc, site, &node, false, proposed)
     }
 
-    /// What is told of the node once what is proposed is judged.
+    /// The answer for the node once what is proposed is judged.
     fn judged(
         &mut self,
         alloc: Global,
@@ -173,7 +173,7 @@ impl CertifiedBounds {
         }
     }
 
-    /// After `Optimum`: the least cost, where what is proposed passes the check.
+    /// After `Optimum`: the least cost, if what is proposed passes the check.
     fn value(&self, site: &Site<'_>, node: &Node) -> Option<Mixed>
         requires own { AreDivisors (net_of site.now) self.now }
         requires sound { IsSound (shape_of site.now) (node_of node.now) }
@@ -184,8 +184,8 @@ impl CertifiedBounds {
         least_value(problem, graph, &self.scales, *node, &guessed)
     }
 
-    /// Two costs between which the least cost of relaxed flows of the node lies, where they are
-    /// found. It takes no memory but for what it hands out, and `Err` comes when that is refused.
+    /// Two costs between which the least cost of relaxed flows of the node lies, if they are found.
+    /// It takes no memory but for what it returns, and `Err` comes if that is refused.
     pub fn between(
         &mut self,
         alloc: Global,
@@ -203,8 +203,8 @@ impl CertifiedBounds {
         low_to(alloc, site, &node, &mut self.proposals, reached)
     }
 
-    /// What some flows of the node cost: least ones, where their numbers have room, or ones in
-    /// short numbers.
+    /// What some flows of the node cost: least ones, if their numbers have room, or ones in short
+    /// numbers.
     fn cost_of_flows(&mut self, site: &Site<'_>, node: &Node) -> Option<Mixed>
         requires own { AreDivisors (net_of site.now) self.old }
         requires sound { IsSound (shape_of site.now) (node_of node.now) }
@@ -224,7 +224,7 @@ impl CertifiedBounds {
         None
     }
 
-    /// What the listed sizes cost, where they were written and pass the check: then they are kept.
+    /// What the listed sizes cost, if they were written and pass the check: then they are kept.
     fn keep_reached(&mut self, site: &Site<'_>, node: &Node, d: Option<i128>) -> Option<Mixed>
         requires own { AreDivisors (net_of site.now) self.old }
         requires sound { IsSound (shape_of site.now) (node_of node.now) }
@@ -237,7 +237,7 @@ impl CertifiedBounds {
         Some(cost)
     }
 
-    /// What the listed sizes over `d` cost, where they pass the check.
+    /// What the listed sizes over `d` cost, if they pass the check.
     fn reached(&self, site: &Site<'_>, node: &Node, d: i128) -> Option<Mixed>
         requires own { AreDivisors (net_of site.now) self.now }
         requires sound { IsSound (shape_of site.now) (node_of node.now) }
@@ -248,8 +248,8 @@ impl CertifiedBounds {
         cost_of_sizes(problem, graph, &self.scales, *node, sizes, d)
     }
 
-    /// Multipliers that prove that no relaxed flows of the node cost less than the network, where they
-    /// are found. It takes no memory but for what it hands out, and `Err` comes when that is refused.
+    /// Multipliers that prove that no relaxed flows of the node cost less than the network, if they
+    /// are found. It takes no memory but for what it returns, and `Err` comes if that is refused.
     pub fn prove(
         &mut self,
         alloc: Global,

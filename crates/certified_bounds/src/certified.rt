@@ -1,4 +1,4 @@
-//! What is told of a node.
+//! The answers for a node.
 use branch_tree::{Multipliers, Network, Scaled};
 use mixed_numbers::Mixed;
 
@@ -31,7 +31,7 @@ pub struct LowBound {
     pub basis: Vec<u16>,
 }
 
-/// What is told of a node at a first look.
+/// The answer of a first look at a node.
 #[derive(Drop)]
 pub enum FirstBound {
     /// No relaxed flows of the node cost less, if it has any.
@@ -42,7 +42,7 @@ pub enum FirstBound {
     Nothing,
 }
 
-/// What is told of a node.
+/// The answer for a node.
 #[derive(Drop)]
 pub enum Certified {
     /// The node has relaxed flows, the cheapest of this value.

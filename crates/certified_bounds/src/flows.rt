@@ -17,7 +17,7 @@ use pgraph::Site;
 use std::alloc::{AllocError, Global};
 use unit_sets::Node;
 
-/// After `Optimum`, where all is decided: the network of the sizes, where it costs just the value.
+/// After `Optimum`, if all is decided: the network of the sizes, if it costs just the value.
 fn network_at(
     alloc: Global,
     site: &Site<'_>,
@@ -45,7 +45,7 @@ fn network_at(
     Ok(Some(Network::of(node.inside, sizes, d, cost)))
 }
 
-/// After `Optimum`, where all is decided: the network and multipliers that prove its cost.
+/// After `Optimum`, if all is decided: the network and multipliers that prove its cost.
 pub(crate) fn flows(
     alloc: Global,
     site: &Site<'_>,

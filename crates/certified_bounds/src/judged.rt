@@ -1,4 +1,4 @@
-//! The checks on which all rests that is told of a node.
+//! The checks on which each answer for a node rests.
 ghost use Rattle.std.specs.Prelude.{◌≡◌, ◌<◌, ◌≤ℤ◌, ℕ, pos, true, length, Some, IsTrue, IfSome};
 ghost use Rattle.integer_laws.specs.Range.{InRange};
 ghost use Rattle.number_sets.specs.Sets.{has};
@@ -27,9 +27,9 @@ fn row_count(graph: &Graph, node: &Node) -> usize
     sets_of(graph, node).rows.count() as usize
 }
 
-/// What the multipliers prove over their scale: no relaxed flows of the node cost less. None where
-/// the scale is below 1, where there is not a multiplier for each row, or where a number of their
-/// sum is out of range.
+/// What the multipliers prove over their scale: no relaxed flows of the node cost less. There is
+/// none if the scale is below 1, if there is not a multiplier for each row, or if a number of their
+/// sum overflows.
 pub(crate) fn low_of(
     site: &Site<'_>,
     node: &Node,
@@ -53,7 +53,7 @@ pub(crate) fn low_of(
 }
 
 /// Whether the multipliers prove over their scale that no relaxed flows of the node cost less than
-/// the goal. What `low_of` has no answer for is a no.
+/// the goal. If `low_of` has no answer, this is a no.
 pub(crate) fn reaches(
     site: &Site<'_>,
     node: &Node,
@@ -70,7 +70,7 @@ pub(crate) fn reaches(
     }
 }
 
-/// Whether the multipliers refute the node. A number of their sum that is out of range is a no.
+/// Whether the multipliers refute the node. If a number of their sum overflows, this is a no.
 pub(crate) fn is_refuted(site: &Site<'_>, node: &Node, multipliers: &[i128]) -> bool
     requires known { (u : ℕ) → has node.now.inside u ≡ true → u < (shape_of site.now).units }
     ensures { IsTrue result → IsRefuted site.now (node_of node.now) multipliers.now }
@@ -87,8 +87,8 @@ pub(crate) fn is_refuted(site: &Site<'_>, node: &Node, multipliers: &[i128]) -> 
     }
 }
 
-/// The cost over `d` of the network of the units that are taken in where all is decided, if the
-/// sizes over `d` are flows for it and no number on the way is out of range.
+/// The cost over `d` of the network of the units that are taken in, if all is decided, the sizes
+/// over `d` are flows for it, and no number overflows on the way.
 pub(crate) fn cost_of_network(site: &Site<'_>, node: &Node, sizes: &[i128], d: i128) -> Option<i128>
     requires sound { IsSound (shape_of site.now) (node_of node.now) }
     requires decided { IsDecided (shape_of site.now) (node_of node.now) }

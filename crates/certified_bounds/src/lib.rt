@@ -1,28 +1,19 @@
-//! A second way to value a node: guess, solve, and judge exactly.
+//! A guess at a node, judged exactly: multipliers prove each bound.
 //!
 //! [`CertifiedBounds`] is opened over a site, and goes over to another of the same size without
 //! taking its room anew. At a node it guesses a basis of least flows, solves that in whole numbers,
-//! and hands what comes out to exact checks: scaled flows whose prices agree are least, multipliers
-//! bound or refute by their own sum, and sizes are judged as any network's are. What is told of a
-//! node rests on these checks alone; where one of them overflows or says no, nothing is told, and
-//! the node is to be valued in another way.
+//! and hands the result to exact checks. Each answer rests on these checks alone. If one of them
+//! overflows or says no, there is no answer, and the node is to be valued in another way.
 //!
-//! A search need not know at once what a node is worth. At a first look the basis is not solved:
-//! rounded multipliers of the guess prove a cost that no relaxed flows undercut, or that there are
-//! none. That basis is noted, and solved when the worth of the node is to be settled.
+//! A first look does not solve the basis: rounded multipliers of the guess prove a cost that no
+//! relaxed flows undercut, or that there are none. The basis is noted, and solved when the worth of
+//! the node is to be settled. If a number overflows then, the answer may be two costs between which
+//! the least cost lies. Multipliers of a bound are exact if their scale is short, and else rounded:
+//! the bound is then a little below the least cost, and still proved.
 //!
-//! Where the least cost itself overflows, or the multipliers that prove it, two costs may still be
-//! told between which it lies: what rounded multipliers prove, and what flows cost that are least,
-//! or that keep a little off the ends of their ranges, so that their numbers are short.
-//!
-//! Multipliers of a bound are exact where their scale is short, and rounded else: the bound of
-//! rounded ones is a little below the least cost, and still proved.
-//!
-//! Modules: `certified` (what is told of a node), `bounds` (the calls), `lows`, `flows` and
-//! `refutations` (what the proposals amount to once they are judged), `judged` (the checks),
-//! `proposals` (guess and solution, of which nothing is promised), `multipliers` (scaled
-//! multipliers in the numbers of the problem), `noted` (a basis in short numbers), `rounding` (wide
-//! quotients), `number_list` (a list of numbers in range).
+//! Modules: `certified` the answers; `bounds` the calls; `judged` the checks; `lows`, `flows` and
+//! `refutations` judged proposals; `proposals` guess and solution, of which nothing is promised;
+//! `multipliers`, `noted`, `rounding`, `number_list` numbers.
 #![tactic(auto)]
 
 mod bounds;

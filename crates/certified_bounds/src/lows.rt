@@ -20,13 +20,12 @@ use pgraph::Site;
 use std::alloc::{AllocError, Global};
 use unit_sets::Node;
 
-// Exact multipliers are told of where their scale is at most 2^20, and rounded ones over this scale
-// else.
+// Exact multipliers are used if their scale is at most 2^20, and else rounded ones over this scale.
 const SHORT_BITS: u32 = 20;
 
 const SHORT: i128 = 1 << 20;
 
-// Where a number is out of range with these, ones over 2^10 may do at a first look.
+// If a number overflows with these, ones over 2^10 may do at a first look.
 const SHORTER_BITS: u32 = 10;
 
 /// The scale of the multipliers that are listed, and what they prove.
@@ -79,7 +78,7 @@ fn bound_with(
     })
 }
 
-/// After `Optimum`, where not all is decided: the value, and a bound that is proved.
+/// After `Optimum`, if not all is decided: the value, and a bound that is proved.
 pub(crate) fn least(
     alloc: Global,
     site: &Site<'_>,
@@ -99,7 +98,7 @@ pub(crate) fn least(
     Ok(Certified::Least(bound))
 }
 
-/// After `Optimum`: the multipliers that are written in this way, where they prove the goal.
+/// After `Optimum`: the multipliers that are written in this way, if they prove the goal.
 fn reaching(
     alloc: Global,
     site: &Site<'_>,
@@ -122,7 +121,7 @@ fn reaching(
     Ok(Some(scaled))
 }
 
-/// After `Optimum`: the exact multipliers, where they prove the goal.
+/// After `Optimum`: the exact multipliers, if they prove the goal.
 pub(crate) fn exact(
     alloc: Global,
     site: &Site<'_>,
@@ -157,7 +156,7 @@ pub(crate) fn proving(
 }
 
 /// After `propose_sizes` or `propose_inside`: what rounded multipliers prove, over the longest of
-/// three scales at which no number is out of range.
+/// three scales at which no number overflows.
 fn nearest_low(site: &Site<'_>, node: &Node, proposals: &mut Proposals) -> Option<Low>
     requires known { (u : ℕ) → has node.now.inside u ≡ true → u < (shape_of site.now).units }
     ensures { IfSome result (λ l. IsBounded site.now (Some (cost_over l.low)) (node_of node.now) l.scale proposals.new) }
@@ -170,8 +169,8 @@ fn nearest_low(site: &Site<'_>, node: &Node, proposals: &mut Proposals) -> Optio
     None
 }
 
-/// After `propose_low`: what rounded multipliers prove, over a short scale, since they may come to
-/// stand in a tree.
+/// After `propose_low`: what rounded multipliers prove, over a short scale, since they may come
+/// into a tree.
 fn quick_low(site: &Site<'_>, node: &Node, proposals: &mut Proposals) -> Option<Low>
     requires known { (u : ℕ) → has node.now.inside u ≡ true → u < (shape_of site.now).units }
     ensures { IfSome result (λ l. IsBounded site.now (Some (cost_over l.low)) (node_of node.now) l.scale proposals.new) }

@@ -15,7 +15,7 @@ pub(crate) struct ScaledRows<'a> {
     pub(crate) costs: i128,
 }
 
-/// The fraction in lowest terms, where it has them in range.
+/// The fraction in lowest terms, if these are in range.
 fn fraction(num: i128, den: i128) -> Option<Frac> {
     if num == i128::MIN || den < 1 {
         None
@@ -51,8 +51,8 @@ impl ScaledRows<'_> {
         }
     }
 
-    /// A number that divides each scale over which all multipliers are whole, where the scale of
-    /// the scaled ones is their least.
+    /// A number that divides each scale over which all multipliers are whole, if the scale of the
+    /// scaled ones is their least.
     fn scale_divisor(&self) -> i128 {
         match fraction(self.costs, self.scale) {
             Some(costs) => costs.den(),
@@ -60,7 +60,7 @@ impl ScaledRows<'_> {
         }
     }
 
-    /// The least scale over which all multipliers are whole, where it is at most so much.
+    /// The least scale over which all multipliers are whole, if it is at most so much.
     pub(crate) fn exact_scale(&self, most: i128) -> Option<i128> {
         if self.scale_divisor() > most {
             return None;

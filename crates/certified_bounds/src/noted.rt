@@ -1,6 +1,6 @@
 //! A basis in short numbers, as it is noted with a node: one for each variable outside it. The last
-//! bit tells whether the variable stands at its high end, the one before whether it is a balance;
-//! the others are the number of its unit or material.
+//! bit says whether the variable is at its high end, the one before whether it is a balance. The
+//! other bits are the number of its unit or material.
 use basis_guess::{Column, Variable};
 use std::alloc::{AllocError, Global};
 

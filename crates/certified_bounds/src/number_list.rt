@@ -63,7 +63,7 @@ impl NumberList {
         }
     }
 
-    /// How many of the last bits are 0 in each number; 128 where all numbers are 0.
+    /// How many of the last bits are 0 in each number; 128 if all numbers are 0.
     pub(crate) fn idle_bits(&self) -> u32 {
         let mut bits = 0u128;
         for number in &self.numbers {
@@ -83,7 +83,7 @@ impl NumberList {
         &self.numbers
     }
 
-    /// Each number is in range. A call tells a proof so, and does nothing.
+    /// Each number is in range. A call proves this, and does nothing.
     pub(crate) fn are_in_range(&self)
         ensures { AllInRange self.now }
     {

@@ -1,5 +1,5 @@
-//! What is proposed for a node: a guessed basis, its solution, and what is made of it. Nothing is
-//! promised of that but that it is found safely and in an end, and that lists are in range.
+//! What is proposed for a node: a guessed basis, its solution, and what is made of it. Only this is
+//! promised: it is found safely, the work ends, and lists are in range.
 ghost use Rattle.std.specs.Prelude.{◌≡◌};
 ghost use Rattle.integer_laws.specs.Range.{AllInRange};
 ghost use Rattle.flow_rules.specs.Net.{net_of};
@@ -30,7 +30,7 @@ pub(crate) enum Proposed {
 /// How multipliers of the cost are written over a scale.
 #[derive(Clone, Copy)]
 pub(crate) enum Way {
-    /// After `Optimum`: the exact ones over their least scale, where that is at most so much.
+    /// After `Optimum`: the exact ones over their least scale, if that is at most so much.
     Exact(i128),
     /// After `Optimum`: whole numbers near 2^bits times the multipliers.
     Rounded(u32),
@@ -58,7 +58,8 @@ pub(crate) struct Proposals {
     columns: Vec<Column>,
     solver: Solver,
     short: ShortSizes,
-    // The rows of the node: what it asks of each material, and the divisors of those that it has.
+    // The rows of the node: what it demands of each material, and the divisors of those that it
+    // has.
     standings: Vec<Standing>,
     row_rates: Vec<i64>,
     // Scaled multipliers of a row that can't be met, or of the cost.
@@ -113,7 +114,7 @@ const MILLION: i128 = 1_000_000;
 // The greatest size of a unit, in millionths.
 const MOST_SIZE: i128 = 1_000_000_000_000_000;
 
-// So many bits behind a multiplier of the cost have room.
+// So many bits after a multiplier of the cost have room.
 const ROOM: u32 = 64;
 
 /// Whether the unit is left out at the node.
@@ -158,7 +159,7 @@ impl Proposals {
         })
     }
 
-    /// Goes over to the nodes of another problem with as many units and materials. `Err` comes when
+    /// Goes over to the nodes of another problem with as many units and materials. `Err` comes if
     /// memory is refused.
     pub(crate) fn go_over(
         &mut self,
@@ -320,7 +321,7 @@ impl Proposals {
         self.list.numbers()
     }
 
-    /// Each number of the list is in range. A call tells a proof so, and does nothing.
+    /// Each number of the list is in range. A call proves this, and does nothing.
     pub(crate) fn are_in_range(&self)
         ensures { AllInRange self.now }
     {
@@ -336,8 +337,8 @@ impl Proposals {
         }
     }
 
-    /// After `Optimum`: writes the exact multipliers over their least scale, which it gives, where
-    /// that is at most so much.
+    /// After `Optimum`: writes the exact multipliers over their least scale, if that is at most so
+    /// much. Gives that scale.
     fn write_exact(&mut self, most: i128) -> Option<i128> {
         let rows = ScaledRows {
             numbers: self.solver.multipliers(),

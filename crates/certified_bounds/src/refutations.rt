@@ -22,7 +22,7 @@ fn is_row_refuted(site: &Site<'_>, node: &Node, proposals: &mut Proposals, bits:
     proposals.write_row(bits) && is_refuted(site, node, proposals.list())
 }
 
-/// After `Row`: multipliers that refute the node, where rounded ones do.
+/// After `Row`: multipliers that refute the node, if rounded ones do.
 fn refuting(
     alloc: Global,
     site: &Site<'_>,
@@ -42,7 +42,7 @@ fn refuting(
     Ok(None)
 }
 
-/// After `Row`: what is told of the node.
+/// After `Row`: the answer for the node.
 pub(crate) fn refuted(
     alloc: Global,
     site: &Site<'_>,
@@ -58,7 +58,7 @@ pub(crate) fn refuted(
     }
 }
 
-/// After `Row`: what is told of the node at a first look.
+/// After `Row`: the answer for the node at a first look.
 pub(crate) fn first_refuted(
     alloc: Global,
     site: &Site<'_>,

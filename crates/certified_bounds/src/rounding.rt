@@ -29,7 +29,7 @@ fn with_sign(negative: bool, size: i128) -> i128 {
 }
 
 impl Ratio {
-    /// `a * b` over `c * d`, without last bits where one of the products has no room.
+    /// `a * b` over `c * d`, without last bits if one of the products has no room.
     pub(crate) fn of_products(a: i128, b: i128, c: i128, d: i128) -> Ratio {
         let by = excess(a, b).max(excess(c, d));
         Ratio {
@@ -38,7 +38,7 @@ impl Ratio {
         }
     }
 
-    /// A whole number near 2^bits times the ratio; none where it has no room.
+    /// A whole number near 2^bits times the ratio; none if it has no room.
     pub(crate) fn nearest(self, bits_kept: u32) -> Option<i128> {
         let den = self.den.max(1);
         let size = self.num.wrapping_abs().max(0);
@@ -50,7 +50,7 @@ impl Ratio {
         Some(with_sign(self.num < 0, sum))
     }
 
-    /// The whole number below the ratio, where that is not below 0.
+    /// The whole number below the ratio, if that is not below 0.
     pub(crate) fn floor(self) -> i128 {
         self.num.wrapping_div(self.den.max(1))
     }

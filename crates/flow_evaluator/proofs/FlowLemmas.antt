@@ -1,4 +1,4 @@
--- What the bench keeps of a node, as a search is told it.
+-- What the bench keeps of a node, in the form that a search takes.
 use Rattle.std.proofs.Common.{◌≡◌, ℕ, Bool, true, false, not, ℤ, pos, ◌*ℤ◌, ◌≤ℤ◌, List, [], ◌∷◌, length, Some, None, refl, sym, ap, ◌∙◌, subst, arith}
 use Rattle.std.specs.Prelude.{◌&&◌}
 use Rattle.std.proofs.lemmas.Int.{ints}
@@ -51,7 +51,7 @@ pub last_in_range : (before : ℤ) (zs : List ℤ) → InRange before → AreInR
 last_in_range before [] h k = h
 last_in_range before (z ∷ zs) h k = last_in_range z zs k.0 k.1
 
--- equals for equals
+-- equals replaced by equals
 pub carried : (P : List ℕ → List ℤ → ℤ → Type 0) (us vs : List ℕ) (zs ws : List ℤ) (d e : ℤ) → us ≡ vs → zs ≡ ws → d ≡ e → P us zs d → P vs ws e
 carried P us vs zs ws d e a b c h = subst (λ (xs : List ℕ). P xs ws e) a (subst (λ (xs : List ℤ). P us xs e) b (subst (λ (x : ℤ). P us zs x) c h))
 
@@ -100,12 +100,12 @@ module _ (p : Problem) (valid : IsValid p) (n : rules.Node) (b : Bench) (least :
       den : pos 1 ≤ℤ denominator v
       den = let h = denominator_positive v in omega (arith, ints)
 
--- the value of a node, where it is proved, proves each cost that the node is worth
+-- the proved value of a node proves each cost that the node is worth
 pub worth_proved : (p : Problem) (n : rules.Node) (cost : CostOver) (v : Mixed) (s : Scaled) → IsPositive cost → IsWorth p n cost → IsBoundOf IsPastAt p n (record { value = v; low = v; scaled = s; interval = None }) → IsBounded p (Some cost) n s.d s.ys
 worth_proved p n cost v s positive w h =
     leaf_fallen p (Some (cost_over v)) (Some cost) n (bounded s.d s.ys) (under_value p n cost v positive w.under h.value) h.value.positive positive h.bounded
 
--- ---- where all is decided
+-- ---- all is decided
 
 opposed : (a b : Bool) → (a ≡ true → b ≡ true → ⊥) → (not a && not b) ≡ false → b ≡ not a
 opposed true true h k = absurd (h refl refl)

@@ -1,4 +1,4 @@
--- A structure at hand, and the network of it.
+-- A trial structure, and the network of it.
 use Rattle.std.proofs.Common.{◌≡◌, ◌⊎◌, ℕ, ◌<◌, ◌==◌, Bool, true, not, nat_lt, List, sym, ap, ◌∙◌, inl, inr, arith, true≢false, Option, Some, None}
 use Rattle.std.proofs.lemmas.Bool.{or_cases, or_right, and_parts, false_from_ne_true, not-true}
 use Rattle.std.proofs.lemmas.Bool.Decides.{nat_tests}
@@ -51,7 +51,7 @@ between_of g inside in_use spared outside left e within (Some s) h = record {
   avoids = λ u i o. h.avoids u i (ap (λ (xs : List ℕ). has xs u) e ∙ (has-union spared outside u ∙ or_right (has spared u) (has outside u) o));
 }
 
--- least flows of a structure of the node's family are a network at hand
+-- least flows of a structure of the node's family are a trial network
 pub at_hand : (p : Problem) (n : Node) (us : List ℕ) (b : LeastBound) (w : Network) → InFamily (shape_of p) n.inside n.outside (has us) → IsCertified p (decided p us) true (Flows b w) → IsAtHand p n w
 at_hand p n us b w f h = record {
   feasible = h.2.feasible;

@@ -1,4 +1,4 @@
--- What is told of a node without its path, as a search is told it.
+-- The answers for a node without its path, in the form that a search takes.
 use Rattle.std.proofs.Common.{◌≡◌, Bool, true, false, Some, None, refl, ℤ, pos, ◌*ℤ◌, ◌≤ℤ◌, sym, subst, arith}
 use Rattle.std.proofs.lemmas.Int.{ints}
 use Rattle.problem_rules.specs.Problem.{Problem}
@@ -63,7 +63,7 @@ flows_are p n decided told b w r is same h =
       k.4,
     )
 
--- what a first look tells
+-- the answer of a first look
 pub first_is : (p : Problem) (n : Node) (told : FirstBound) (b : LowBound) → told ≡ AtLeast b → IsFirstBound p n told → IsLowerBoundOf p n (record { low = b.low; scaled = b.scaled; basis = b.basis })
 first_is p n told b is h =
     let k : IsFirstBound p n (AtLeast b) = subst (IsFirstBound p n) is h in

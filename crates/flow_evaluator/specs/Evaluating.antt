@@ -1,5 +1,5 @@
--- What an evaluator keeps: common divisors of the numbers of its problem, the bench on which paths are walked, and for how many units
--- and materials it has room.
+-- What an evaluator keeps: common divisors of the numbers of its problem, the bench on which paths
+-- are walked, and for how many units and materials it has room.
 use Rattle.std.specs.Prelude.{◌≡◌, ℕ, length}
 use Rattle.problem_rules.specs.Problem.{Problem}
 use Rattle.flow_rules.specs.Net.{net_of}

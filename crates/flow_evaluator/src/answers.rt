@@ -39,7 +39,7 @@ fn stop_at(alloc: Global, bench: &Bench, place: Place) -> Result<PastStop, Alloc
     Ok(PastStop { nonbasic, place })
 }
 
-/// It is told of the node.
+/// The evaluation of a node with this overflow.
 pub(crate) fn stopped(alloc: Global, bench: &Bench, place: Place) -> Result<Evaluation, AllocError>
     ensures { IfOk result (λ e. e ≡ Stopped (record { nonbasic = bench.now.nonbasic; place = place })) }
 {
@@ -47,7 +47,7 @@ pub(crate) fn stopped(alloc: Global, bench: &Bench, place: Place) -> Result<Eval
     Ok(Evaluation::Stopped(stop))
 }
 
-/// It stands in the place of a proof.
+/// The same in place of a proof.
 pub(crate) fn unproved(alloc: Global, bench: &Bench, place: Place) -> Result<Proof, AllocError>
     ensures { IfOk result (λ e. e ≡ proofs.Stopped (record { nonbasic = bench.now.nonbasic; place = place })) }
 {
@@ -90,7 +90,7 @@ fn bound_at(alloc: Global, value: Mixed, bench: &Bench) -> Result<Bound, AllocEr
     })
 }
 
-/// After `read_flows`, where all is decided: the network of the units that are taken in.
+/// After `read_flows`, if all is decided: the network of the units that are taken in.
 fn network_at(alloc: Global, node: &Node, bench: &Bench, cost: i128) -> Result<Network, AllocError>
     requires one_size { length bench.now.flows ≡ length node.now.inside }
     requires positive { pos 1 ≤ℤ bench.now.flow_den }
@@ -103,7 +103,7 @@ fn network_at(alloc: Global, node: &Node, bench: &Bench, cost: i128) -> Result<N
     Ok(Network::of(node.inside, sizes, bench.flow_den(), cost))
 }
 
-/// After `Least`, where all is decided: the network of the flows that are read off the basis.
+/// After `Least`, if all is decided: the network of the flows that are read off the basis.
 fn with_flows(
     alloc: Global,
     site: &Site<'_>,
@@ -163,7 +163,7 @@ pub(crate) fn proved(
     }
 }
 
-/// After `Least`: the least cost of relaxed flows, and where all is decided a network of that cost.
+/// After `Least`: the least cost of relaxed flows, and if all is decided a network of that cost.
 pub(crate) fn bounded(
     alloc: Global,
     site: &Site<'_>,

@@ -1,4 +1,4 @@
-//! A solution structure at hand at a node: one that has the units that run at the node's last
+//! A trial structure at a node: a solution structure that has the units that run at the node's last
 //! flows.
 ghost use Rattle.std.specs.Prelude.{◌≡◌, ◌<◌, ℕ, true, IsTrue, IfSome};
 ghost use Rattle.number_sets.specs.Sets.{has, IsWithin, Avoids};
@@ -14,15 +14,15 @@ use pns_problem::OperatingUnit;
 use pns_rules::Verdict;
 use unit_sets::{Node, UnitSet};
 
-/// The free units that run, and those that owe something of their fixed cost at their sizes,
-/// whether they run or not.
+/// The free units that run, and those that owe a part of their fixed cost at their sizes, whether
+/// they run or not.
 #[derive(Clone, Copy)]
 pub(crate) struct Running {
     pub units: UnitSet,
     pub owing: UnitSet,
 }
 
-/// Whether a free unit of this size owes something of its fixed cost, which it pays by its size.
+/// Whether a free unit of this size owes a part of its fixed cost, which it pays by its size.
 fn owes(unit: &OperatingUnit, size: i64) -> bool {
     size < unit.upper && (unit.fix > 0 || unit.investment_fix > 0)
 }
@@ -43,7 +43,8 @@ impl Running {
     }
 }
 
-/// The free units that run where the units that are not left out have these sizes, in rising order.
+/// The free units that run, if these are the sizes of the units that are not left out, in rising
+/// order.
 pub(crate) fn running_units(site: &Site<'_>, node: &Node, sizes: &[i64]) -> Running {
     let (problem, graph) = (site.problem(), site.graph());
     let units = problem.units();
@@ -75,8 +76,8 @@ fn units_in_use(graph: &Graph, node: &Node, running: UnitSet) -> UnitSet
     running.meet(free).union(node.inside)
 }
 
-/// The greatest solution structure without the units that are left out, where it has all that are
-/// in use.
+/// The greatest solution structure without the units that are left out, if it has all that are in
+/// use.
 fn greatest_with(graph: &Graph, in_use: UnitSet, left_out: UnitSet) -> Option<UnitSet>
     ensures { IfSome result (λ s. IsBetween (shape graph.now) (has in_use) (has left_out) (has s)) }
 {
@@ -112,8 +113,8 @@ fn is_structure(graph: &Graph, set: UnitSet) -> bool
     }
 }
 
-/// A solution structure that has the units in use: these, where they are one, else with as few more
-/// as it takes, none of which is spared or left out.
+/// A solution structure that has the units in use: these, if they are one, else with as few more as
+/// it takes. It has no unit that is spared or left out.
 fn structure_of(graph: &Graph, node: &Node, in_use: UnitSet, spared: UnitSet) -> Option<UnitSet>
     requires known { (u : ℕ) → has in_use u ≡ true → u < (shape graph.now).units }
     requires inside { IsWithin (has node.now.inside) (has in_use) }
@@ -126,8 +127,8 @@ fn structure_of(graph: &Graph, node: &Node, in_use: UnitSet, spared: UnitSet) ->
     least_with(graph, in_use, spared.union(node.outside))
 }
 
-/// An allowed structure of the node's family that has the free units that run, and as few more as
-/// it takes, none of which is spared.
+/// A clash-free structure of the node's family that has the free units that run, and as few more as
+/// it takes. None of these is spared.
 pub(crate) fn structure_with(
     graph: &Graph,
     node: &Node,

@@ -30,14 +30,14 @@ use std::marker::Model;
 use structure_flows::{allowed_is_decided, node_of};
 use unit_sets::{Node, UnitSet};
 
-/// Values node after node: by a guess that is judged exactly, and where that tells nothing, by the
-/// path of the node's program; and where that stops, by two costs between which the least cost
-/// lies.
+/// Values node after node: by a guess that is judged exactly, and if that finds nothing, by the
+/// path of the node's program. If the path stops, the value is two costs between which the least
+/// cost lies.
 #[derive(Drop)]
 pub struct FlowEvaluator {
     certified: CertifiedBounds,
     bench: Bench,
-    // For how many units and materials there is room.
+    // How many units and materials there is room for.
     units: usize,
     materials: usize,
     // Whether the path of the node that was looked at or evaluated last was walked.
@@ -56,7 +56,7 @@ impl Model for FlowEvaluator {
     ghost invariant = { λ e. HasRoom e.bench e.units e.materials };
 }
 
-/// Walks the path of the node's program, and tells what its end gives.
+/// Walks the path of the node's program, and answers what its end gives.
 fn evaluate_on(
     alloc: Global,
     site: &Site<'_>,
@@ -81,8 +81,8 @@ fn evaluate_on(
     }
 }
 
-/// Walks the path of the program of a node that has relaxed flows, and tells what proves that none
-/// cost less than what the node is worth.
+/// Walks the path of the program of a node that has relaxed flows. The answer is what proves that
+/// none cost less than what the node is worth.
 fn prove_on(
     alloc: Global,
     site: &Site<'_>,
@@ -109,7 +109,7 @@ fn prove_on(
 }
 
 impl FlowEvaluator {
-    /// An evaluator of the nodes of the problem. `Err` comes when memory is refused.
+    /// An evaluator of the nodes of the problem. `Err` comes if memory is refused.
     pub fn open(alloc: Global, site: &Site<'_>) -> Result<FlowEvaluator, AllocError>
         ensures { IfOk result (IsFor site.now) }
     {
@@ -137,8 +137,8 @@ impl FlowEvaluator {
     }
 
     /// The structure of the node's family whose flows are to be tried: one whose free units owe
-    /// nothing, so that its flows cost what the node is worth; and until a network was told, and
-    /// then at one node in 32, any.
+    /// nothing, so that its flows cost what the node is worth. Until a network was found, and after
+    /// that at one node in 32, any will do.
     fn structure_to_try(&self, site: &Site<'_>, node: &Node) -> Option<UnitSet>
         requires sound { IsSound (shape_of site.now) (node_of node.now) }
         ensures { IfSome result (λ s. InFamily (shape_of site.now) (has node.now.inside) (has node.now.outside) (has s)) }
@@ -156,7 +156,7 @@ impl FlowEvaluator {
         structure_with(graph, node, running.units, UnitSet::empty())
     }
 
-    /// The least flows of a structure of the node's family, where they are certified.
+    /// The least flows of a structure of the node's family, if they are certified.
     fn network_of(
         &mut self,
         alloc: Global,
@@ -183,7 +183,7 @@ impl FlowEvaluator {
         }
     }
 
-    /// What is told of the node without its path, if anything.
+    /// The answer for the node without its path, if there is one.
     fn certify(
         &mut self,
         alloc: Global,
@@ -202,8 +202,8 @@ impl FlowEvaluator {
         Ok(evaluation_of(told))
     }
 
-    /// What is told of the node without its path and without a guess, at the basis that was noted
-    /// at its first look, if anything.
+    /// The answer for the node without its path and without a guess, at the basis that was noted at
+    /// its first look, if there is one.
     fn certify_noted(
         &mut self,
         alloc: Global,
@@ -221,8 +221,8 @@ impl FlowEvaluator {
         Ok(evaluation_of(told))
     }
 
-    /// What the path of a node tells; where it stops and not all is decided, two costs between
-    /// which the least cost lies, if they are found.
+    /// The answer of the path of a node. If the path stops and not all is decided, the answer is
+    /// two costs between which the least cost lies, if they are found.
     fn with_between(
         &mut self,
         alloc: Global,
@@ -255,7 +255,8 @@ impl FlowEvaluator {
         }
     }
 
-    /// What is told of the node: without its path, where that tells anything, and by its path else.
+    /// The answer for the node: the one without its path, if there is one, and else that of its
+    /// path.
     fn valued(
         &mut self,
         alloc: Global,

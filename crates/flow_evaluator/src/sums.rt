@@ -65,7 +65,7 @@ pub(crate) fn form_refutation(site: &Site<'_>, node: &Node, bench: &Bench) -> Re
     }
 }
 
-/// After `read_flows`, where all is decided: the cost of the flows. All numbers by which they are
+/// After `read_flows`, if all is decided: the cost of the flows. All numbers by which they are
 /// judged are formed, too.
 pub(crate) fn cost_of_flows(site: &Site<'_>, node: &Node, bench: &Bench) -> Result<i128, Place>
     requires sound { IsSound (shape_of site.now) (node_of node.now) }

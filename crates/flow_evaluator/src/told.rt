@@ -1,4 +1,4 @@
-//! What is told of a node without its path, as a search is told it.
+//! The answers for a node without its path, in the form that a search takes.
 ghost use Rattle.std.specs.Prelude.{◌≡◌, Bool, Some, None, IfSome};
 ghost use Rattle.problem_rules.specs.Problem.{Problem};
 ghost use Rattle.pns_rules.specs.Nodes.{Node};
@@ -35,7 +35,7 @@ pub(crate) fn bound_between(between: Between, stop: PastStop) -> Bound
     }
 }
 
-/// What a first look tells.
+/// The answer of a first look.
 pub(crate) fn first_look_of(told: FirstBound) -> FirstLook
     ensures { (p : Problem) (n : Node) → IsFirstBound p n told → IsFirstLook p n result }
 {
@@ -50,7 +50,7 @@ pub(crate) fn first_look_of(told: FirstBound) -> FirstLook
     }
 }
 
-/// The evaluation, where something is told.
+/// The evaluation, if there is an answer.
 pub(crate) fn evaluation_of(told: Certified) -> Option<Evaluation>
     ensures { (p : Problem) (n : Node) (decided : Bool) → IsCertified p n decided told → IfSome result (IsEvaluated IsPastAt p n decided) }
 {

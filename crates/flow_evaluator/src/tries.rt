@@ -1,23 +1,23 @@
-//! When the flows of a structure at hand are tried. It saves time, and nothing is promised of it.
+//! When the flows of a trial structure are tried. It saves time, and nothing is promised of it.
 use mixed_numbers::Mixed;
 use node_evaluation::{Evaluation, FirstLook};
 
-/// What was told so far: what the node is worth that was looked at last, or what it costs at least,
-/// the least cost of a network, and how many structures were tried in vain since a network was
-/// told.
+/// What was found so far: what the node is worth that was looked at last, or what it costs at
+/// least; the least cost of a network; and how many structures were tried in vain since a network
+/// was found.
 #[derive(Clone, Copy)]
 pub(crate) struct Tries {
     value: Mixed,
     least: Option<Mixed>,
     vain: u32,
-    // How many leaves are still passed over.
+    // How many leaves are still skipped.
     passed: u32,
     // How many nodes were looked at.
     nodes: u32,
 }
 
 impl Tries {
-    /// Before anything is told.
+    /// Before anything is found.
     pub(crate) fn none() -> Tries {
         Tries {
             value: Mixed::of(0, 1),
@@ -32,7 +32,7 @@ impl Tries {
         self.nodes = self.nodes.wrapping_add(1);
     }
 
-    /// Keeps what a first look tells of a node, which counts it.
+    /// Keeps what a first look says of a node, which counts it.
     pub(crate) fn keep_first(&mut self, first: &FirstLook) {
         self.count();
         match first {
@@ -41,7 +41,7 @@ impl Tries {
         }
     }
 
-    /// Keeps what is told of a node. One at which not all is decided was counted at its first look.
+    /// Keeps the answer for a node. One at which not all is decided was counted at its first look.
     pub(crate) fn keep(&mut self, evaluation: &Evaluation, decided: bool) {
         if decided {
             self.count();
@@ -53,7 +53,7 @@ impl Tries {
         }
     }
 
-    /// Keeps the cost of a network that is told.
+    /// Keeps the cost of a network that is found.
     pub(crate) fn keep_cost(&mut self, cost: Mixed) {
         if self.is_cheaper(cost) {
             self.least = Some(cost);
@@ -62,14 +62,14 @@ impl Tries {
         self.passed = 0;
     }
 
-    /// After a structure was tried in vain, as many leaves are passed over as were tried in vain
-    /// one after the other.
+    /// After a structure was tried in vain, as many leaves are skipped as were tried in vain one
+    /// after the other.
     pub(crate) fn keep_vain(&mut self) {
         self.vain = self.vain.saturating_add(1);
         self.passed = self.vain;
     }
 
-    /// Whether a network was told.
+    /// Whether a network was found.
     pub(crate) fn has_network(&self) -> bool {
         self.least.is_some()
     }
@@ -87,7 +87,7 @@ impl Tries {
     }
 
     /// Whether a structure of the node that was looked at last is to be tried: its network may be
-    /// the cheapest that was told, and the leaf is not passed over.
+    /// the cheapest that was found, and the leaf is not skipped.
     pub(crate) fn is_due(&mut self) -> bool {
         if !self.is_cheaper(self.value) {
             return false;

@@ -1,4 +1,5 @@
--- The cheapest network after the children of a node: the one that was known, or the one that was found among them.
+-- The cheapest network after the children of a node: the one that was known, or the one that was
+-- found among them.
 use Rattle.std.proofs.Common.{◌≡◌, ◌⊎◌, List, Option, None, inl, inr, sym, subst}
 use Rattle.problem_rules.specs.Problem.{Problem}
 use Rattle.pns_rules.specs.Nodes.{Node}
@@ -16,7 +17,7 @@ use Rattle.node_evaluation.specs.Looks.{cost_of}
 use Rattle.node_evaluation.specs.Children.{claim_with, IsBest, IsImproved}
 use Rattle.node_evaluation.proofs.ChildLemmas.{cost_is}
 
--- children that pass where a network is claimed pass where one is claimed that costs no more
+-- children that pass if a network is claimed pass if one is claimed that costs no more
 pub children_fallen : (p : Problem) (old new : Option CostOver) (n : Node) (w : Way) (children : List Cell) → HasFallen old new → IsPositiveCost old → IsPositiveCost new
     → AreChildren p old n w children → AreChildren p new n w children
 children_fallen p old new n w children h po pn c = record {

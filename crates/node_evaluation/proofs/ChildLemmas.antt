@@ -61,7 +61,7 @@ pub found_best : (p : Problem) (n : Node) (w : Option claims.Network) → AreFou
 found_best p n None f = record { passes = refl; positive = tt }
 found_best p n (Some w) f = record { passes = f.feasible; positive = f.positive }
 
--- a node that is no dearer than one at which a network was found may undercut this
+-- a node that costs no more than one at which a network was found may undercut this
 found_below : (p : Problem) (n m : Node) (w : Option claims.Network) → AreFoundAt p m w → (IsNever (IsDead (shape_of p) m) → IsNoDearer p n m) → MayUndercut p None n
     → MayUndercut p (claimed_cost (claim_with w)) n
 found_below p n m None f dearer u = u
@@ -92,7 +92,7 @@ or_false : (b : Bool) → (b || false) ≡ b
 or_false true = refl
 or_false false = refl
 
--- ---- what is at hand
+-- ---- what is stored
 
 pub ready_more : (Past : PastPlaces) (p : Problem) (cs : List Cell) (vs : List Mixed) (rs : List (Option Ready)) (cs' : List Cell) (vs' : List Mixed) (rs' : List (Option Ready))
     → AreReady Past p cs vs rs → AreReady Past p cs' vs' rs' → AreReady Past p (cs ++ cs') (vs ++ vs') (rs ++ rs')
@@ -186,7 +186,7 @@ module _ (p : Problem) (valid : IsValid p) (n : Node) (w : Way) (sound : IsSound
         plus_zero : length (cells_of old.nodes.items) + 0 ≡ length (cells_of old.nodes.items)
         plus_zero = omega arith
 
-    -- ---- where it stands
+    -- ---- its place
     at_last : cell_at (cells_of new.nodes.items) (length old.nodes.items) ≡ l.cell
     at_last =
         ap (λ (cs : List Cell). cell_at cs (length old.nodes.items)) cells_more

@@ -1,4 +1,4 @@
--- A network at hand at a child.
+-- A trial network at a child.
 use Rattle.std.proofs.Common.{◌≡◌, ◌⊎◌, ◌||◌, ℕ, ◌<◌, ℤ, ◌*ℤ◌, ◌≤ℤ◌, Bool, List, [], ◌∷◌, ◌++◌, length, map, Option, Some, None, refl, sym, ap, ◌∙◌, subst, arith, inl, inr, true≢false}
 use Rattle.std.specs.Prelude.{is_some, IfSome}
 use Rattle.std.proofs.lemmas.Bool.{or_left}
@@ -56,7 +56,7 @@ module _ (p : Problem) (valid : IsValid p) (m : Node) (w : claims.Network) (h : 
         (relaxed_costs_less p valid m (has w.units) is_between (size_in w) w.d h.feasible.flows) (let q = h.positive in omega (arith, ints)));
   }
 
--- a network at hand below a node is one that may be claimed there
+-- a trial network below a node is one that may be claimed there
 pub at_hand_improves : (p : Problem) → IsValid p → (n m : Node) (found : Option claims.Network) → IfSome found (IsAtHand p m)
     → (IsNever (IsDead (shape_of p) m) → IsNoDearer p n m) → IsImproved p n None found
 at_hand_improves p valid n m None h dearer = record { best = record { passes = refl; positive = tt }; fallen = tt; below = λ u. u }
@@ -67,7 +67,7 @@ at_hand_improves p valid n m (Some w) h dearer = record {
       (reached_dearer p n m (cost_in w) h.positive (dearer (alive p valid m w h)) (reached p valid m w h));
 }
 
--- children that are seen stay so where a network is at hand
+-- children that are seen stay so with a trial network
 module _ (Past : PastPlaces) (p : Problem) (n : Node) (w : Way) (old new : Children) (found : Option claims.Network) (improved : IsImproved p n None found) (same : IsSameBut old new)
     (which : (new.best ≡ old.best) ⊎ (new.best ≡ found)) (fallen : HasFallen (cost_of old.best) (cost_of new.best)) (some : is_some new.best ≡ (is_some old.best || is_some found)) (a : AreLooked Past p n w old) where
   abbrev cost_before : Option CostOver
@@ -110,7 +110,7 @@ module _ (Past : PastPlaces) (p : Problem) (n : Node) (w : Way) (old new : Child
     stop_holds = stop_still;
   }
 
--- one child more, and the network at hand there
+-- one child more, and the trial network there
 module _ (p : Problem) (valid : IsValid p) (n : Node) (w : Way) (sound : IsSound (shape_of p) n) (reduced : IsReduced (shape_of p) n) (may : MayBranch (shape_of p) n w)
     (splits : IsDecision (shape_of p) n w) (t : List ℕ) (option : IsIn t (options_at (shape_of p) n w)) (Past : PastPlaces) (old more new : Children) (l : Looked) (stopped : Bool)
     (a : AreLooked Past p n w old) (ic : IsChild Past p (child_at (shape_of p) n w t) t stopped l) (e : stopped ≡ is_some old.stop)

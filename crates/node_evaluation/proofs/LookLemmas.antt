@@ -43,7 +43,7 @@ low_positive b = let h = denominator_positive b.low in omega (arith, ints)
 pub under_value : (p : Problem) (n : rules.Node) (v : CostOver) (value : Mixed) → IsPositive v → IsUnder p v n → IsValueOf p n (cost_over value) → IsNoMore v (cost_over value)
 under_value p n v value pv u h = under_reached p n v (cost_over value) pv h.positive u h.reached
 
--- where no interval is known, the value is the least cost
+-- if no interval is known, the value is the least cost
 pub exact_value : (Past : PastPlaces) (p : Problem) (n : rules.Node) (b : Bound) → b.interval ≡ None → IsBoundOf Past p n b → IsValueOf p n (cost_over b.value)
 exact_value Past p n b e h = subst (λ (r : Option Interval). IsWorthAs Past p n b.value r) e h.value
 

@@ -29,7 +29,7 @@ use Rattle.node_evaluation.specs.Looks.{cost_of, is_bounded, has_bounded, KnowsC
 
 -- ---- the cheapest network
 
--- the claim of the best network, nothing where there is none
+-- the claim of the best network, nothing if there is none
 abbrev pub claim_with : Option claims.Network → claims.Claim
 claim_with (Some w) = claims.network w
 claim_with None = claims.unknown
@@ -39,13 +39,14 @@ pub record IsBest (p : Problem) (best : Option claims.Network) : Type 0 where
   pub passes : ClaimPasses true p (claim_with best)
   pub positive : IsPositiveCost (claimed_cost (claim_with best))
 
--- a network of nodes below n: it costs no more than the old one, and n may undercut it, where it may undercut the old one
+-- A network of nodes below n: it costs no more than the old one. If n may undercut the old one, it
+-- may undercut this one.
 pub record IsImproved (p : Problem) (n : Node) (old new : Option claims.Network) : Type 0 where
   pub best : IsBest p new
   pub fallen : HasFallen (claimed_cost (claim_with old)) (claimed_cost (claim_with new))
   pub below : MayUndercut p (claimed_cost (claim_with old)) n → MayUndercut p (claimed_cost (claim_with new)) n
 
--- ---- cells with their values, and what is at hand for those that are open
+-- ---- cells with their values, and what is stored for those that are open
 
 abbrev pub cells_of : List Fresh → List Cell
 cells_of fs = map (λ (f : Fresh). f.cell) fs
@@ -63,7 +64,7 @@ AreReady Past p (c ∷ cs) (v ∷ vs) [] = ⊥
 
 -- ---- a child
 
--- no child is looked at behind one that stops the search
+-- after one that stops the search, no child is looked at
 abbrev pub IsChildAs : PastPlaces → Problem → Node → Leaf → Mixed → Option Ready → Option PastStop → Bool → Type 0
 IsChildAs Past p n what value ready stop false = IsOpenAs Past p n what value ready stop
 IsChildAs Past p n what value ready stop true = stop ≡ None
@@ -103,8 +104,8 @@ pub record IsSameBut (old new : Children) : Type 0 where
   pub networks : new.networks.items ≡ old.networks.items
   pub stop : new.stop ≡ old.stop
 
--- these children pass where the cheapest network is claimed that was found among them, and so where a cheaper one is; one was found
--- where a child is a bounded leaf
+-- These children pass if the cheapest network that was found among them is claimed, and so if a
+-- cheaper one is. One was found if a child is a bounded leaf.
 pub record AreLooked (Past : PastPlaces) (p : Problem) (n : Node) (w : Way) (c : Children) : Type 0 where
   pub each : (k : ℕ) → k < length (cells_of c.nodes.items) → IsFreshChild p (claimed_cost (claim_with c.best)) n w (cell_at (cells_of c.nodes.items) k)
   pub found : IsImproved p n None c.best

@@ -1,6 +1,6 @@
--- What a search is told of a node that no step changes any more: the least cost of its relaxed flows, or two costs between which it
--- lies, with multipliers that prove a lower bound of it, a network of that cost, multipliers that refute it, or the place where a number
--- is past the range.
+-- The answers for a node that no step changes any more: the least cost of its relaxed flows, or two
+-- costs between which it lies, with multipliers that prove a lower bound of it, a network of that
+-- cost, multipliers that refute it, or the place at which a number overflows.
 use Rattle.std.specs.Prelude.{◌≡◌, ℕ, pos, ◌≤ℤ◌, Bool, true, false, List, Option, Some, None}
 use Rattle.number_sets.specs.Sets.{has}
 use Rattle.problem_rules.specs.Problem.{Problem}
@@ -24,7 +24,7 @@ use Rattle.node_evaluation.specs.declared.evaluator.Evaluation.TheVariants.{Leas
 use Rattle.node_evaluation.specs.declared.evaluator.Proof.{Proof}
 use Rattle.node_evaluation.specs.declared.evaluator.Proof.TheVariants as proofs
 
--- what is said of a node, the columns outside a basis, and a place where the basis leads past the range
+-- what is said of a node, the columns outside a basis, and a place at which a number overflows
 abbrev pub PastPlaces : Type 1
 PastPlaces = Problem → Node → List Column → Place → Type 0
 
@@ -41,19 +41,21 @@ pub record IsLowerBoundOf (p : Problem) (n : Node) (b : LowerBound) : Type 0 whe
   pub under : IsUnder p (cost_over b.low) n
   pub bounded : IsBounded p (Some (cost_over b.low)) n b.scaled.d b.scaled.ys
 
--- what a first look tells of a node
+-- the answer of a first look at a node
 abbrev pub IsFirstLook : Problem → Node → FirstLook → Type 0
 IsFirstLook p n (looks.AtLeast b) = IsLowerBoundOf p n b
 IsFirstLook p n (looks.Refuted ys) = IsRefuted p n ys
 IsFirstLook p n looks.Nothing = Unit {0}
 
--- the value is the least cost of relaxed flows of the node; where an interval is known, no relaxed flows cost less, some cost at most
--- what the interval reaches, and a number of the node's program is past the range
+-- The value is the least cost of relaxed flows of the node. If an interval is known, no relaxed
+-- flows cost less, some cost at most what the interval reaches, and a number of the node's program
+-- overflows.
 abbrev pub IsWorthAs : PastPlaces → Problem → Node → Mixed → Option Interval → Type 0
 IsWorthAs Past p n value None = IsValueOf p n (cost_over value)
 IsWorthAs Past p n value (Some r) = IsUnder p (cost_over value) n × HasCheaper p n (numerator r.reached) (denominator r.reached) × Past p n r.stop.nonbasic r.stop.place
 
--- the node is worth the value, and the multipliers prove that no relaxed flows cost less than `low`, which is no more
+-- the node is worth the value, and the multipliers prove that no relaxed flows cost less than
+-- `low`, which is no more
 pub record IsBoundOf (Past : PastPlaces) (p : Problem) (n : Node) (b : Bound) : Type 0 where
   pub value : IsWorthAs Past p n b.value b.interval
   pub no_more : IsNoMore (cost_over b.low) (cost_over b.value)
@@ -70,7 +72,8 @@ pub record IsNetworkOf (p : Problem) (value : Mixed) (w : Network) : Type 0 wher
 abbrev pub HasUnits : Node → Network → Type 0
 HasUnits n w = (u : ℕ) → n.inside u ≡ has w.units u
 
--- of a node at which all is decided the network is told, whose cost the multipliers prove, of others what they are worth
+-- of a node at which all is decided the answer is the network, whose cost the multipliers prove, of
+-- others what they are worth
 abbrev pub IsEvaluated : PastPlaces → Problem → Node → Bool → Evaluation → Type 0
 IsEvaluated Past p n decided (Least b) = (decided ≡ false) × IsBoundOf Past p n b
 IsEvaluated Past p n decided (Flows b w) = (decided ≡ true) × (b.interval ≡ None) × IsBoundOf Past p n b × IsNetworkOf p b.value w × IsNoMore (cost_in w) (cost_over b.low) × HasUnits n w
@@ -84,12 +87,13 @@ pub record IsWorth (p : Problem) (n : Node) (cost : CostOver) : Type 0 where
   pub some : MayUndercut p None n
   pub under : IsUnder p cost n
 
--- multipliers that prove that no relaxed flows of the node cost less, or the place where a number is past the range
+-- multipliers that prove that no relaxed flows of the node cost less, or the place at which a
+-- number overflows
 abbrev pub IsProof : PastPlaces → Problem → Node → CostOver → Proof → Type 0
 IsProof Past p n cost (proofs.Scaled s) = IsBounded p (Some cost) n s.d s.ys
 IsProof Past p n cost (proofs.Stopped h) = Past p n h.nonbasic h.place
 
--- ---- a network at hand
+-- ---- a trial network
 
 -- the network has flows; it has all units that are taken in at the node, and none that is left out
 pub record IsAtHand (p : Problem) (n : Node) (w : Network) : Type 0 where

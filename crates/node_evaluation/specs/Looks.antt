@@ -1,4 +1,4 @@
--- What a search sees where it looks at a node: the steps that are possible, the node that they leave, and its end.
+-- What a search sees at a node: the steps that are possible, the node that they leave, and its end.
 use Rattle.std.specs.Prelude.{◌≡◌, ℕ, ◌<◌, pos, ◌≤ℤ◌, Bool, true, false, ◌||◌, List, [], ◌∷◌, Option, Some, None, is_some}
 use Rattle.problem_rules.specs.Problem.{Problem}
 use Rattle.pns_rules.specs.Shape.{shape_of}
@@ -25,14 +25,15 @@ use Rattle.node_evaluation.specs.Evaluated.{PastPlaces, cost_in, IsLowerBoundOf,
 
 -- ---- an open leaf
 
--- what is known of what the node is worth: the leaf's value is a lower bound of it, or just what it is worth, but where the node has no
--- relaxed flows
+-- What is known of the worth of the node: the leaf's value is a lower bound of it, or just what it
+-- is worth; or the node has no relaxed flows.
 abbrev pub IsWorthOf : PastPlaces → Problem → Node → Mixed → Worth → Type 0
 IsWorthOf Past p n value (AtLeast b) = IsLowerBoundOf p n b × (b.low ≡ value)
 IsWorthOf Past p n value (Settled b) = IsBoundOf Past p n b × (b.value ≡ value)
 IsWorthOf Past p n value (worths.Refuted ys) = IsRefuted p n ys
 
--- the node is reduced, and all that its branching or shutting takes is at hand: how it is branched, and what it is worth
+-- the node is reduced, and all that its branching or shutting takes is stored: how it is branched,
+-- and what it is worth
 pub record IsReady (Past : PastPlaces) (p : Problem) (n : Node) (value : Mixed) (r : Ready) : Type 0 where
   pub reduced : IsReduced (shape_of p) n
   pub choice : IsChoice (shape_of p) n r.choice
@@ -48,12 +49,12 @@ abbrev pub IsSomeReady : PastPlaces → Problem → Node → Mixed → Option Re
 IsSomeReady Past p n value None = ⊥
 IsSomeReady Past p n value (Some r) = IsReady Past p n value r
 
--- the node is reduced, and a number of its program is past the range
+-- the node is reduced, and a number of its program overflows
 pub record IsStop (Past : PastPlaces) (p : Problem) (n : Node) (h : PastStop) : Type 0 where
   pub reduced : IsReduced (shape_of p) n
   pub past : Past p n h.nonbasic h.place
 
--- an open leaf is ready, but for one that stops the search
+-- an open leaf is ready, unless it stops the search
 abbrev pub IsOpenAs : PastPlaces → Problem → Node → Leaf → Mixed → Option Ready → Option PastStop → Type 0
 IsOpenAs Past p n what value ready None = what ≡ untried → IsSomeReady Past p n value ready
 IsOpenAs Past p n what value ready (Some h) = (what ≡ untried) × IsStop Past p n h
@@ -72,7 +73,7 @@ abbrev pub is_bounded : End Leaf → Bool
 is_bounded (branch w) = false
 is_bounded (leaf l) = is_bounded_leaf l
 
--- whether one of the cells ends so
+-- whether one of the cells ends in such a leaf
 abbrev pub has_bounded : List Cell → Bool
 has_bounded [] = false
 has_bounded (c ∷ cs) = is_bounded c.end || has_bounded cs
@@ -87,8 +88,8 @@ abbrev pub cost_of : Option Network → Option CostOver
 cost_of None = None
 cost_of (Some w) = Some (cost_in w)
 
--- no needed material of the node is dead, no unit is free there, and those taken in are the network's; the network has flows, and the
--- node has relaxed flows that cost no more
+-- no needed material of the node is dead, no unit is free there, and those taken in are the
+-- network's; the network has flows, and the node has relaxed flows that cost no more
 pub record IsFoundAt (p : Problem) (n : Node) (w : Network) : Type 0 where
   pub alive : IsNever (IsDead (shape_of p) n)
   pub none_free : (u : ℕ) → u < (shape_of p).units → is_free (shape_of p) n u ≡ false
@@ -109,7 +110,8 @@ pub record IsSameNode (c d : Cell) : Type 0 where
   pub steps : d.steps ≡ c.steps
   pub node : d.node ≡ c.node
 
--- the cell is a leaf, which passes where the network is claimed that was found, and is bounded exactly where one was
+-- the cell is a leaf, which passes if the network that was found is claimed, and is bounded just if
+-- one was found
 pub record IsSeen (Past : PastPlaces) (p : Problem) (l : Looked) : Type 0 where
   pub what : Leaf
   pub end_is : l.cell.end ≡ leaf what

@@ -33,9 +33,9 @@ pub struct StoppedAt {
     pub stop: PastStop,
 }
 
-/// The children of a node in the order of their options, with what is at hand for each; the
-/// cheapest network that was found among them; the network that was found at each, where all are
-/// asked for; and the first child that stops the search. Those behind it are not looked at.
+/// The children of a node in the order of their options, with what is stored for each; the cheapest
+/// network that was found among them; the network that was found at each, if all are asked for; and
+/// the first child that stops the search. Those after it are not looked at.
 #[derive(Drop)]
 pub struct Children {
     pub nodes: Vec<Fresh>,
@@ -54,7 +54,7 @@ pub fn costs_no_more(a: &Network, b: &Network) -> bool
     is_no_more(a.cost(), a.d(), b.cost(), b.d())
 }
 
-/// The cheaper network, the old one where they cost the same.
+/// The cheaper network, the old one if they cost the same.
 pub fn cheaper(old: Option<Network>, found: Option<Network>) -> Option<Network>
     ensures which { (result ≡ old) ⊎ (result ≡ found) }
     ensures old { HasFallen (cost_of old) (cost_of result) }
@@ -98,7 +98,7 @@ pub fn copy_of_network(
     Ok(Some(Network::of(network.units(), sizes, network.d(), network.cost())))
 }
 
-/// The networks with a copy of one more, where all are asked for.
+/// The networks with a copy of one more, if all are asked for.
 fn with_network(
     alloc: Global,
     networks: Vec<Option<Network>>,
@@ -150,7 +150,7 @@ fn with_child(
     })
 }
 
-/// Looks at a child, or leaves it open where another stops the search.
+/// Looks at a child, or leaves it open if another stops the search.
 fn look_or_wait<E: Evaluator>(
     workspace: &mut Workspace<E>,
     site: &Site<'_>,
@@ -178,7 +178,7 @@ fn look_or_wait<E: Evaluator>(
     })
 }
 
-/// The same children, with a network at hand where it is cheaper than the best.
+/// The same children, with the trial network if it is cheaper than the best.
 fn with_best(children: Children, at_hand: Option<Network>) -> Children
     ensures same { IsSameBut children result }
     ensures which { (result.best ≡ children.best) ⊎ (result.best ≡ at_hand) }
@@ -190,8 +190,8 @@ fn with_best(children: Children, at_hand: Option<Network>) -> Children
     children
 }
 
-/// The network at hand at a child, where it is a leaf that stays open. None is asked for where the
-/// networks of all leaves are.
+/// The trial network of a child, if it is a leaf that stays open. None is asked for if the networks
+/// of all leaves are.
 fn network_at_hand<E: Evaluator>(
     workspace: &mut Workspace<E>,
     site: &Site<'_>,
@@ -247,7 +247,7 @@ fn look_at_child<E: Evaluator>(
 }
 
 /// Looks at all children of a node that a choice gives, in the order of their options, and copies
-/// each network where `all` are asked for. `Err` comes when memory is refused.
+/// each network if `all` are asked for. `Err` comes if memory is refused.
 pub fn look_at_children<E: Evaluator>(
     workspace: &mut Workspace<E>,
     site: &Site<'_>,

@@ -1,4 +1,4 @@
-//! How a search comes to know the value of a node.
+//! How a search finds the value of a node.
 ghost use Rattle.std.specs.Prelude.{◌≡◌, true, false, IfOk, IfSome, OnOk};
 ghost use Rattle.pns_rules.specs.Shape.{shape_of};
 ghost use Rattle.pns_rules.specs.Ends.{IsSound, IsReduced, IsDecided};
@@ -13,7 +13,7 @@ use pgraph::Site;
 use std::alloc::{AllocError, Global};
 use unit_sets::Node;
 
-/// The columns outside a basis, and the place where a number overflows.
+/// The columns outside a basis, and the place at which a number overflows.
 #[derive(Drop)]
 pub struct PastStop {
     pub nonbasic: Columns,
@@ -21,7 +21,7 @@ pub struct PastStop {
 }
 
 /// What is known of a node whose least cost overflows: what some relaxed flows of it cost at most,
-/// and where its path stops.
+/// and the place at which its path stops.
 #[derive(Drop)]
 pub struct Interval {
     pub reached: Mixed,
@@ -38,19 +38,19 @@ pub struct LowerBound {
     pub basis: Vec<u16>,
 }
 
-/// What a first look tells of a node at which not all is decided.
+/// The answer of a first look at a node at which not all is decided.
 #[derive(Drop)]
 pub enum FirstLook {
     /// No relaxed flows of the node cost less, if it has any.
     AtLeast(LowerBound),
     /// The node has no relaxed flows.
     Refuted(Multipliers),
-    /// Nothing is told: the node is to be evaluated.
+    /// There is no answer: the node is to be evaluated.
     Nothing,
 }
 
-/// The least cost of relaxed flows, or where an interval stands, a cost that none undercut; and
-/// multipliers over their scale, which prove that no relaxed flows cost less than `low`.
+/// The least cost of relaxed flows, or, if there is an interval, a cost that none undercut. The
+/// multipliers over their scale prove that no relaxed flows cost less than `low`.
 #[derive(Drop)]
 pub struct Bound {
     pub value: Mixed,
@@ -59,7 +59,7 @@ pub struct Bound {
     pub interval: Option<Interval>,
 }
 
-/// What is told of a node.
+/// The answer for a node.
 #[derive(Drop)]
 pub enum Evaluation {
     /// The node has relaxed flows, and is worth this much.
@@ -73,7 +73,7 @@ pub enum Evaluation {
     Stopped(PastStop),
 }
 
-/// What is told of a node that is worth no less than a cost.
+/// The answer for a node that is worth no less than a cost.
 #[derive(Drop)]
 pub enum Proof {
     /// Multipliers over their scale that prove so.
@@ -82,8 +82,8 @@ pub enum Proof {
     Stopped(PastStop),
 }
 
-/// Tells what the nodes of a problem are worth. `Err` of each call comes when memory is refused,
-/// and only then.
+/// Says what the nodes of a problem are worth. `Err` of each call comes if memory is refused, and
+/// only then.
 pub trait Evaluator {
     ghost past: { PastPlaces };
 
@@ -108,7 +108,7 @@ pub trait Evaluator {
         ensures first { IfOk result (IsFirstLook site.now (node_of node)) }
         ensures own { values site.now self.new };
 
-    /// Evaluates a node that a first look bounded so.
+    /// Evaluates a node that a first look bounded.
     fn settle(
         &mut self,
         alloc: Global,
@@ -122,8 +122,7 @@ pub trait Evaluator {
         ensures evaluated { IfOk result (IsEvaluated past site.now (node_of node) false) }
         ensures own { values site.now self.new };
 
-    /// Evaluates a node that no step changes any more; `decided` tells whether all is decided
-    /// there.
+    /// Evaluates a node that no step changes any more; `decided` says whether all is decided there.
     fn evaluate(
         &mut self,
         alloc: Global,
@@ -154,9 +153,8 @@ pub trait Evaluator {
         ensures proved { IfOk result (IsProof past site.now (node_of node) (cost_in network.now)) }
         ensures own { values site.now self.new };
 
-    /// A network of the units that are taken in at a node and of others that are not left out
-    /// there, where one is at hand: it is asked for where the node was looked at or evaluated last.
-    /// `None` says nothing.
+    /// A trial network at the node that was looked at or evaluated last, if there is one. It has
+    /// all units that are taken in there, and none that is left out. `None` says nothing.
     fn network_at_hand(
         &mut self,
         alloc: Global,
@@ -169,7 +167,7 @@ pub trait Evaluator {
         ensures own { values site.now self.new };
 
     /// The size of each unit that is not left out at the node looked at or evaluated last, in
-    /// rising order and in whole millionths, where least flows were found or guessed. A guide for
-    /// the choice of a branch: nothing rests on it.
+    /// rising order and in whole millionths, if least flows were found or guessed. A guide for the
+    /// choice of a branch: nothing rests on it.
     fn sizes(&self) -> &[i64];
 }

@@ -1,19 +1,15 @@
-//! What a search sees where it looks at a node.
+//! What a search sees at a node: possible steps and ends that pass.
 //!
 //! [`look`] takes the steps that are possible at a node, and bounds what they leave. The bound is
-//! an [`Evaluator`]'s. A first look tells a cost that no relaxed flows undercut; what the node is
-//! worth is settled by [`settle`] when it is to be branched: the least cost of relaxed flows, or
-//! two costs that it lies between, with multipliers for a lower bound of it, a network, a
-//! refutation, or where a number overflows. And the evaluator proves that a node's value reaches a
-//! cost, where those multipliers do not. A search stands on this trait alone, so that nodes can be
-//! bounded in more than one way.
+//! an [`Evaluator`]'s, and a search uses this trait alone, so that nodes can be bounded in more
+//! than one way. A first look gives a cost that no relaxed flows undercut. [`settle`] finds what
+//! the node is worth when it is to be branched: the least cost of relaxed flows, or two costs
+//! between which it lies, with multipliers; a network; a refutation; or the place at which a number
+//! overflows.
 //!
-//! - `evaluator`: the trait, and what it tells
-//! - `looks`: a look at a node
-//! - `children`: a look at all children of a node
-//! - `options`: the options of a choice, and the children that they give
-//! - `costs`: costs over their scales, compared
-//! - `workspace`: what a search works with
+//! Modules: `evaluator` the trait and its answers; `looks` a look at a node; `children` a look at
+//! all children; `options` the options of a choice; `costs` costs compared; `workspace` what a
+//! search works with.
 #![tactic(auto)]
 
 mod children;

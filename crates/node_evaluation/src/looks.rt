@@ -22,7 +22,7 @@ use search_tree::Cell;
 use std::alloc::AllocError;
 use unit_sets::{Node, UnitSet};
 
-/// What is known of what an open leaf is worth.
+/// What is known of the worth of an open leaf.
 #[derive(Drop)]
 pub enum Worth {
     /// No relaxed flows cost less. What the node is worth is not settled yet, nor whether it has
@@ -59,11 +59,11 @@ pub struct Looked {
     pub cell: Cell,
     /// The value of an open leaf: what it is worth, or a cost below that.
     pub value: Mixed,
-    /// What is at hand for an open leaf.
+    /// What is stored for an open leaf.
     pub ready: Option<Ready>,
     /// The network that was found here.
     pub network: Option<Network>,
-    /// Where a number overflows.
+    /// The place at which a number overflows.
     pub stop: Option<PastStop>,
 }
 
@@ -167,8 +167,8 @@ fn look_closer<E: Evaluator>(
     }
 }
 
-/// Looks at the node of an open cell at which not all is decided, and evaluates it where the first
-/// look tells nothing.
+/// Looks at the node of an open cell at which not all is decided, and evaluates it if the first
+/// look gives no answer.
 fn look_first<E: Evaluator>(
     workspace: &mut Workspace<E>,
     site: &Site<'_>,
@@ -202,8 +202,8 @@ fn look_first<E: Evaluator>(
     }
 }
 
-/// What a node is worth that a first look bounded so, or where a number overflows. `Err` comes when
-/// memory is refused.
+/// What a node is worth that a first look bounded, or the place at which a number overflows. `Err`
+/// comes if memory is refused.
 pub fn settle<E: Evaluator>(
     workspace: &mut Workspace<E>,
     site: &Site<'_>,
@@ -242,8 +242,8 @@ pub fn open_cell(option: UnitSet, steps: Steps, node: Node) -> Cell
     }
 }
 
-/// Takes the steps that are possible at a node, and sees what they leave. `Err` comes when memory
-/// is refused.
+/// Takes the steps that are possible at a node, and sees what they leave. `Err` comes if memory is
+/// refused.
 pub fn look<E: Evaluator>(
     workspace: &mut Workspace<E>,
     site: &Site<'_>,

@@ -9,7 +9,7 @@ use pgraph::Site;
 use std::alloc::{AllocError, Global};
 
 /// What a search over one plant works with: whose memory it takes, an evaluator of the plant's
-/// nodes, and the makers of each material. The calls that take it take the plant's site beside it.
+/// nodes, and the makers of each material. Calls that take it also take the plant's site.
 #[derive(Drop)]
 pub struct Workspace<E: Evaluator> {
     pub alloc: Global,
@@ -18,7 +18,7 @@ pub struct Workspace<E: Evaluator> {
 }
 
 impl<E: Evaluator + Drop> Workspace<E> {
-    /// A workspace with this evaluator of the site's nodes. `Err` comes when memory is refused.
+    /// A workspace with this evaluator of the site's nodes. `Err` comes if memory is refused.
     pub fn of(alloc: Global, evaluator: E, site: &Site<'_>) -> Result<Workspace<E>, AllocError>
         requires { E.values site.now evaluator }
         ensures own { IfOk result (λ w. E.values site.now w.evaluator) }

@@ -1,4 +1,5 @@
--- What holds of the best networks beside the cells of a search, where a leaf is branched and networks are found at its children.
+-- What holds of the best networks and the cells of a search, if a leaf is branched and networks are
+-- found at its children.
 use Rattle.std.proofs.Common.{◌≡◌, ◌⊎◌, ℕ, zero, suc, ◌+◌, ◌<◌, ◌≤◌, pos, ℤ, ◌≤ℤ◌, true, false, List, [], ◌∷◌, ◌++◌, length, take, slice_set, Option, Some, None, inl, inr, refl, sym, ap, ◌∙◌, subst, arith, true≢false, length-append, append_assoc}
 use Rattle.std.specs.List.{slice_get}
 use Rattle.std.proofs.lemmas.Bool.{cases_eq}
@@ -19,7 +20,7 @@ use Rattle.rank_search.specs.Listed.{Listed, AreScaled, IsListed, IsAdded, IsSom
 use Rattle.rank_search.proofs.PlaceLemmas.{no_cheaper_trans, rising_between, scaled_between, listed_more}
 use Rattle.rank_search.proofs.CostLemmas.{last_positive, still_full, last_falls, AreScaledAll}
 
--- ---- a list that is cut
+-- ---- the front of a list
 
 module _ {X : Type 0} (P : X → Type 0) where
   each_at : (xs : List X) → Each P xs → (k : ℕ) (x : X) → slice_get xs k ≡ Some x → P x
@@ -75,7 +76,7 @@ apart_taken zero fs h = tt
 apart_taken (suc n) [] h = tt
 apart_taken (suc n) (f ∷ fs) h = (λ o. h.0 (of_leaf_taken f.leaf n fs o), apart_taken n fs h.1)
 
--- ---- what falls out costs at least what the last one then does
+-- ---- what drops out costs at least what the last one then does
 
 -- one of them, at this leaf, which has the property and costs at least this much
 record IsOne (P : FoundAt → Type 0) (fs : List FoundAt) (j : ℕ) (cost : Option CostOver) : Type 0 where

@@ -1,4 +1,4 @@
--- What the last one of the best networks costs, where one more is added.
+-- What the last one of the best networks costs, if one more is added.
 use Rattle.std.proofs.Common.{◌≡◌, ◌==◌, ℕ, zero, suc, ◌<◌, ◌≤◌, pos, ◌≤ℤ◌, Bool, true, false, cond, List, [], ◌∷◌, ◌++◌, length, take, Option, Some, None, inl, inr, refl, sym, ap, ◌∙◌, subst, arith, length-append}
 use Rattle.std.specs.List.{slice_get}
 use Rattle.std.proofs.lemmas.Bool.{cases_lt, eq-eqb}
@@ -35,7 +35,7 @@ last_at (g ∷ []) (suc k) f e h = absurd (omega (arith, e))
 last_at (g ∷ u ∷ us) zero f e h = absurd (omega (arith, e))
 last_at (g ∷ u ∷ us) (suc k) f e h = last_at (u ∷ us) k f (omega (arith, e)) h
 
--- the last one is to be undercut, where as many stand as are asked for
+-- the last one is to be undercut, if there are as many as are asked for
 pub last_undercut : (l : Listed) → IsListed l → l.count ≤ length l.found → (k : ℕ) (f : FoundAt) → length l.found ≡ suc k → slice_get l.found k ≡ Some f → Some (cost_of f.network) ≡ undercut_by l.count l.found
 last_undercut l h full k f e is =
     last_at l.found k f e is
@@ -49,7 +49,7 @@ undercut_positive l h = by (length (networks_of l.found) == l.count)
     by true = last_positive l.found h.scaled
     by false = tt
 
--- ---- a list that is cut
+-- ---- the front of a list
 
 pub fallen_same : (c : Option CostOver) → HasFallen c c
 fallen_same None = tt
@@ -77,7 +77,7 @@ last_behind [] a after = refl
 last_behind (g ∷ []) a after = refl
 last_behind (g ∷ k ∷ ks) a after = last_behind (k ∷ ks) a after
 
--- where as many stand as are asked for, the last one is no dearer with one more
+-- if there are as many as are asked for, the last one costs no more with one more
 module _ (l m : Listed) (f : FoundAt) (listed : IsListed l) (scale : pos 1 ≤ℤ f.network.d) (a : IsAdded l m f) (full : length l.found ≡ l.count) where
   count_all : length (a.before ++ f ∷ a.after) ≡ suc l.count
   count_all =
@@ -131,7 +131,8 @@ module _ (v : CostOver) (positive : IsPositive v) where
       (fraction_trans v.cost v.d f.network.cost f.network.d a.network.cost a.network.d positive scale scaled.0 h (omega (arith, ints, d)))
       (above_from f rest n h scale scaled.1 dearer.1)
     where
-      -- the last of the others is at least the value where the last of the first one and the others is
+      -- the last of the others is at least the value, if the last of the first one and the others
+      -- is
       last_first : (a : FoundAt) (rest : List FoundAt) (n : ℕ) → IsNoMore v (cost_in a.network) → IsAtMost (last_cost (networks_of (f ∷ take n rest))) v.cost v.d
           → IsAtMost (last_cost (networks_of (a ∷ take n rest))) v.cost v.d
       last_first a rest zero h k = h
@@ -146,7 +147,7 @@ module _ (v : CostOver) (positive : IsPositive v) where
   above_behind (g ∷ []) f after (suc (suc n)) lt h scale scaled dearer = above_from f after n h scale scaled dearer
   above_behind (g ∷ k ∷ ks) f after (suc (suc n)) lt h scale scaled dearer = above_behind (k ∷ ks) f after (suc n) (omega (arith, lt)) h scale scaled dearer
 
--- what is to be undercut costs at least what is added, where that stands in the list
+-- what is to be undercut costs at least what is added, if that is in the list
 module _ (l m : Listed) (f : FoundAt) (listed : IsListed l) (scale : pos 1 ≤ℤ f.network.d) (a : IsAdded l m f) where
   below_undercut : length a.before < l.count → IsAtMost (undercut_by m.count m.found) f.network.cost f.network.d
   below_undercut lt = by (length (networks_of m.found) == m.count) (subst (λ (fs : List FoundAt). IsAtMost (last_cost (networks_of fs)) f.network.cost f.network.d) (sym a.new_is)
@@ -170,7 +171,8 @@ module _ (l m : Listed) (f : FoundAt) (listed : IsListed l) (scale : pos 1 ≤�
       empty [] e = refl
       empty (x ∷ xs) e = absurd (omega (arith, e))
 
-  -- a node that reaches what is added, and may undercut what was to be undercut before, may undercut what is to be undercut now
+  -- a node that reaches what is added, and may undercut what was to be undercut before, may
+  -- undercut what is to be undercut now
   one_reached : (p : Problem) (n : Node) → HasCheaper p n f.network.cost f.network.d → MayUndercut p (undercut_by l.count l.found) n → MayUndercut p (undercut_by m.count m.found) n
   one_reached p n h may = elim (cases_lt (length a.before) l.count) [
     | inl lt ↦ reached_may_undercut p (undercut_by m.count m.found) n (cost_in f.network) scale (undercut_positive m (listed_more l m f listed scale a)) (below_undercut lt) h

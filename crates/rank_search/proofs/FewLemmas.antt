@@ -1,4 +1,5 @@
--- A tree in which each branch is reduced and decides something has few nodes, also with the children that an open leaf may have.
+-- A tree in which each branch is reduced and decides something has few nodes, also with the
+-- children that an open leaf may have.
 use Rattle.std.proofs.Common.{◌≡◌, ℕ, zero, suc, ◌+◌, ◌^◌, ◌<◌, ◌≤◌, Bool, false, List, [], ◌∷◌, ◌++◌, length, refl, sym, subst, arith}
 use Rattle.std.proofs.Math.Nat.{pow-le-pow_right}
 use Rattle.number_sets.specs.Sets.{listed}
@@ -19,7 +20,7 @@ module _ (g : Shape) (proper : IsProper g) (all : ℕ → Bool) (union : IsUnion
     abbrev root : Node
     root = after_all g start t.steps
 
-    -- the node without its steps, from where these lead
+    -- the node without its steps, from the node to which they lead
     abbrev bare : TreeNode L
     bare = record { option = t.option; steps = []; end = t.end }
 
@@ -31,7 +32,7 @@ module _ (g : Shape) (proper : IsProper g) (all : ℕ → Bool) (union : IsUnion
     from_bare zero n e h = h
     from_bare (suc k) n e h = h
 
-    -- the root is reduced where it is branched, and so is the leaf
+    -- the root is reduced if it is branched, and so is the leaf
     root_reduced : (k : ℕ) (n : Node) (l : L) → Stands g (start ∷ []) (t ∷ ts) k n (leaf l) → IsReduced g n → (e : End L) → t.end ≡ e → IsReduced g root
     root_reduced k n l s r (branch w) e = reduced zero w root (refl, e)
     root_reduced zero n l s r (leaf m) e = subst (λ (o : Node). IsReduced g o) (sym s.0) r

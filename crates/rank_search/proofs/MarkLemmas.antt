@@ -1,4 +1,5 @@
--- A tree whose named leaves stand open, with its marks, is the ranked tree that these leaves name networks in.
+-- A tree whose named leaves are open leaves, with its marks, is the ranked tree in which these
+-- leaves name networks.
 use Rattle.std.proofs.Common.{◌≡◌, ℕ, zero, suc, ◌+◌, List, [], ◌∷◌, ◌++◌, length, map, take, drop, slice_set, Option, Some, None, refl, sym, ap, ap₂, ◌∙◌, subst, arith}
 use Rattle.std.specs.List.{slice_get}
 use Rattle.problem_rules.specs.Each.{Each}
@@ -17,7 +18,7 @@ use Rattle.search_tree.specs.Preorder.{told_end}
 use Rattle.rank_search.specs.Naming.{Names, opened_end, opened_node, opened, marks_at, marks_in, marks_of}
 use Rattle.rank_search.proofs.NameLemmas.{IsCountedName}
 
--- ---- what a leaf with a name is told as
+-- ---- what a leaf with a name becomes
 
 abbrev pub named_leaf : Option ℕ → Leaf → ranks.Leaf
 named_leaf None l = ranks.plain l
@@ -193,7 +194,7 @@ marks_stay (x ∷ xs) = ap (λ (ks : List Mark). mark_of x ∷ ks) (marks_stay x
 next : (n : ℕ) → suc n ≡ n + 1
 next n = omega arith
 
--- what becomes of the nodes and the marks where the next node is taken
+-- what becomes of the nodes and the marks if the next node is taken
 pub take_next : (ns : Names) (ts now : Tree) (ks : List Mark) (i : ℕ) (n : Option ℕ) (t u : TreeNode Leaf) (r : List Mark)
     → slice_get ns i ≡ Some n → now ≡ opened (take i ns) ts → slice_get now i ≡ Some t → u ≡ opened_node n t → r ≡ marks_at n t.end → ks ≡ marks_in (take i ns) ts
     → (slice_set now i u ≡ opened (take (i + 1) ns) ts) × (ks ++ r ≡ marks_in (take (i + 1) ns) ts)
@@ -203,7 +204,7 @@ take_next ns ts now ks i n t u r hn is ht ut rt kt =
       ap₂ (λ (xs ys : List Mark). xs ++ ys) kt rt ∙ (marks_next ns ts i n t hn there ∙ ap (λ (j : ℕ). marks_in (take j ns) ts) (next i)),
     )
 
--- a list that was written over whole
+-- a list that was overwritten whole
 pub written_over : {X : Type 0} (xs ys : List X) (n : ℕ) → length xs ≡ length ys → n ≡ length ys → take n (xs ++ drop (length xs) ys) ≡ xs
 written_over {X} [] [] n l h = subst (λ (k : ℕ). take {A = X} k [] ≡ []) (sym h) refl
 written_over {X} [] (y ∷ ys) n l h = absurd (omega (arith, l))

@@ -1,4 +1,5 @@
--- The names of leaves: each is that of a network that was found there, and no leaf at which one was found is without a name.
+-- The names of leaves: each is that of a network that was found there, and no leaf at which one was
+-- found is without a name.
 use Rattle.std.proofs.Common.{◌≡◌, ◌⊎◌, ℕ, zero, suc, ◌+◌, ◌<◌, ◌≤◌, List, [], ◌∷◌, length, drop, replicate, slice_set, Option, Some, None, refl, sym, ap, ◌∙◌, subst, arith, inl, inr}
 use Rattle.std.specs.List.{slice_get}
 use Rattle.std.specs.Prelude.{get_or}

@@ -1,5 +1,5 @@
--- Each leaf passes as it is told: one that names a network names the one of its node, and another one is bounded by the last network,
--- where it is bounded.
+-- Each leaf of the answer passes: one that names a network names the one of its node, and another
+-- one, if it is bounded, is bounded by the last network.
 use Rattle.std.proofs.Common.{◌≡◌, ℕ, zero, suc, ◌+◌, ◌<◌, ℤ, Bool, true, false, cond, List, [], ◌∷◌, length, Option, Some, None, refl, sym, ap, ◌∙◌, subst, arith, inl, inr, eq-eqb}
 use Rattle.std.specs.List.{slice_get}
 use Rattle.std.proofs.lemmas.List.{length-map}
@@ -28,7 +28,7 @@ use Rattle.rank_search.proofs.OrderLemmas.{leaf_told}
 
 -- ---- open leaves
 
--- an open leaf stays open in a partial tree, or what stands at its number shuts it
+-- an open leaf stays open in a partial tree, or the item at its number shuts it
 abbrev pub ClosesAt : Bool → Problem → Option CostOver → Node → Option Shut → Type 0
 ClosesAt partial p undercut n None = partial ≡ true
 ClosesAt partial p undercut n (Some m) = ShutsNode p undercut n m
@@ -74,7 +74,7 @@ bounded_stays : (m : Option Shut) (d : ℤ) (ys : List ℤ) → shut_leaf m (bou
 bounded_stays None d ys = refl
 bounded_stays (Some m) d ys = refl
 
--- ---- an open leaf is told as open where it was open
+-- ---- an open leaf of the answer was open before
 
 shut_open : (m : Option Shut) (l : Leaf) → shut_leaf m l ≡ untried → l ≡ untried
 shut_open None l h = h
@@ -102,12 +102,12 @@ never_open : (m : Shut) → shut_as m ≡ untried → ⊥
 never_open (shuts.Bounded m) h = let q : bounded m.d m.ys ≡ untried = h in cc
 never_open (shuts.Refuted ys) h = let q : refuted ys ≡ untried = h in cc
 
--- nothing shuts one that is told as open
+-- nothing shuts one that is open in the answer
 pub told_unshut : (n : Option ℕ) (m : Option Shut) → named_leaf n (shut_leaf m untried) ≡ ranks.plain untried → m ≡ None
 told_unshut n None h = refl
 told_unshut n (Some m) h = absurd (never_open m (named_open n (shut_as m) h))
 
--- where nothing shuts it, an open leaf is told as open
+-- if nothing shuts it, an open leaf is open in the answer
 pub told_open : (n : Option ℕ) → named_leaf n (shut_leaf None untried) ≡ ranks.plain untried
 told_open None = refl
 told_open (Some k) = refl
@@ -133,7 +133,7 @@ undercut_is count fs h =
 end_inj : (l k : Leaf) → leaf l ≡ leaf k → l ≡ k
 end_inj l k h = cc
 
--- ---- a leaf as it is told
+-- ---- a leaf of the answer
 
 module _ (partial : Bool) (p : Problem) (count : ℕ) (start : Node) (claimed : Option CostOver) (cells : List Cell) (fits : Fits (shape_of p) (leaves.LeafPasses true p claimed) start cells)
     (fs : List FoundAt) (best : AreBest p count cells fs) (ms : List (Option Shut)) (closes : Closes partial p (undercut_by count fs) cells ms) where

@@ -1,5 +1,5 @@
--- The networks pass as a list: no two have the same units, where no two were found at one leaf, since a structure is in the family of one
--- leaf alone.
+-- The networks pass as a list: no two have the same units, if no two were found at one leaf. For a
+-- structure is in the family of one leaf alone.
 use Rattle.std.proofs.Common.{◌≡◌, ℕ, suc, ◌<◌, Bool, true, List, [], ◌∷◌, length, Some, refl, sym, ap, ◌∙◌, subst, inl, inr}
 use Rattle.std.specs.List.{slice_get}
 use Rattle.number_sets.specs.Sets.{has}

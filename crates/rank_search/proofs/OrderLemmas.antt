@@ -1,5 +1,5 @@
--- The cells of which open leaves are shut stand in the order of the others, each once; and the tree of such cells, with names, is the
--- tree of the others, whose leaves are told so by their numbers.
+-- Cells of which open leaves are shut have the order of the others, each once. The tree of such
+-- cells, with names, is the tree of the others, whose leaves become others by their numbers.
 use Rattle.std.proofs.Common.{◌≡◌, ℕ, suc, ◌+◌, ◌<◌, List, [], ◌∷◌, ◌++◌, length, Option, Some, refl, sym, ap, ap₂, subst, arith, inl, inr, ne_eqb}
 use Rattle.std.specs.List.{slice_get}
 use Rattle.std.proofs.lemmas.Bool.{cases_eq}
@@ -18,7 +18,7 @@ use Rattle.search_tree.proofs.TreeLemmas.{AreThere, there-append, children_there
 use Rattle.rank_search.specs.Naming.{Names, name_at, names_at}
 use Rattle.rank_search.proofs.MarkLemmas.{named_leaf, named_node, named_tree}
 
--- ---- where a cell stands
+-- ---- the place of a cell
 
 pub record StandsIn (order : List ℕ) (j : ℕ) : Type 0 where
   pub place : ℕ
@@ -38,9 +38,9 @@ stands_somewhere (i ∷ is) j h = elim (cases_eq i j) [
 pub stands_in : (cells : List Cell) (order : List ℕ) → IsLinked cells → IsPreorder cells (0 ∷ []) order → (j : ℕ) → j < length cells → StandsIn order j
 stands_in cells order linked p j lt = stands_somewhere order j (once cells linked order p (suc j) j (omega arith) lt)
 
--- ---- where open leaves are shut
+-- ---- open leaves are shut
 
--- how the leaf of a cell is told
+-- what the leaf of a cell becomes in the answer
 abbrev pub leaf_told : Names → List (Option Shut) → ℕ → Leaf → ranks.Leaf
 leaf_told names ms i l = named_leaf (name_at names i) (shut_leaf (proof_of ms i) l)
 

@@ -1,4 +1,4 @@
--- Where a network goes in a list that rises in cost, and what the list is then.
+-- The place of a network in a list that rises in cost, and what the list is then.
 use Rattle.std.specs.Prelude.{slice_index_or, int_le, drop, IsTrue, ◌↔◌}
 use Rattle.std.proofs.Common.{◌≡◌, ℕ, zero, suc, ◌+◌, ◌<◌, ◌≤◌, pos, ℤ, ◌*ℤ◌, ◌≤ℤ◌, ◌<ℤ◌, Bool, true, false, List, [], ◌∷◌, ◌++◌, length, take, Option, refl, sym, ap, ◌∙◌, subst, arith, T}
 use Rattle.std.specs.Int.Signed.{le_z, le_z_yes}
@@ -31,7 +31,7 @@ false_lt x y h = by_lt_z y x (λ lt. lt) (λ le. absurd (let t : true ≡ false 
 abbrev pub is_no_dearer : Network → FoundAt → Bool
 is_no_dearer w f = int_le (f.network.cost *ℤ w.d) (w.cost *ℤ f.network.d)
 
--- a test that answers so
+-- a test with this answer
 pub test_is : (w : Network) (f : FoundAt) (b : Bool) → (IsTrue b ↔ IsNoCheaper f.network w) → b ≡ is_no_dearer w f
 test_is w f true h = sym (le_true (f.network.cost *ℤ w.d) (w.cost *ℤ f.network.d) (h.0 refl))
 test_is w f false h = by (is_no_dearer w f) refl
@@ -117,7 +117,7 @@ pub append_none : {X : Type 0} (xs : List X) → xs ++ [] ≡ xs
 append_none [] = refl
 append_none (x ∷ xs) = ap (λ ys. x ∷ ys) (append_none xs)
 
--- it is put at its place, and the list cut to as many as are asked for
+-- it is put at its place, and the list shortened to as many as are asked for
 pub added : (old new : Listed) (f : FoundAt) (at : ℕ) → AreNoDearer (take at old.found) f.network → AreDearer (drop at old.found) f.network → new.count ≡ old.count
     → new.found ≡ take old.count (take at old.found ++ f ∷ drop at old.found) → IsAdded old new f
 added old new f at low high ec ef = record {
@@ -130,7 +130,7 @@ added old new f at low high ec ef = record {
   new_is = ef;
 }
 
--- it costs at least what all do, and no more than those are asked for
+-- it costs at least what all do, and there are as many as are asked for
 pub added_nowhere : (old : Listed) (f : FoundAt) (at : ℕ) → IsListed old → at ≤ length old.found → old.count ≤ at → AreNoDearer (take at old.found) f.network → IsAdded old old f
 added_nowhere old f at l within full low = record {
   before = old.found;

@@ -1,4 +1,5 @@
--- What is told of a search: the tree, with its networks and marks, is ranked, lean, and spent where the search is.
+-- The answer of a search: the tree, with its networks and marks, is ranked, lean, and spent if the
+-- search is.
 use Rattle.std.specs.Prelude.{IfOk}
 use Rattle.std.proofs.Common.{◌≡◌, ℕ, suc, ◌+◌, ◌-◌, ◌^◌, ◌<◌, ◌≤◌, Bool, true, List, [], ◌∷◌, length, Option, Some, None, Result, Ok, Err, refl, sym, ap, ap₂, ◌∙◌, subst, arith}
 use Rattle.std.specs.List.{slice_get}
@@ -127,7 +128,7 @@ module _ (p : Problem) (valid : IsValid p) (count : ℕ) (s : Growing) (fs : Lis
       passes (shape_of p) (leaves.LeafPasses true p (claimed_cost (claim_with s.best))) (node_of s.start) s.pool.payloads linked t.kept.grown.fits (node_of s.start ∷ []) (0 ∷ []) of.order
       (aligned_start (shape_of p) (leaves.LeafPasses true p (claimed_cost (claim_with s.best))) (node_of s.start) s.pool.payloads linked t.kept.grown.fits) preorder
 
-  -- ---- it proves what is told
+  -- ---- it proves what is answered
   module _ (partial : Bool) (closes : Closes partial p (undercut_by count fs) s.pool.payloads ms) (sized : Each IsSized (networks_of fs)) (asked : 1 ≤ count) where
     passes_told : Pass (shape_of p) (ranks.LeafPasses partial p (networks_of fs) (undercut_by count fs)) (node_of s.start ∷ []) (told_tree told s.pool.payloads of.order)
     passes_told =

@@ -1,4 +1,4 @@
--- What is found where the search ends so, from what is told of it.
+-- What is found if the search ends in this way, from its answer.
 use Rattle.std.proofs.Common.{◌≡◌, ℕ, true, false, List, refl}
 use Rattle.problem_rules.specs.Problem.{Problem}
 use Rattle.pns_rules.specs.Shape.{shape_of}

@@ -1,4 +1,4 @@
--- What stands in a tree whose leaves are told in another way stands in the tree of the cells, at some place.
+-- A node of a tree whose leaves became others is a node of the tree of the cells, at some place.
 use Rattle.std.proofs.Common.{◌≡◌, ℕ, ◌+◌, ◌<◌, List, [], ◌∷◌, length, Option, Some, refl, sym, ap, ◌∙◌, subst, arith, inl, inr}
 use Rattle.std.specs.List.{slice_get}
 use Rattle.std.proofs.lemmas.Bool.{cases_eq}
@@ -66,7 +66,7 @@ module _ (p : Problem) (P : Node → Leaf → Type 0) (start : Node) (cells : Li
       let c = plain k n (branch w) s in
       record { place = c.place; stands = subst (λ (e : End Leaf). Stands (shape_of p) (start ∷ []) (tree_of cells order) c.place n e) (told_branch (f c.number) (cell_at cells c.number).end w c.told) c.stands }
 
-  -- ---- where only open leaves are told as open
+  -- ---- if only open leaves become open ones
   module _ (IsOpen : L → Type 0) (still : (i : ℕ) (l : Leaf) → IsOpen (f i l) → l ≡ untried) where
     record IsOpenThere (n : Node) : Type 0 where
       pub place : ℕ
@@ -93,7 +93,7 @@ module _ (p : Problem) (P : Node → Leaf → Type 0) (start : Node) (cells : Li
           lean.in_turn b.place w n b.stands q.place m untried q.stands refl no_dead;
     }
 
-    -- an open leaf that is told as open stands at its place
+    -- an open leaf that is open in the answer has its place
     module _ (at place : ℕ) (there : at < length cells) (stands : slice_get order place ≡ Some at) where
       pub told_stands : (cell_at cells at).end ≡ leaf untried → IsOpen (f at untried) → IsOpenAt p IsOpen start (told_tree f cells order) place (place_of (cell_at cells at))
       told_stands is o = record {
@@ -105,7 +105,7 @@ module _ (p : Problem) (P : Node → Leaf → Type 0) (start : Node) (cells : Li
 
     -- ---- the budget is spent
 
-    -- an open leaf that is told as open is that of an open cell
+    -- an open leaf of the answer is that of an open cell
     record IsOpenCell (n : Node) : Type 0 where
       pub number : ℕ
       pub there : number < length cells

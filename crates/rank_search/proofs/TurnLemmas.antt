@@ -95,7 +95,7 @@ more_settled Past p s t n m e h = record {
   more = subst (λ (cs : List Cell). length cs < length n.pool.payloads) e.cells h.more;
 }
 
--- ---- the search stops at a leaf whose least cost is past the range
+-- ---- the search stops at a leaf whose least cost overflows
 
 module _ (Past : PastPlaces) (p : Problem) (budget : ℕ) (s t : Growing) (l : Listed) (e : IsSameButHand s t) where
   pub ends_there : IsRankTree p budget s l → (h : StoppedLeaf) → IsStoppedAt Past p s h.leaf h.stop → IsRankEnd Past p budget t l (endings.Past h)

@@ -1,5 +1,5 @@
--- The best networks that a search has found, each with the number of the leaf at which it was found, and what holds of them beside the
--- cells of the search's tree.
+-- The best networks that a search has found, each with the number of the leaf at which it was
+-- found, and what holds of them and of the cells of the search's tree.
 use Rattle.std.specs.Prelude.{◌≡◌, ◌⊎◌, ℕ, ◌<◌, ◌≤◌, ℤ, List, [], ◌∷◌, length, map, Option, Some}
 use Rattle.std.specs.List.{slice_get}
 use Rattle.problem_rules.specs.Problem.{Problem}
@@ -18,7 +18,7 @@ pub record FoundAt : Type 0 where
 abbrev pub networks_of : List FoundAt → List Network
 networks_of fs = map (λ (f : FoundAt). f.network) fs
 
--- the cost that is to be undercut, where so many networks are asked for
+-- the cost that is to be undercut, if so many networks are asked for
 abbrev pub undercut_by : ℕ → List FoundAt → Option CostOver
 undercut_by count fs = to_undercut count (networks_of fs)
 
@@ -47,13 +47,15 @@ pub record IsFoundThere (p : Problem) (cells : List Cell) (f : FoundAt) : Type 0
   pub found : IsFoundAt p (place_of (cell_at cells f.leaf)) f.network
   pub bound : IsBounded p (Some (cost_of f.network)) (place_of (cell_at cells f.leaf)) d ys
 
--- a bounded leaf is that of one of the networks; or as many stand as are asked for, and its multipliers bound what the last one costs
+-- a bounded leaf is that of one of the networks; or there are as many as are asked for, and its
+-- multipliers bound what the last one costs
 abbrev pub IsListedOrBeaten : Problem → ℕ → List FoundAt → List Cell → ℕ → Type 0
 IsListedOrBeaten p count fs cells j =
     (d : ℤ) (ys : List ℤ) → (cell_at cells j).end ≡ leaf (bounded d ys)
     → IsOfLeaf j fs ⊎ ((length fs ≡ count) × IsBounded p (last_cost (networks_of fs)) (place_of (cell_at cells j)) d ys)
 
--- the networks are the best of those that were found at the leaves of these cells, as many as are asked for at most, best first
+-- the networks are the best of those that were found at the leaves of these cells, as many as are
+-- asked for at most, best first
 pub record AreBest (p : Problem) (count : ℕ) (cells : List Cell) (fs : List FoundAt) : Type 0 where
   pub there : (k : ℕ) (f : FoundAt) → slice_get fs k ≡ Some f → IsFoundThere p cells f
   pub apart : AreApart fs

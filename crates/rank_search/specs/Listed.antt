@@ -1,10 +1,11 @@
--- The list of the best networks as a value: how many are asked for, those that stand, and what becomes of it where one more is found.
+-- The list of the best networks as a value: how many are asked for, those that it has, and what
+-- becomes of it if one more is found.
 use Rattle.std.specs.Prelude.{◌≡◌, ℕ, suc, ◌≤◌, pos, ◌≤ℤ◌, ◌<ℤ◌, ◌*ℤ◌, List, [], ◌∷◌, ◌++◌, length, take, Option, Some, None}
 use Rattle.tree_rules.specs.Claim.{Network}
 use Rattle.rank_rules.specs.Networks.{IsNoCheaper}
 use Rattle.rank_search.specs.Found.{FoundAt, AreRising}
 
--- so many are asked for, and these stand
+-- how many are asked for, and those of the list
 pub record Listed : Type 0 where
   pub count : ℕ
   pub found : List FoundAt
@@ -14,7 +15,8 @@ abbrev pub AreScaled : List FoundAt → Type 0
 AreScaled [] = Unit {0}
 AreScaled (f ∷ fs) = (pos 1 ≤ℤ f.network.d) × AreScaled fs
 
--- what the type of the list keeps: at least one is asked for, no more stand, and none costs less than the one before it
+-- what the type of the list keeps: at least one is asked for, there are no more than that, and none
+-- costs less than the one before it
 pub record IsListed (l : Listed) : Type 0 where
   pub asked : 1 ≤ l.count
   pub few : length l.found ≤ l.count
@@ -37,7 +39,8 @@ abbrev pub AreDearer : List FoundAt → Network → Type 0
 AreDearer [] w = Unit {0}
 AreDearer (f ∷ fs) w = IsDearer w f.network × AreDearer fs w
 
--- it stands behind those that cost no more and before those that cost more, and what is then too many falls out at the end
+-- it comes after those that cost no more and before those that cost more; if that is one too many,
+-- the last one drops out
 pub record IsAdded (old new : Listed) (f : FoundAt) : Type 0 where
   pub before : List FoundAt
   pub after : List FoundAt
@@ -47,12 +50,13 @@ pub record IsAdded (old new : Listed) (f : FoundAt) : Type 0 where
   pub count_is : new.count ≡ old.count
   pub new_is : new.found ≡ take old.count (before ++ f ∷ after)
 
--- so it is where there is one
+-- the same, if there is one
 abbrev pub IsSomeAdded : Listed → Listed → ℕ → Option Network → Type 0
 IsSomeAdded old new leaf None = new ≡ old
 IsSomeAdded old new leaf (Some w) = IsAdded old new (record { network = w; leaf = leaf })
 
--- the networks are added in turn, the first at the leaf of this number, the next at the leaf behind it
+-- the networks are added in turn, the first at the leaf of this number, each next one at the next
+-- leaf
 abbrev pub AreAdded : Listed → Listed → ℕ → List (Option Network) → Type 0
 AreAdded old new first [] = new ≡ old
 AreAdded old new first (w ∷ ws) = (mid : Listed) × IsSomeAdded old mid first w × AreAdded mid new (suc first) ws

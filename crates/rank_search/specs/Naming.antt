@@ -1,5 +1,5 @@
--- How a search's tree is told as a ranked one: a bounded leaf at which one of the networks was found names that network, and stands in
--- the ordinary tree as an open leaf with a mark.
+-- The tree of a search as a ranked one: a bounded leaf at which one of the networks was found names
+-- that network, and is in the ordinary tree an open leaf with a mark.
 use Rattle.std.specs.Prelude.{◌≡◌, ℕ, suc, ◌<◌, List, [], ◌∷◌, ◌++◌, map, length, slice_set, replicate, get_or, Option, Some, None}
 use Rattle.std.specs.List.{slice_get}
 use Rattle.tree_rules.specs.Tree.{End, branch, leaf, TreeNode}
@@ -42,7 +42,7 @@ names_at names order = map (name_at names) order
 
 -- ---- ends with a name
 
--- a bounded leaf that has a name stands open
+-- a bounded leaf that has a name becomes an open leaf
 abbrev pub opened_end : Option ℕ → End Leaf → End Leaf
 opened_end None e = e
 opened_end (Some k) (branch w) = branch w
@@ -52,7 +52,8 @@ opened_end (Some k) (leaf (refuted ys)) = leaf (refuted ys)
 opened_end (Some k) (leaf (bounded d ys)) = leaf untried
 opened_end (Some k) (leaf untried) = leaf untried
 
--- and has a mark that tells its network and its multipliers. An open leaf is marked as open, and no other end has a mark.
+-- It has a mark with its network and its multipliers. An open leaf is marked as open, and no other
+-- end has a mark.
 abbrev pub marks_at : Option ℕ → End Leaf → List Mark
 marks_at name (branch w) = []
 marks_at name (leaf (dead x)) = []
@@ -85,8 +86,9 @@ marks_of (Some m) = mark_of m ∷ []
 
 -- ---- what a walk over the cells finds
 
--- the nodes are those of all cells in preorder, whose open leaves are shut by what stands at their numbers, and their named leaves stand
--- open with these marks; the cell `wanted` is the node `place` there
+-- The nodes are those of all cells in preorder. Their open leaves are shut by the items at their
+-- numbers, and their named leaves are open leaves with these marks. The cell `wanted` is the node
+-- `place` there.
 pub record IsNamedTree (cells : List Cell) (fs : List FoundAt) (proofs : List (Option Shut)) (wanted : ℕ) (tree : Tree) (marks : List Mark) (place : ℕ) : Type 0 where
   pub order : List ℕ
   pub is_preorder : IsPreorder (shut_cells proofs cells) (0 ∷ []) order

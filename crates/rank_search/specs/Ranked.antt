@@ -1,4 +1,4 @@
--- What a search for the best networks finds: a whole ranking, or one as far as it came and where it stopped.
+-- What a search for the best networks finds: a whole ranking, or one so far with its stop.
 use Rattle.std.specs.Prelude.{◌≡◌, ℕ, Bool, true, false, List}
 use Rattle.problem_rules.specs.Problem.{Problem}
 use Rattle.flow_rules.specs.declared.place.Column.{Column}
@@ -15,13 +15,14 @@ use Rattle.rank_search.specs.Told.{IsTelling, IsSpentTelling}
 use Rattle.rank_search.specs.declared.outcome.Ranked.{Ranked}
 use Rattle.rank_search.specs.declared.outcome.Ranked.TheVariants.{Whole, Spent, Past, Memory}
 
--- so many networks are asked for, and the networks with the tree and its marks are a ranked tree, whole or partial, and lean
+-- so many networks are asked for, and the networks with the tree and its marks are a ranked tree,
+-- whole or partial, and lean
 pub record IsRankingFor (partial : Bool) (p : Problem) (count : ℕ) (t : Text) : Type 0 where
   pub count_is : t.count ≡ count
   pub tells : IsTelling partial p count t.networks t.tree t.marks
 
--- the budget does not last for the children of the leaf `next`, a least one, and is below twice the number of sets of units of the maximal
--- structure
+-- the budget does not last for the children of the leaf `next`, a least one, and is below twice the
+-- number of sets of units of the maximal structure
 pub record IsSpentRank (p : Problem) (count budget : ℕ) (t : Text) : Type 0 where
   pub ranking : IsRankingFor true p count t
   pub next : ℕ
@@ -29,7 +30,7 @@ pub record IsSpentRank (p : Problem) (count budget : ℕ) (t : Text) : Type 0 wh
   pub tail_is : t.tail ≡ spent next options
   pub is_spent : IsSpentTelling p count t.networks t.tree t.marks next options budget
 
--- a number is past the range at an open leaf
+-- a number overflows at an open leaf
 pub record IsPastRank (Stops : PastPlaces) (p : Problem) (count : ℕ) (t : Text) : Type 0 where
   pub ranking : IsRankingFor true p count t
   pub node : ℕ
@@ -38,13 +39,13 @@ pub record IsPastRank (Stops : PastPlaces) (p : Problem) (count : ℕ) (t : Text
   pub tail_is : t.tail ≡ past node nonbasic place
   pub is_past : IsPast p IsOpenLeaf first_node (marked t.marks t.tree) (λ n. Stops p n nonbasic place) node
 
--- `Stops` tells at which places an evaluator of nodes goes past the range
+-- `Stops` says at which places an evaluator of nodes overflows
 abbrev pub IsRankedBy : PastPlaces → Problem → ℕ → ℕ → Ranked → Type 0
 IsRankedBy Stops p count budget (Whole t) = (t.tail ≡ whole) × IsRankingFor false p count t
 IsRankedBy Stops p count budget (Spent t) = IsSpentRank p count budget t
 IsRankedBy Stops p count budget (Past t) = IsPastRank Stops p count t
 IsRankedBy Stops p count budget Memory = Unit {0}
 
--- what a search ranks that the simplex method bounds
+-- what a search over the simplex method ranks
 abbrev pub IsRankedTo : Problem → ℕ → ℕ → Ranked → Type 0
 IsRankedTo p count budget ranked = IsRankedBy IsPastAt p count budget ranked

@@ -1,4 +1,4 @@
--- What is told of a search for the best networks: the networks with a ranked tree, whole, or as far as the search came.
+-- The answer of a search for the best networks: the networks with a ranked tree, whole or so far.
 use Rattle.std.specs.Prelude.{ℕ, ◌-◌, ◌^◌, ◌<◌, Bool, List, length}
 use Rattle.problem_rules.specs.Each.{Each}
 use Rattle.problem_rules.specs.Problem.{Problem}
@@ -15,8 +15,8 @@ use Rattle.ranked_tree.specs.Known.{KnowsNetwork}
 use Rattle.tree_rules.specs.Proved.{IsBelowLimit}
 use Rattle.rank_rules.specs.Leaf.{IsOpenLeaf}
 
--- so many networks were asked for, and these with the tree and its marks are a ranked tree, whole or partial, and lean. All numbers are
--- the problem's.
+-- So many networks were asked for, and these with the tree and its marks are a ranked tree, whole
+-- or partial, and lean. All numbers are the problem's.
 pub record IsTelling (partial : Bool) (p : Problem) (count : ℕ) (ws : List Network) (tree : Tree) (marks : List Mark) : Type 0 where
   pub proves : Proves partial p (record { count = count; networks = ws; tree = marked marks tree })
   pub lean : IsLean p IsOpenLeaf (to_undercut count ws) first_node (marked marks tree)

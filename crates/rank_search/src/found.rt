@@ -24,8 +24,8 @@ impl Model for FoundAt {
     ghost view = { λ f. record { network = f.network; leaf = f.leaf } };
 }
 
-/// The best of the networks that were found, best first, of those that cost the same the earlier
-/// one first, and at most as many as are asked for.
+/// The best of the networks that were found, best first, and at most as many as are asked for. Of
+/// those that cost the same, the earlier one is first.
 #[derive(Drop)]
 pub struct FoundNetworks {
     count: u32,
@@ -43,7 +43,7 @@ impl Model for FoundNetworks {
 }
 
 impl FoundNetworks {
-    /// None yet, where so many are asked for, at least one.
+    /// None yet, if so many are asked for, at least one.
     pub fn new(alloc: Global, count: u32) -> FoundNetworks
         requires { 1 ≤ count }
         ensures { result ≡ record { count = count; found = [] } }
@@ -61,21 +61,21 @@ impl FoundNetworks {
         self.count
     }
 
-    /// Those that stand, best first.
+    /// The networks of the list, best first.
     pub fn found(&self) -> &[FoundAt]
         ensures { result.now ≡ self.now.found }
     {
         &self.found
     }
 
-    /// Those that stand, best first.
+    /// The networks of the list, best first.
     pub fn into_found(self) -> Vec<FoundAt>
         ensures { result.items ≡ self.found }
     {
         self.found
     }
 
-    /// The network that is to be undercut: the last one, where as many stand as are asked for.
+    /// The network that is to be undercut: the last one, if the list has as many as are asked for.
     pub fn to_beat(&self) -> Option<&Network>
         ensures { cost_of (option_copied result) ≡ undercut_by self.now.count self.now.found }
     {
@@ -86,7 +86,7 @@ impl FoundNetworks {
         Some(&last.network)
     }
 
-    /// At least one is asked for, no more stand, and they rise in cost. A call tells a proof so,
+    /// At least one is asked for, the list has no more, and they rise in cost. A call proves this,
     /// and does nothing.
     pub fn is_listed(&self)
         ensures { IsListed self.now }
@@ -94,7 +94,7 @@ impl FoundNetworks {
         let _count = self.count;
     }
 
-    /// The place of a network behind all that cost no more.
+    /// The place of a network after all that cost no more.
     fn place_for(&self, network: &Network) -> usize
         ensures within { result ≤ length self.now.found }
         ensures low { AreNoDearer (take result self.now.found) network.now }
@@ -105,8 +105,8 @@ impl FoundNetworks {
             .partition_point(|other| costs_no_more(&other.network, network))
     }
 
-    /// Adds a network that was found at a leaf, behind those that cost no more. Where more than are
-    /// asked for would stand, the last one falls out. After `Err`, which comes when memory is
+    /// Adds a network that was found at a leaf, after those that cost no more. If there are then
+    /// more than are asked for, the last one drops out. After `Err`, which comes if memory is
     /// refused, all is as before.
     pub fn add(&mut self, network: Network, leaf: u32) -> Result<(), AllocError>
         ensures added { OnOk result (IsAdded self.old self.new (record { network = network; leaf = leaf })) }
@@ -123,7 +123,7 @@ impl FoundNetworks {
         Ok(())
     }
 
-    /// Adds a network that was found at a leaf, where there is one.
+    /// Adds a network that was found at a leaf, if there is one.
     fn add_some(&mut self, network: Option<Network>, leaf: u32) -> Result<(), AllocError>
         ensures added { OnOk result (IsSomeAdded self.old self.new leaf network) }
         ensures same { OnErr result (self.new ≡ self.old) }
@@ -135,7 +135,7 @@ impl FoundNetworks {
     }
 
     /// Adds in turn the networks that were found at the leaves of the numbers from `first` on.
-    /// After `Err`, which comes when memory is refused, some of them are added, the first ones.
+    /// After `Err`, which comes if memory is refused, the first few of them are added.
     pub fn add_all(&mut self, networks: Vec<Option<Network>>, first: u32) -> Result<(), AllocError>
         requires { first + length networks.items < 2 ^ 32 }
         ensures added { OnOk result (AreAdded self.old self.new first networks.items) }

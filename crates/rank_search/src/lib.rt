@@ -1,23 +1,17 @@
-//! The best networks of a problem, as many as are asked for, with the tree that proves that no
-//! other is better.
+//! The best networks, with a tree that proves that no other is better.
 //!
-//! The search is that of `abb_search`, for networks that undercut the last one of a list, best
-//! first, that holds at most as many as are asked for, each with the leaf at which it was found.
-//! `abb_search` tells which open leaf comes next, and the search asks for the network of each
-//! child. `specs/Ranked` has what it finds, `specs/Turns` what it keeps between two turns,
-//! `specs/Listed` and `specs/Found` the list.
+//! [`rank`] searches over the simplex method for as many networks as are asked for. The search is
+//! that of `abb_search`, for networks that undercut the last one of a list. The list has the best
+//! networks so far, best first, each with the leaf at which it was found. `abb_search` says which
+//! open leaf comes next; this crate adds the network of each child.
 //!
-//! In the search's tree a leaf at which one of the networks was found is bounded by multipliers.
-//! Told, it names that network: it stands open, and its mark has the network's number and the
-//! multipliers. Each other open leaf is shut, by multipliers against the last network or by a
-//! refutation, or is marked as open (`specs/Told`, `specs/Naming`).
+//! In the search's tree a leaf at which one of the networks was found is bounded by multipliers. In
+//! the answer it is an open leaf whose mark has the network's number and the multipliers. Each
+//! other open leaf is shut or is marked as open (`specs/Told`, `specs/Naming`).
 //!
-//! - `found`: the list of the best networks
-//! - `naming`, `telling`: leaves that name networks; the tree of the search as a ranked one
-//! - `outcome`: what is found
-//! - `turns`: a turn over any evaluator of nodes, and the loop over the turns
-//! - `told`: what is told of a search that has ended
-//! - `whole`: the whole search
+//! Modules: `found` the list; `naming` and `telling` leaves that name networks, and the tree with
+//! them; `outcome` and `told` the answer; `turns` the turns and their loop; `whole` the whole
+//! search.
 #![tactic(auto)]
 
 mod found;

@@ -51,7 +51,7 @@ fn name_at(names: &[Option<u32>], number: u32) -> Option<u32>
     }
 }
 
-/// The mark of a node whose leaf has this name. A bounded leaf that has one stands open then.
+/// The mark of a node whose leaf has this name. A bounded leaf that has one becomes an open leaf.
 fn take_mark(node: &mut TreeNode, name: Option<u32>) -> Option<Mark>
     ensures node { node.new ≡ opened_node name node.old }
     ensures mark { marks_of result ≡ marks_at name node.old.end }
@@ -69,8 +69,8 @@ fn take_mark(node: &mut TreeNode, name: Option<u32>) -> Option<Mark>
     }
 }
 
-/// The marks of all nodes in order, where `order` has the numbers of their leaves. Those that have
-/// a name stand open then.
+/// The marks of all nodes in order; `order` has the numbers of their leaves. Those that have a name
+/// become open leaves.
 fn take_marks(
     alloc: Global,
     nodes: &mut [TreeNode],
@@ -91,8 +91,8 @@ fn take_marks(
     Ok(marks)
 }
 
-/// The tree of the nodes, with the leaves at which networks were found named by these, and where a
-/// node stands in it. An open leaf at whose number something stands is shut there by this.
+/// The tree of the nodes, and the place of a node in it. Leaves at which networks were found are
+/// named by these. An open leaf is shut if `proofs` has something at its number.
 pub(crate) fn named_tree(
     alloc: Global,
     pool: &Pool<Cell>,

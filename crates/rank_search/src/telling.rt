@@ -1,4 +1,4 @@
-//! What is told.
+//! The answer of a search: its networks, with its tree as a ranked one.
 ghost use Rattle.std.specs.Prelude.{◌≡◌, ◌<◌, ◌≤◌, ◌^◌, ℕ, true, false, [], map, length, slice_index_or, None, IfOk};
 ghost use Rattle.problem_rules.specs.Each.{Each};
 ghost use Rattle.tree_rules.specs.Claim.{IsSized};
@@ -47,8 +47,8 @@ fn into_networks(alloc: Global, found: FoundNetworks) -> Result<Vec<Network>, Al
         .collect(alloc)
 }
 
-/// At least one network is asked for, and those that stand have numbers. A call tells a proof so,
-/// and does nothing.
+/// At least one network is asked for, and those of the list have numbers. A call proves this, and
+/// does nothing.
 fn are_numbered(found: &FoundNetworks)
     ensures asked { 1 ≤ found.now.count }
     ensures few { length found.now.found < 2 ^ 32 }
@@ -57,7 +57,7 @@ fn are_numbered(found: &FoundNetworks)
     let _count = found.count();
 }
 
-/// The networks with the tree in which the leaves name them, and where a leaf stands in it.
+/// The networks with the tree in which the leaves name them, and the place of a leaf in it.
 fn tell(
     alloc: Global,
     growing: &Growing,
@@ -93,8 +93,8 @@ fn tell(
     })
 }
 
-/// Tells of a search that is at its end: each leaf that is open is shut by what stands at its
-/// number. The place is that of the root.
+/// The answer of a search that is at its end: each open leaf is shut by the item at its number. The
+/// place is that of the root.
 pub fn tell_whole(
     alloc: Global,
     site: &Site<'_>,
@@ -113,8 +113,8 @@ pub fn tell_whole(
     tell(alloc, growing, found, proofs, 0)
 }
 
-/// Tells of a search that stops before its end, and where a leaf stands in its tree that stays
-/// open. Others may be shut, each by what stands at its number.
+/// The answer of a search that stops before its end, and the place in its tree of a leaf that stays
+/// open. Others may be shut, each by the item at its number.
 pub fn tell_stopped(
     alloc: Global,
     site: &Site<'_>,

@@ -1,4 +1,4 @@
-//! What is told of a search that has ended.
+//! The answer of a search that has ended, as a text.
 ghost use Rattle.std.specs.Prelude.{◌≡◌, IfOk, map};
 ghost use Rattle.branch_tree.specs.View.{tail_of};
 ghost use Rattle.ranked_tree.specs.View.{mark_of};
@@ -16,7 +16,7 @@ use pgraph::Site;
 use ranked_tree::RankText;
 use std::alloc::{AllocError, Global};
 
-/// What is told, with where the search stopped.
+/// The answer, with the place at which the search stopped.
 fn text_of(count: u32, told: Told, tail: Tail) -> RankText
     requires { IsCounted count told.networks.items (map mark_of told.marks.items) }
     ensures { result ≡ record { count = count; networks = told.networks.items; tree = told.tree; marks = map mark_of told.marks.items; tail = tail_of tail } }
@@ -24,7 +24,7 @@ fn text_of(count: u32, told: Told, tail: Tail) -> RankText
     RankText::of(count, told.networks, told.tree, told.marks, tail)
 }
 
-/// What is found where the search ends so.
+/// What is found if the search ends in this way.
 pub(crate) fn ranked_by<E: Evaluator>(
     alloc: Global,
     site: &Site<'_>,

@@ -46,7 +46,7 @@ fn branch_next<E: Evaluator>(
     Ok(())
 }
 
-/// Branches an open leaf of least value and adds what is found at its children, or tells how the
+/// Branches an open leaf of least value and adds what is found at its children, or says how the
 /// search ends. No leaf stops it.
 fn go_on<E: Evaluator>(
     workspace: &mut Workspace<E>,
@@ -81,7 +81,7 @@ fn go_on<E: Evaluator>(
     }
 }
 
-/// Makes the nodes more, or tells how the search ends.
+/// Adds nodes, or says how the search ends.
 fn turn<E: Evaluator>(
     workspace: &mut Workspace<E>,
     site: &Site<'_>,

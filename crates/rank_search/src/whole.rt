@@ -56,7 +56,7 @@ fn begin<E: Evaluator>(
 }
 
 /// Searches all structures of the site's problem for so many networks whose flows are cheapest,
-/// within a budget of nodes. `Err` comes when memory is refused.
+/// within a budget of nodes. `Err` comes if memory is refused.
 fn ranked<E: Evaluator, W: Watch>(
     workspace: &mut Workspace<E>,
     site: &Site<'_>,

@@ -1,5 +1,5 @@
--- Relaxed flows of a node below another, with the size 0 for the units that are left out there, are relaxed flows of the other,
--- and cost no more.
+-- Relaxed flows of a node below another, with the size 0 for the units that are left out there, are
+-- relaxed flows of the other, and cost no more.
 use Rattle.std.proofs.Common.{◌≡◌, ℕ, ◌<◌, refl, sym, ap, ◌∙◌, arith, pos, ℤ, ◌+ℤ◌, ◌*ℤ◌, ◌≤ℤ◌, neg_ℤ, Bool, true, false, cond, subst, inl, inr}
 use Rattle.std.specs.Prelude.{not, ◌||◌, ◌&&◌}
 use Rattle.std.proofs.lemmas.Int.{ints}
@@ -39,7 +39,8 @@ size_high true least most d z p r q h =
     let b : pos 0 ≤ℤ (most *ℤ d) = mul_nonneg most d (omega (arith, ints)) (omega (arith, ints)) in
     omega (arith, ints)
 
--- ---- the balance g of a material: r, it is raw; keep, it has to be there; keep', below; t, it is a row below
+-- ---- the balance g of a material: r, it is raw; keep, it has to be there; keep', below; t, it is
+-- a row below
 scaled_positive : (x d : ℤ) → pos 0 ≤ℤ x → pos 1 ≤ℤ d → pos 0 ≤ℤ (million *ℤ x *ℤ d)
 scaled_positive x d p q = mul_nonneg (million *ℤ x) d (mul_nonneg million x (omega (arith, ints)) p) (omega (arith, ints))
 
@@ -94,7 +95,7 @@ unit_pays false true fix c s most d z q p h sub hi =
 
 -- ---- sums
 
--- a term at the node above, where the size of what is left out below is 0: o, the unit is left out
+-- a term at the node above, if the size of what is left out below is 0: o, the unit is left out
 same_term : (o o' : Bool) (r z : ℤ) → (o ≡ true → o' ≡ true) → cond (not o) (r *ℤ cond o' (pos 0) z) (pos 0) ≡ cond (not o') (r *ℤ z) (pos 0)
 same_term true true r z sub = refl
 same_term true false r z sub = let e = sub refl in cc

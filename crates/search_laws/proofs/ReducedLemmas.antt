@@ -1,5 +1,6 @@
--- At a reduced node the units that are not left out form a solution structure: none needed material is dead and none can be starved,
--- so each material that is not raw is made; none of them makes a raw material; and none is loose, so each has a path to a product.
+-- At a reduced node the units that are not left out form a solution structure. No needed material
+-- is dead and none can be starved, so each material that is not raw is made. None of the units
+-- makes a raw material. None is loose, so each has a path to a product.
 use Rattle.std.proofs.Common.{◌≡◌, ℕ, ◌<◌, ◌≤◌, nat_lt, Bool, true, false, not, ◌&&◌, List, [], ◌∷◌, length, refl, sym, ap, ◌∙◌, inl, inr, lt-ltb, ltb-true}
 use Rattle.std.proofs.lemmas.Bool.{or_cases, or_left, or_right, and_from, and_parts, both_ways, false_from_ne_true, true_from_ne_false, not-true, cases_Bool}
 use Rattle.number_sets.specs.Sets.{has, listed, IsWithin}

@@ -1,4 +1,5 @@
--- The children of a sound node that is reduced are sound, where each unit that they take in makes a needed material.
+-- The children of a sound node that is reduced are sound, if each unit that they take in makes a
+-- needed material.
 use Rattle.std.proofs.Common.{◌≡◌, ℕ, Bool, true, not, ◌&&◌, ◌||◌, List, [], ◌∷◌, ap, subst, inl, inr}
 use Rattle.std.proofs.lemmas.Bool.{or_cases, or_left, or_right, and_from, and_parts, both_ways, cases_Bool}
 use Rattle.number_sets.specs.Sets.{has, IsWithin}

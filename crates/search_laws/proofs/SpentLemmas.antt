@@ -59,7 +59,7 @@ module _ (g : Shape) where
         let b = weight-append g (below g o t.end) ns in
         omega (arith, rest, here, grown, a, b)
 
--- ---- the tree without the steps of its root, from where they lead
+-- ---- the tree without the steps of its root, from the node to which they lead
 abbrev bare : TreeNode Leaf → TreeNode Leaf
 bare t = record { option = t.option; steps = []; end = t.end }
 

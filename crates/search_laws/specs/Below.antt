@@ -1,5 +1,6 @@
--- A node below another: all units that the one takes in or leaves out, the one below takes in or leaves out as well, and no unit
--- both. Each child of a node is below it, and so is each node to which steps lead.
+-- A node below another: it takes in all units that the other takes in, leaves out all that the
+-- other leaves out, and no unit is both. Each child of a node is below it, and so is each node to
+-- which steps lead.
 use Rattle.number_sets.specs.Sets.{IsWithin, Avoids}
 use Rattle.pns_rules.specs.Nodes.{Node}
 

@@ -1,5 +1,5 @@
--- Laws of a best-first search of branch trees, each of which a public function of this crate has as its contract. Each speaks of
--- every shape of a valid problem, or of every valid problem.
+-- Laws of a best-first search of branch trees, each of which a public function of this crate has as
+-- its contract. Each holds for every shape of a valid problem, or for every valid problem.
 use Rattle.std.specs.Prelude.{◌≡◌, ℕ, suc, ◌+◌, ◌<◌, ◌≤◌, ◌^◌, Bool, true, false, List, [], ◌∷◌, length}
 use Rattle.std.specs.List.{sum_by}
 use Rattle.number_sets.specs.Sets.{listed, IsWithin, Avoids}
@@ -30,7 +30,8 @@ ChildrenAreBelow =
 abbrev pub StepsLeadBelow : Type 0
 StepsLeadBelow = (g : Shape) (n : Node) (steps : List Step) → IsProper g → Avoids n.inside n.outside → StepsPass g n steps → IsBelow n (after_all g n steps)
 
--- whichever relaxed flows a node has at which no needed material is dead, each node above it has some that cost no more
+-- for any relaxed flows of a node at which no needed material is dead, each node above it has some
+-- that cost no more
 abbrev pub BelowIsNoDearer : Type 0
 BelowIsNoDearer = (p : Problem) → IsValid p → (n m : Node) → IsBelow n m → IsNever (IsDead (shape_of p) m) → IsNoDearer p n m
 
@@ -73,7 +74,7 @@ FreeMakersDecide =
     (g : Shape) (n : Node) (x u : ℕ) → is_needed g n.inside x ≡ true → u < g.units → g.makes u x ≡ true → is_free g n u ≡ true
     → MayBranch g n (either u) × IsDecision g n (either u)
 
--- where there is something to decide, the children of a sound node are sound
+-- if there is something to decide, the children of a sound node are sound
 abbrev pub ChildrenAreSound : Type 0
 ChildrenAreSound =
     (g : Shape) → IsProper g → (n : Node) (w : Way) (t : List ℕ) → IsSound g n → IsReduced g n → MayBranch g n w → IsDecision g n w → IsIn t (options_at g n w)
@@ -81,11 +82,11 @@ ChildrenAreSound =
 
 -- ---- numbers
 
--- where no maker is taken in, each set of free makers but the empty one is an option
+-- if no maker is taken in, each set of free makers but the empty one is an option
 abbrev pub OptionsOfNone : Type 0
 OptionsOfNone = (g : Shape) (n : Node) (x : ℕ) → base_makers g n x ≡ [] → suc (length (options g n x)) ≡ 2 ^ length (free_makers g n x)
 
--- where one is, each set of free makers gives an option
+-- if one is, each set of free makers gives an option
 abbrev pub OptionsOfSome : Type 0
 OptionsOfSome = (g : Shape) (n : Node) (x : ℕ) → (base_makers g n x ≡ [] → ⊥) → length (options g n x) ≡ 2 ^ length (free_makers g n x)
 
@@ -93,7 +94,8 @@ OptionsOfSome = (g : Shape) (n : Node) (x : ℕ) → (base_makers g n x ≡ [] �
 abbrev pub SharesAreSmall : Type 0
 SharesAreSmall = (g : Shape) (n : Node) (x : ℕ) → sum_by (λ t. 2 ^ free_units g (child g n x t)) (options g n x) ≤ 2 ^ free_units g n
 
--- ---- lean trees: where the root's steps lead to a sound node, and `all` is the union of all solution structures
+-- ---- lean trees: the root's steps lead to a sound node, and `all` is the union of all solution
+-- structures
 
 -- a lean tree has fewer nodes than twice the number of sets of units of the union
 abbrev pub LeanIsFew : Type 0
@@ -103,7 +105,8 @@ LeanIsFew =
     → (root : Node) (e : End Leaf) → Stands (shape_of p) (start ∷ []) tree 0 root e → IsSound (shape_of p) root
     → (all : ℕ → Bool) → IsUnion (shape_of p) (λ u. false) all → length tree < 2 ^ suc (length (listed (shape_of p).units all))
 
--- and no more with the children of an open leaf that is reduced, whichever way it may be branched to decide something
+-- and no more with the children of an open leaf that is reduced, whichever way it may be branched
+-- to decide something
 abbrev pub SpentIsNever : Type 0
 SpentIsNever =
     (p : Problem) → IsValid p → (start : Node) (claim : Claim) (tree : Tree) → Proves true p start claim tree

@@ -1,7 +1,7 @@
 ghost use Rattle.search_laws.specs.Laws.{OptionsOfNone, OptionsOfSome, SharesAreSmall, LeanIsFew, SpentIsNever};
 
-/// How many options a material has, by its makers that are taken in and its makers that are free; and the sets of free units of
-/// the children are together no more than those of the node.
+/// How many options a material has, by its makers that are taken in and its makers that are free.
+/// The sets of free units of the children are together no more than those of the node.
 pub fn options_are_counted()
     ensures none { OptionsOfNone }
     ensures some { OptionsOfSome }
@@ -13,7 +13,8 @@ pub fn lean_is_few()
     ensures { LeanIsFew }
 {}
 
-/// This holds too of its nodes with the children that an open leaf may have, so a budget of so many nodes is never spent.
+/// This holds too of its nodes with the children that an open leaf may have, so a budget of so many
+/// nodes is never spent.
 pub fn spent_is_never()
     ensures { SpentIsNever }
 {}

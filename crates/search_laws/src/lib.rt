@@ -1,9 +1,10 @@
-//! What a best-first search of branch trees rests on: nodes below a node have no cheaper relaxed flows; at a reduced node the
-//! units that are not left out form a solution structure; a material that is still to decide has two options or more; and so a
-//! lean tree has few nodes.
+//! Laws: children cost no less, and units left at a reduced node are a structure.
 //!
-//! The laws stand in `specs/Laws`, over the definitions of `pns_rules`, `flow_rules` and `tree_rules`. Each is the contract of
-//! a function without a body, which a proof elsewhere calls to have it.
+//! Nodes below a node have no cheaper relaxed flows. At a reduced node the units that are not left
+//! out form a solution structure. A material that is still to decide has two options or more, and
+//! so a lean tree has few nodes. `specs/Laws` has the laws, over the definitions of `pns_rules`,
+//! `flow_rules` and `tree_rules`. Each law is the contract of a function that does nothing; a proof
+//! elsewhere calls it to have the law. Modules: `values`, `nodes` and `counts`.
 #![tactic(auto)]
 
 mod counts;

@@ -1,12 +1,12 @@
 ghost use Rattle.search_laws.specs.Laws.{BelowIsNoDearer, ChildrenAreBelow, StepsLeadBelow, ChildrenAreDearer};
 
-/// Whatever relaxed flows a node below another has, the other has some that cost no more, where no needed material of the node
-/// below is dead.
+/// If no needed material of a node below another is dead, then for any relaxed flows that it has,
+/// the other node has some that cost no more.
 pub fn below_is_no_dearer()
     ensures { BelowIsNoDearer }
 {}
 
-/// Each child is below its node, and so is what possible steps lead to.
+/// Each child is below its node, and so is each node to which possible steps lead.
 pub fn children_are_below()
     ensures children { ChildrenAreBelow }
     ensures steps { StepsLeadBelow }

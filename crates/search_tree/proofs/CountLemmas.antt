@@ -1,4 +1,5 @@
--- Each cell stands once in a preorder: a cell as often as its parent, and the root once. So there are as many nodes as cells.
+-- Each cell is once in a preorder: a cell as often as its parent, and the root once. So there are
+-- as many nodes as cells.
 use Rattle.std.proofs.Common.{◌≡◌, ℕ, zero, suc, ◌+◌, ◌<◌, ◌≤◌, ◌==◌, Bool, true, false, cond, List, [], ◌∷◌, ◌++◌, length, refl, sym, ap, ◌∙◌, subst, arith, eq-eqb, ne_eqb, inl, inr}
 use Rattle.std.specs.List.{range_with_len}
 use Rattle.std.proofs.lemmas.Bool.{cases_eq}
@@ -21,7 +22,7 @@ abbrev as_child : List Cell → ℕ → List ℕ → ℕ
 as_child cells j [] = 0
 as_child cells j (v ∷ vs) = times j (children_at cells v) + as_child cells j vs
 
--- what stands in a preorder was to come at its start or is a child of what stands there
+-- what is in a preorder was to come at its start or is a child of what is in it
 times_are : (cells : List Cell) (j : ℕ) (is order : List ℕ) → IsPreorder cells is order → times j order ≡ times j is + as_child cells j order
 times_are cells j [] [] p = refl
 times_are cells j [] (k ∷ ks) p = absurd p
@@ -40,7 +41,7 @@ are_there cells linked (i ∷ is) [] there p = absurd p
 are_there cells linked (i ∷ is) (k ∷ ks) there p =
     (subst (λ v. v < length cells) (sym p.0) there.0, are_there cells linked (children_at cells i ++ is) ks (there-append cells (children_at cells i) is (children_there cells linked i there.0) there.1) p.1)
 
--- a child stands as often as its one parent
+-- a child is there as often as its one parent
 child_times : (cells : List Cell) (q j : ℕ) → IsParentOf cells q j → (vs : List ℕ) → AreThere cells vs → as_child cells j vs ≡ times q vs
 child_times cells q j parent [] there = refl
 child_times cells q j parent (v ∷ vs) there =
@@ -77,7 +78,7 @@ module _ (cells : List Cell) (linked : IsLinked cells) (order : List ℕ) (p : I
       let b = root_times cells linked order all_there in
       omega arith
 
-  -- by the least number that would stand another number of times
+  -- by the least number that would be there another number of times
   pub once : (fuel j : ℕ) → j < fuel → j < length cells → times j order ≡ 1
   once zero j less lt = absurd (omega (arith, less))
   once (suc fuel) zero less lt = root_once

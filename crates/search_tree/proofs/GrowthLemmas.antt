@@ -81,13 +81,13 @@ cell-new : (cells : List Cell) (x : Cell) → cell_at (cells ++ x ∷ []) (lengt
 cell-new [] x = refl
 cell-new (c ∷ cs) x = cell-new cs x
 
--- the other leaves stay where one is taken out
+-- the other leaves stay if one is taken out
 pub others_stay : (leaf : ℕ) (xs : List ℕ) (j : ℕ) → (j ≡ leaf → ⊥) → has (without leaf xs) j ≡ has xs j
 others_stay leaf xs j ne =
     together (has (without leaf xs) j) (has xs j) (λ h. (without_parts leaf xs j h).0)
     (λ h. has-without leaf xs j ∙ and_from (has xs j) (not (leaf == j)) h (ap not (ne_eqb leaf j (λ e. ne (sym e)))))
 
--- they stay where one is put in
+-- they stay if one is put in
 pub placed_stays : (vs : List Mixed) (v : Mixed) (c : ℕ) (xs : List ℕ) (j : ℕ) → (j ≡ c → ⊥) → has (placed vs v c xs) j ≡ has xs j
 placed_stays vs v c xs j ne =
     together (has (placed vs v c xs) j) (has xs j) (λ h. elim (has-placed vs v c xs j h) [ inl e ↦ absurd (ne e) | inr o ↦ o ]) (λ h. placed_keeps vs v c xs j h)
@@ -124,7 +124,7 @@ pub record IsGrowing (old : Pooled Cell) (cells : List Cell) (values : List Mixe
   pub opens : AreOpenAfter old p leaf
   pub room : length children ≤ p.spare
 
--- it begins where the leaf is shut
+-- it begins when the leaf is shut
 pub grows_first : (old p : Pooled Cell) (leaf : ℕ) (d : Cell) (children : List Fresh) → p.payloads ≡ slice_set old.payloads leaf d → p.values ≡ old.values → IsShut p leaf
     → ((j : ℕ) → (j ≡ leaf → ⊥) → has p.leaves j ≡ has old.leaves j) → p.spare ≡ old.spare → length children ≤ old.spare
     → IsGrowing old (slice_set old.payloads leaf d ++ cells_in_turn children) (old.values ++ values_in_turn children) leaf p children

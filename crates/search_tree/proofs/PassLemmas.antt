@@ -1,4 +1,4 @@
--- The tree of cells that fit passes, and what stands in it are the cells.
+-- The tree of cells that fit passes, and its nodes are the cells.
 use Rattle.std.proofs.Common.{◌≡◌, ℕ, zero, suc, ◌+◌, ◌<◌, ◌≤◌, List, [], ◌∷◌, ◌++◌, length, map, refl, sym, ap, ap₂, ◌∙◌, subst, arith, Some, length-append}
 use Rattle.std.specs.List.{range_with_len, slice_get}
 use Rattle.pns_rules.specs.Shape.{Shape}
@@ -72,7 +72,7 @@ roots-most zero ts = omega arith
 roots-most (suc a) [] = omega arith
 roots-most (suc a) (t ∷ ts) = let h = roots-most a (skip 1 (t ∷ ts)) in omega (arith, h)
 
--- where all roots are known, the first and the others are
+-- if all roots are known, the first and the others are
 split_roots : {L : Type 0} (cells : List Cell) (c m : ℕ) (ts : List (TreeNode L)) (cs is : List ℕ) → length cs ≡ c → length is ≡ m → roots (c + m) ts ≡ options_of cells cs ++ options_of cells is
     → (roots c ts ≡ options_of cells cs) × (roots m (skip c ts) ≡ options_of cells is)
 split_roots cells c m ts cs is lc lm h =
@@ -114,7 +114,7 @@ aligned_children g cells n w f (suc c) fits h = (
     next : (f k : ℕ) → f + suc k ≡ f + 1 + k
     next f k = omega arith
 
--- ---- leaves that are told as they are
+-- ---- leaves that are left as they are
 abbrev as_it_is : ℕ → Leaf → Leaf
 as_it_is i l = l
 
@@ -146,7 +146,7 @@ module _ (g : Shape) (P : Node → Leaf → Type 0) (start : Node) (cells : List
   pub aligned_start : Aligned g cells (start ∷ []) (0 ∷ [])
   aligned_start = (linked.some, fits.root, tt)
 
-  -- ---- where f tells the leaf of each number, and Q holds of it
+  -- ---- f maps the leaf of each number, and Q holds of the result
   module _ {L : Type 0} (f : ℕ → Leaf → L) where
     told_children : (i : ℕ) (e : End Leaf) → children (told_end (f i) e) ≡ children e
     told_children i (branch w) = refl
@@ -202,7 +202,7 @@ module _ (g : Shape) (P : Node → Leaf → Type 0) (start : Node) (cells : List
             told_passes (below g (after_all g n (cell_at cells i).steps) (told_end (f i) (cell_at cells i).end) ++ ns) (children_at cells i ++ is) ks (told_next n i ns is a) p.1,
           )
 
-    -- a node with its end is that of a cell whose leaf is told so
+    -- a node with its end is that of a cell whose leaf is mapped to this
     pub record IsToldCell (n : Node) (e : End L) : Type 0 where
       pub number : ℕ
       pub there : number < length cells

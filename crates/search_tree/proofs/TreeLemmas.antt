@@ -1,4 +1,5 @@
--- The numbers of a preorder: children are among the cells and behind their parent, and the cells make one whole tree.
+-- The numbers of a preorder: children are among the cells and after their parent, and the cells
+-- make one whole tree.
 use Rattle.std.proofs.Common.{◌≡◌, ℕ, zero, suc, ◌+◌, ◌<◌, ◌≤◌, List, [], ◌∷◌, ◌++◌, length, refl, sym, ap, ◌∙◌, subst, arith, length-append}
 use Rattle.std.specs.List.{range_with_len, AllByRecursion}
 use Rattle.std.proofs.lemmas.List.FromFn.{length-range_with_len}

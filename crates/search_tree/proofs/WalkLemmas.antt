@@ -1,5 +1,5 @@
--- The walk: what is still to come finishes the preorder, and weighs less after each visit. Number i weighs 2 ^ (n - i), more than
--- all its children.
+-- The walk: what is still to come finishes the preorder, and weighs less after each visit. Number i
+-- weighs 2 ^ (n - i), more than all its children.
 use Rattle.std.proofs.Common.{◌≡◌, ℕ, zero, suc, ◌+◌, ◌-◌, ◌*◌, ◌^◌, ◌<◌, ◌≤◌, ◌==◌, Bool, true, false, cond, List, [], ◌∷◌, ◌++◌, length, refl, sym, ap, ◌∙◌, subst, arith, Some, inl, inr, ◌⊎◌, eqb-true, append_assoc}
 use Rattle.std.specs.List.{range_with_len, slice_get}
 use Rattle.std.proofs.lemmas.List.{length-map}

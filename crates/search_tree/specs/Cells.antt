@@ -1,5 +1,5 @@
--- The tree of a search while it grows: a list of cells in the order of adding, so that the children of a node stand one behind the
--- other, and behind their parent.
+-- The tree of a search while it grows: a list of cells in the order of adding. The children of a
+-- node are in a row, and come after their parent.
 use Rattle.std.specs.Prelude.{◌≡◌, ℕ, ◌+◌, ◌<◌, ◌≤◌, ◌==◌, cond, List, [], ◌∷◌, length, get_or}
 use Rattle.std.specs.List.{range_with_len}
 use Rattle.pns_rules.specs.Nodes as rules
@@ -9,8 +9,9 @@ use Rattle.tree_rules.specs.Ways.{width}
 use Rattle.tree_rules.specs.Tree.{End, branch, leaf}
 use Rattle.tree_rules.specs.Leaf.{Leaf, untried}
 
--- a node of the tree: its option, its steps, the node that these leave, the number of its first child where it is branched, its end,
--- and the key under which a search keeps what it works with, where the node is an open leaf
+-- A node of the tree: its option, its steps, the node that these leave, the number of its first
+-- child if it is branched, its end, and the key under which a search stores its data if the node is
+-- an open leaf.
 pub record Cell : Type 0 where
   pub option : List ℕ
   pub steps : List rules.Step
@@ -37,12 +38,12 @@ numbers_below first (leaf l) = []
 abbrev pub children_at : List Cell → ℕ → List ℕ
 children_at cells i = numbers_below (cell_at cells i).first (cell_at cells i).end
 
--- how often a number stands in a list
+-- how often a number is in a list
 abbrev pub times : ℕ → List ℕ → ℕ
 times j [] = 0
 times j (i ∷ is) = cond (i == j) 1 0 + times j is
 
--- the children stand behind their parent i, which has some, and are among n cells
+-- the children come after their parent i, which has some, and are among n cells
 abbrev pub AreBehind : ℕ → ℕ → ℕ → End Leaf → Type 0
 AreBehind n i first (branch w) = (0 < width w) × (i < first) × (first + width w ≤ n)
 AreBehind n i first (leaf l) = Unit {0}

@@ -1,5 +1,5 @@
--- The cells of a growing tree at the nodes of the search, each by itself: its steps pass and leave its node, a branched one has a
--- child for each option, and P tells which leaves are allowed.
+-- The cells of a growing tree at the nodes of the search, each by itself: its steps pass and leave
+-- its node, a branched one has a child for each option, and P says which leaves may be there.
 use Rattle.std.specs.Prelude.{◌≡◌, ℕ, ◌+◌, ◌<◌, List, [], length, map}
 use Rattle.std.specs.List.{range_with_len}
 use Rattle.pns_rules.specs.Shape.{Shape}

@@ -20,7 +20,8 @@ abbrev pub is_open : End Leaf → Bool
 is_open (branch w) = false
 is_open (leaf l) = is_open_leaf l
 
--- the open leaves of the pool after node `at` is branched: those before but this one, and each new node that ends open
+-- the open leaves of the pool after node `at` is branched: those before but this one, and each new
+-- node that ends open
 pub record AreOpenAfter (old new : Pooled Cell) (at : ℕ) : Type 0 where
   pub shut : has new.leaves at ≡ false
   pub others : (j : ℕ) → j < length old.payloads → (j ≡ at → ⊥) → has new.leaves j ≡ has old.leaves j
@@ -30,7 +31,7 @@ pub record AreOpenAfter (old new : Pooled Cell) (at : ℕ) : Type 0 where
 abbrev pub as_parent : Cell → ℕ → End Leaf → Cell
 as_parent c first e = record { option = c.option; steps = c.steps; node = c.node; first = first; end = e; key = c.key }
 
--- the cells and the values of children of which the last one stands first, in their order
+-- the cells and the values of children that are listed with the last one first, in their order
 abbrev pub cells_in_turn : List Fresh → List Cell
 cells_in_turn [] = []
 cells_in_turn (f ∷ fs) = cells_in_turn fs ++ f.cell ∷ []

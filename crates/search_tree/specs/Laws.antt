@@ -28,7 +28,7 @@ pub record IsGrown (partial : Bool) (p : Problem) (start : Node) (claim : Claim)
   pub linked : IsLinked cells
   pub fits : Fits (shape_of p) (LeafPasses partial p (claimed_cost claim)) start cells
 
--- the tree of cells that fit proves the claim, where the claim passes
+-- the tree of cells that fit proves the claim, if the claim passes
 abbrev pub PreorderProves : Type 0
 PreorderProves =
     (partial : Bool) (p : Problem) (start : Node) (claim : Claim) (cells : List Cell) (order : List ℕ) → IsGrown partial p start claim cells
@@ -41,13 +41,13 @@ pub record IsCell (cells : List Cell) (n : Node) (e : End Leaf) : Type 0 where
   pub node_is : place_of (cell_at cells number) ≡ n
   pub end_is : (cell_at cells number).end ≡ e
 
--- what stands at a place of the tree is a cell
+-- each place of the tree has the node and the end of a cell
 abbrev pub NodesAreCells : Type 0
 NodesAreCells =
     (partial : Bool) (p : Problem) (start : Node) (claim : Claim) (cells : List Cell) (order : List ℕ) → IsGrown partial p start claim cells
     → IsPreorder cells (0 ∷ []) order → (k : ℕ) (n : Node) (e : End Leaf) → Stands (shape_of p) (start ∷ []) (tree_of cells order) k n e → IsCell cells n e
 
--- and at the place of a cell stands its node with its end
+-- and the place of a cell has its node with its end
 abbrev pub CellsStand : Type 0
 CellsStand =
     (partial : Bool) (p : Problem) (start : Node) (claim : Claim) (cells : List Cell) (order : List ℕ) → IsGrown partial p start claim cells

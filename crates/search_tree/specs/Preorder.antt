@@ -6,7 +6,8 @@ use Rattle.tree_rules.specs.Leaf.{Leaf}
 use Rattle.tree_rules.specs.Accepted.{Tree}
 use Rattle.search_tree.specs.Cells.{Cell, cell_at, children_at}
 
--- the numbers `order` are those of the subtrees of the cells `is`, one subtree after the other, each in preorder
+-- the numbers `order` are those of the subtrees of the cells `is`, one subtree after the other,
+-- each in preorder
 abbrev pub IsPreorder : List Cell → List ℕ → List ℕ → Type 0
 IsPreorder cells [] [] = Unit {0}
 IsPreorder cells [] (k ∷ ks) = ⊥
@@ -20,14 +21,14 @@ node_at cells i = record { option = (cell_at cells i).option; steps = (cell_at c
 abbrev pub tree_of : List Cell → List ℕ → Tree
 tree_of cells order = map (node_at cells) order
 
--- ---- leaves that are told in another way
+-- ---- leaves that are mapped to others
 
--- the end, where f tells its leaf
+-- the end, with its leaf mapped by f
 abbrev pub told_end : {L : Type 0} → (Leaf → L) → End Leaf → End L
 told_end f (branch w) = branch w
 told_end f (leaf l) = leaf (f l)
 
--- the node of a cell, where f tells the leaf of each number
+-- the node of a cell, with its leaf mapped by f of its number
 abbrev pub told_at : {L : Type 0} → (ℕ → Leaf → L) → List Cell → ℕ → TreeNode L
 told_at f cells i = record { option = (cell_at cells i).option; steps = (cell_at cells i).steps; end = told_end (f i) (cell_at cells i).end }
 
@@ -36,13 +37,14 @@ told_tree f cells order = map (told_at f cells) order
 
 -- ---- what a walk finds
 
--- the nodes are those of all cells in preorder, whose numbers are `order`, and the cell `wanted` is the node `place` there
+-- the nodes are those of all cells in preorder, whose numbers are `order`, and the cell `wanted` is
+-- the node `place` there
 pub record IsTreeIn (cells : List Cell) (wanted : ℕ) (order : List ℕ) (nodes : Tree) (place : ℕ) : Type 0 where
   pub is_preorder : IsPreorder cells (0 ∷ []) order
   pub nodes_are : nodes ≡ tree_of cells order
   pub stands : slice_get order place ≡ Some wanted
 
--- so it is in some order
+-- this holds for some order
 pub record IsTreeOf (cells : List Cell) (wanted : ℕ) (nodes : Tree) (place : ℕ) : Type 0 where
   pub order : List ℕ
   pub is_preorder : IsPreorder cells (0 ∷ []) order

@@ -12,7 +12,7 @@ abbrev pub shut_as : Shut → Leaf
 shut_as (shuts.Bounded s) = bounded s.d s.ys
 shut_as (shuts.Refuted ys) = refuted ys
 
--- an open leaf is bounded or refuted, where something shuts it; other leaves stay
+-- an open leaf is bounded or refuted, if something shuts it; other leaves stay
 abbrev pub shut_leaf : Option Shut → Leaf → Leaf
 shut_leaf None l = l
 shut_leaf (Some s) (dead x) = dead x
@@ -25,7 +25,7 @@ abbrev pub shut_end : Option Shut → End Leaf → End Leaf
 shut_end s (branch w) = branch w
 shut_end s (leaf l) = leaf (shut_leaf s l)
 
--- the cells, of which each open leaf is so shut by what stands at its number
+-- the cells, with each open leaf shut in this way by the item at its number
 abbrev pub shut_cells : List (Option Shut) → List Cell → List Cell
 shut_cells [] cs = cs
 shut_cells (s ∷ ss) [] = []

@@ -12,11 +12,11 @@ pub struct Cell {
     pub steps: Steps,
     /// The node after the steps.
     pub node: Node,
-    /// The number of the first child, where the node is branched.
+    /// The number of the first child, if the node is branched.
     pub first: u32,
     /// How the node ends.
     pub end: End,
-    /// The key under which a search keeps what it works with at an open leaf.
+    /// The key under which a search stores the data of an open leaf.
     pub key: usize,
 }
 

@@ -11,7 +11,7 @@ use branch_tree::End;
 use mixed_numbers::Mixed;
 use node_pool::Pool;
 
-/// A child that stands ready, with its value.
+/// A child that is ready, with its value.
 #[derive(Drop)]
 pub struct Fresh {
     pub cell: Cell,
@@ -45,8 +45,8 @@ impl Cell {
     }
 }
 
-/// Adds a child of the node `leaf` behind all other nodes, as an open leaf where it is one. It takes no memory where the pool has
-/// room for it.
+/// Adds a child of the node `leaf` after all other nodes, as an open leaf if it is one. It takes no
+/// memory if the pool has room for it.
 fn add_child(pool: &mut Pool<Cell>, leaf: u32, fresh: Fresh)
     requires parent { IsShut pool.old leaf }
     requires room { 0 < pool.old.spare }
@@ -80,8 +80,9 @@ fn mark_branch(pool: &mut Pool<Cell>, leaf: u32, end: End, first: u32)
     pool.payload_mut(leaf).make_parent(end, first);
 }
 
-/// Branches an open leaf: gives it the end, and adds its children, the last of which stands first in the list. They begin with the
-/// node `first`. The list is empty then, and no memory is taken.
+/// Branches an open leaf: gives it the end, and adds its children, which are in the list with the
+/// last one first. They begin with the node `first`. The list is empty then, and no memory is
+/// taken.
 pub fn branch(pool: &mut Pool<Cell>, leaf: u32, end: End, first: u32, children: &mut Vec<Fresh>)
     requires leaf { has pool.old.leaves leaf ≡ true }
     requires room { length children.old.items ≤ pool.old.spare }

@@ -6,12 +6,12 @@ pub fn preorder_is_tree()
     ensures all { PreorderHasAll }
 {}
 
-/// Where each cell fits, the tree proves the claim that passes.
+/// If each cell fits, the tree proves the claim that passes.
 pub fn preorder_proves()
     ensures { PreorderProves }
 {}
 
-/// What stands at a place of the tree is a cell, and at the place of a cell stands its node with its end.
+/// Each place of the tree has a cell's node with its end, and the place of a cell has its own.
 pub fn cells_stand()
     ensures nodes { NodesAreCells }
     ensures cells { CellsStand }

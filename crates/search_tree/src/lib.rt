@@ -1,14 +1,15 @@
 //! The tree of a search while it grows, and the branch tree that it makes.
 //!
-//! A search adds nodes in the order in which it meets them, the children of a node one behind the other. A [`Cell`] is such a
-//! node, kept in a `Pool`. What has to hold of the cells is said of each cell by itself (`Fits`), and [`nodes_in_preorder`] makes the
-//! branch tree, whose passing then follows: no walk is a recursion, and no fact of the search relates two nodes.
+//! A search adds nodes in the order in which it meets them, with the children of a node in a row. A
+//! [`Cell`] is such a node, kept in a `Pool`. What has to hold of the cells is said of each cell by
+//! itself (`Fits`). [`nodes_in_preorder`] makes the branch tree, which then passes: no walk is a
+//! recursion, and no fact of the search relates two nodes.
 //!
 //! - `cell`: `Cell`
 //! - `growth`: a leaf becomes a branch, and its children are added
 //! - `shut`: what shuts an open leaf
 //! - `walk`: the cells in preorder
-//! - `laws`: what holds of the tree where each cell fits
+//! - `laws`: what holds of the tree if each cell fits
 #![tactic(auto)]
 
 mod cell;

@@ -58,7 +58,7 @@ fn copy_end(alloc: Global, end: &End) -> Result<End, AllocError>
     }
 }
 
-/// A copy of the node's end; an open leaf is shut, where something shuts it.
+/// A copy of the node's end; an open leaf is shut, if something shuts it.
 fn copy_shut(alloc: Global, cell: &Cell, proof: Option<&Shut>) -> Result<End, AllocError>
     ensures { IfOk result (λ e. end_of e ≡ shut_end (option_copied proof.entry) cell.now.end) }
 {
@@ -82,7 +82,7 @@ fn copy_node(alloc: Global, cell: &Cell, proof: Option<&Shut>) -> Result<TreeNod
     })
 }
 
-/// Puts what is left of a run behind its first number back.
+/// Puts the numbers of a run that follow its first one back.
 fn put_rest(stack: &mut Vec<Run>, run: Run) -> Result<(), AllocError>
     requires { run.next < 2 ^ 32 - 1 }
     ensures { OnOk result (to_come stack.new.items ≡ range_with_len (run.next + 1) run.more ++ to_come stack.old.items) }
@@ -154,7 +154,7 @@ fn ended(nodes: Vec<TreeNode>, order: Vec<u32>, place: usize) -> Preorder
     }
 }
 
-/// What stands at a number, where something does.
+/// The item at a number, if there is one.
 fn proof_at(proofs: &[Option<Shut>], number: u32) -> Option<&Shut>
     ensures { option_copied result ≡ slice_index_or proofs.now number None }
 {
@@ -164,8 +164,8 @@ fn proof_at(proofs: &[Option<Shut>], number: u32) -> Option<&Shut>
     }
 }
 
-/// The branch tree of the cells, and the place of the cell `wanted` in it. An open leaf at whose number something stands is shut there by
-/// this. It takes a step for each cell, and no recursion.
+/// The branch tree of the cells, and the place of the cell `wanted` in it. An open leaf is shut if
+/// `proofs` has something at its number. It takes a step for each cell, and no recursion.
 pub fn nodes_in_preorder(
     alloc: Global,
     pool: &Pool<Cell>,

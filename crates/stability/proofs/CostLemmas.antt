@@ -1,4 +1,4 @@
--- A cost whose steps are in range is in range.
+-- A cost whose steps do not overflow does not overflow.
 use Rattle.std.proofs.Common.{◌≡◌, List, [], ◌∷◌, ℤ, pos, Result, Ok, Err, sym, ◌∙◌, subst, rules}
 use Rattle.std.specs.Prelude.{IfOk, OnOk}
 use Rattle.integer_laws.specs.Range.{InRange}

@@ -9,7 +9,7 @@ use Rattle.stability_rules.specs.declared.spot.Spot.TheVariants.{Price, Fix, Pro
 use Rattle.stability_rules.specs.Spot.{KnowsSpot, valued, IsAllowedValue}
 use Rattle.stability_laws.specs.Laws.{ValuedIsValid}
 
--- the later one alone stands there
+-- the later one alone is there
 valued_again : (p : Problem) (spot : Spot) → KnowsSpot p spot → (v w : ℤ) → valued (valued p spot v) spot w ≡ valued p spot w
 valued_again p (Price x) known v w =
     let m : Material = record (material_at p x) { price = v } in

@@ -1,4 +1,4 @@
--- What a search at one value tells.
+-- What a search at one value says.
 use Rattle.std.proofs.Common.{◌⊎◌, inl, inr, ℤ, pos, ◌-ℤ◌, ◌*ℤ◌, ◌≤ℤ◌, ◌<ℤ◌, arith}
 use Rattle.std.proofs.lemmas.Int.{ints}
 use Rattle.integer_laws.proofs.Ring.{ring_z}

@@ -1,4 +1,4 @@
--- The range out of its two ends, and what stands behind a refusal.
+-- The range from its two ends, and what a refusal means.
 use Rattle.std.proofs.Common.{◌≡◌, ℕ, ◌+◌, ◌/◌, ◌<◌, ◌≤◌, inl, inr, ℤ, pos, ◌+ℤ◌, ◌-ℤ◌, ◌*ℤ◌, Some, None, refl, sym, ap, ◌∙◌, subst, arith}
 use Rattle.std.proofs.lemmas.Int.{ints}
 use Rattle.problem_rules.specs.Problem.{Problem}
@@ -70,7 +70,7 @@ half_proved between c known side b h half =
       best_half = best_nearer between c.problem c.spot known c.network side b.good (b.bad / 2) half h.best_now h.best_good;
     }
 
--- ---- what a bracket tells
+-- ---- what a bracket says
 
 told_fault : BestBetween → (c : Case) → KnowsSpot c.problem c.spot → (side : Side) (b : Bracket) → IsBracket c side b → (fault : RangeFault)
     → IsStopAt c.problem c.spot c.network c.budget (there c side b.bad) fault → IsSettledAs b.good b.bad (Wanting fault)

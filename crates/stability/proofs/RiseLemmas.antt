@@ -1,4 +1,4 @@
--- What a checked sum is, said in other words.
+-- What a checked sum is, in other words.
 use Rattle.std.proofs.Common.{◌≡◌, ℤ, Option, Some, None, ◌∙◌}
 use Rattle.std.specs.Prelude.{SomeIff, IfSome}
 

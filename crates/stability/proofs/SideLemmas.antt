@@ -44,7 +44,7 @@ not_present Above present a some e = absurd (omega (arith, ints))
 pub one_within : (room : ℕ) → (room ≡ 0 → ⊥) → 1 ≤ room
 one_within room some = omega (arith, some)
 
--- one step away is allowed where there is room
+-- one step away is allowed if there is room
 pub step_allowed : (spot : Spot) (side : Side) (present : ℤ) (room : ℕ) → (room ≡ 0 → ⊥) → IsAllowedValue spot present → value_on side present room ≡ limit_on side spot
     → IsAllowedValue spot (value_on side present 1)
 step_allowed spot side present room some now limit =

@@ -1,4 +1,4 @@
--- What stands behind each refusal of a range.
+-- What each refusal of a range means.
 use Rattle.std.specs.Prelude.{◌≡◌, ℕ, ℤ, Option, Some, None}
 use Rattle.problem_rules.specs.Problem.{Problem}
 use Rattle.tree_rules.specs.Claim.{Network}
@@ -18,7 +18,7 @@ abbrev pub IsProbed : Problem → Spot → Network → ℤ → Option Network �
 IsProbed p spot w v None = IsBestAt p spot w v
 IsProbed p spot w v (Some n) = IsCheaperAt p spot w v n
 
--- the search against the network came to no end there
+-- the search against the network found no answer there
 abbrev pub IsSearchStop : Problem → Spot → ℕ → ℤ → RangeFault → Type 0
 IsSearchStop p spot budget v (NotBest n) = ⊥
 IsSearchStop p spot budget v (Spent value best tree next options) = (value ≡ v) × IsFound (valued p spot v) first_node budget (founds.Spent best tree next options)
@@ -26,15 +26,16 @@ IsSearchStop p spot budget v (Past value best tree node nonbasic place) = (value
 IsSearchStop p spot budget v (PastCost value at) = ⊥
 IsSearchStop p spot budget v Memory = Unit {0}
 
--- no answer came there
+-- no answer was found there
 abbrev pub IsStopAt : Problem → Spot → Network → ℕ → ℤ → RangeFault → Type 0
 IsStopAt p spot w budget v (PastCost value at) = (value ≡ v) × IsPastCost p spot w v at
 IsStopAt p spot w budget v fault = IsSearchStop p spot budget v fault
 
 -- ---- of the range
 
--- A network of least cost is cheaper now; or the search against the network stops at a value, as it says, which is the present one
--- or half proved; or the network's cost is past the range at one that is half proved.
+-- A network of least cost is cheaper now; or the search against the network stops at a value, as it
+-- says, which is the present one or half proved; or the network's cost overflows at one that is
+-- half proved.
 abbrev pub IsRefusal : Problem → Spot → Network → ℕ → RangeFault → Type 0
 IsRefusal p spot w budget (NotBest n) = IsCheaper p (record { cost = w.cost; d = w.d }) n
 IsRefusal p spot w budget (Spent value best tree next options) =

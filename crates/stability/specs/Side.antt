@@ -15,12 +15,12 @@ use Rattle.stability.specs.declared.side.End.{End}
 abbrev pub there : Case → Side → ℕ → ℤ
 there c side away = value_on side (value_at c.problem c.spot) away
 
--- a cheaper network stands there, or no answer came there
+-- a network is cheaper there, or no answer was found there
 abbrev pub IsBeyond : Case → ℤ → Beyond → Type 0
 IsBeyond c v (Cheaper n) = IsCheaperAt c.problem c.spot c.network v n
 IsBeyond c v (Wanting fault) = IsStopAt c.problem c.spot c.network c.budget v fault
 
--- the network is optimal now and so far away, and farther away that stands beyond
+-- the network is optimal now and so far away, and farther away this was found
 pub record IsBracket (c : Case) (side : Side) (b : Bracket) : Type 0 where
   pub known : KnowsSpot c.problem c.spot
   pub now_allowed : IsAllowedValue c.spot (value_at c.problem c.spot)
@@ -30,7 +30,7 @@ pub record IsBracket (c : Case) (side : Side) (b : Bracket) : Type 0 where
   pub allowed : IsAllowedValue c.spot (there c side b.bad)
   pub is_beyond : IsBeyond c (there c side b.bad) b.beyond
 
--- the cheaper network stands one step beyond; or no answer came where half the way is proved
+-- the network is cheaper one step beyond; or no answer was found, and half the way is proved
 abbrev pub IsSettledAs : ℕ → ℕ → Beyond → Type 0
 IsSettledAs good bad (Cheaper n) = bad ≡ good + 1
 IsSettledAs good bad (Wanting Memory) = Unit {0}

@@ -36,7 +36,7 @@ impl<'a> Case<'a> {
         })
     }
 
-    /// The range, or why none is told, over a desk with the present value.
+    /// The range, or why there is none, over a desk with the present value.
     fn range<W: Watch>(&self, desk: &mut Desk<W>) -> Result<Range, RangeFault>
         requires problem { desk.old.problem ≡ self.now.problem }
         requires desk { IsDesk self.now desk.old }
@@ -53,11 +53,12 @@ impl<'a> Case<'a> {
 }
 
 /// The largest interval of allowed values of the spot, round the present one, at which the network
-/// with its flows is optimal among the allowed ones: prices and proportional costs from -10^15 to
-/// 10^15 millionths, fixed costs from 0. The network passes as a claim. Each search has the whole
-/// budget of nodes. `NotBest` comes with a network of least cost that is cheaper now; `Spent` and
-/// `Past` as a search stops at their value, which is the present one or far away, and `PastCost`
-/// where the network's cost overflows at a value far away. At a value far away the network is known
+/// with its flows is optimal among the clash-free ones. Prices and proportional costs go from
+/// -10^15 to 10^15 millionths, fixed costs from 0. The network passes as a claim. Each search has
+/// the whole budget of nodes. `NotBest` comes with a network of least cost that is cheaper now.
+/// `Spent` and `Past` come if a search stops at their value, which is the present one or far away.
+/// `PastCost` comes if the network's cost overflows at a value far away. At a value far away the
+/// network is known to be optimal half the way there.
 /// to be optimal half the way there.
 pub fn range<W: Watch>(
     alloc: Global,

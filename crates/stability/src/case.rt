@@ -83,7 +83,7 @@ impl<'a> Case<'a> {
     }
 
     /// The problem is valid, the spot is one of it, its value is allowed, and the network passes as
-    /// a claim. A call tells a proof so, and does nothing.
+    /// a claim. A call proves this, and does nothing.
     pub(crate) fn is_known(&self)
         ensures valid { IsValid self.now.problem }
         ensures known { KnowsSpot self.now.problem self.now.spot }
@@ -100,7 +100,7 @@ impl<'a> Case<'a> {
         self.present
     }
 
-    /// How far the limit of the values lies from the present one.
+    /// How far the limit of the values is from the present one.
     pub(crate) fn room(&self, side: Side) -> u64
         ensures { value_on side (value_at self.now.problem self.now.spot) result ≡ limit_on side self.now.spot }
     {

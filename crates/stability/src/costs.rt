@@ -18,7 +18,7 @@ use pns_problem::Problem;
 use std::alloc::{AllocError, Global};
 
 /// What the network's flows cost in the problem, over its `d`; or the first step of this cost that
-/// is out of range.
+/// overflows.
 pub(crate) fn cost_in(problem: &Problem, graph: &Graph, network: &Network) -> Result<i128, PastSum>
     requires graph { shape graph.now ≡ shape_of problem.now }
     requires known { (u : ℕ) → has network.now.units u ≡ true → u < (shape graph.now).units }

@@ -1,5 +1,5 @@
-//! The problem of a case with one value after the other in the spot, and what searches over it have
-//! in common.
+//! The problem of a case with one value after the other in the spot, and what the searches over it
+//! share.
 ghost use Rattle.std.specs.Prelude.{◌≡◌, ◌≤◌, IfOk, Some};
 ghost use Rattle.pns_rules.specs.Shape.{shape_of};
 ghost use Rattle.pgraph.specs.Tables.{shape};
@@ -23,8 +23,8 @@ use std::alloc::{AllocError, Global};
 use std::marker::Model;
 use unit_sets::{Node, UnitSet};
 
-/// A copy of a case's problem, of which the spot alone is set from value to value, with what its
-/// searches keep, and who watches them.
+/// A copy of a case's problem, of which only the spot changes, with what its searches keep, and
+/// with who watches them.
 #[derive(Drop)]
 pub(crate) struct Desk<W: Watch> {
     problem: Problem,
@@ -65,7 +65,7 @@ fn search_at<W: Watch>(
 }
 
 impl<W: Watch> Desk<W> {
-    /// A desk with the present value. `Err` comes when memory is refused.
+    /// A desk with the present value. `Err` comes if memory is refused.
     pub(crate) fn of(case: &Case, watch: W) -> Result<Desk<W>, AllocError>
         ensures problem { IfOk result (λ d. d.problem ≡ case.now.problem) }
         ensures desk { IfOk result (IsDesk case.now) }

@@ -1,5 +1,5 @@
-//! Where the network costs as much as another one, as a guess: nothing is promised of it, and
-//! whoever takes it looks there.
+//! The value at which two networks cost the same, as a guess: nothing is promised of it, so a
+//! search looks there.
 ghost use Rattle.std.specs.Prelude.{◌≡◌, ◌<◌, ℕ, true};
 ghost use Rattle.number_sets.specs.Sets.{has};
 ghost use Rattle.pns_rules.specs.Shape.{shape_of};
@@ -59,7 +59,8 @@ fn steps_of(lead: i128, next: i128) -> Option<u64> {
 }
 
 impl<'a> Case<'a> {
-    /// How far away the other network is still no cheaper, on a side where it is in the end.
+    /// How far away the other network is still no cheaper, on a side on which it is cheaper in the
+    /// end.
     pub(crate) fn meeting<W: Watch>(
         &self,
         desk: &mut Desk<W>,

@@ -1,10 +1,10 @@
-//! What the range of a spot is, and why none is told.
+//! What the range of a spot is, and why there is none.
 use branch_tree::{Columns, Network, Tree};
 use flow_rules::Place;
 
 /// The values of a spot at which a network is optimal, in millionths: each from `from` to `to`. One
-/// step below `from` the network `below` is cheaper, and one step above `to` the network `above`;
-/// none where that end is the limit of the values.
+/// step below `from` the network `below` is cheaper, and one step above `to` the network `above`. A
+/// network is missing if that end is the limit of the values.
 #[derive(Drop)]
 pub struct Range {
     pub from: i64,
@@ -13,7 +13,7 @@ pub struct Range {
     pub above: Option<Network>,
 }
 
-/// Why no range is told.
+/// Why there is no range.
 #[derive(Drop)]
 pub enum RangeFault {
     /// This network of least cost is cheaper now.

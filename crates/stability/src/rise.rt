@@ -30,7 +30,7 @@ fn negated(amount: i64) -> i64
     -amount
 }
 
-/// The least that a structure's flows leave over of a material, below 0 where it is bought.
+/// The least that a structure's flows leave over of a material, below 0 if it is bought.
 fn least_left(problem: &Problem, x: u32) -> i64
     requires { x < length problem.now.materials }
     ensures value { result ≡ least_left problem.now x }
@@ -98,7 +98,7 @@ fn over_years(problem: &Problem, much: i128) -> i128
     problem.payout() as i128 * much
 }
 
-/// By how little a structure's cost can rise where the value is one less, over its `d`.
+/// By how little a structure's cost can rise if the value is one less, over its `d`.
 fn least_rise_below(problem: &Problem, spot: Spot) -> i128
     requires { KnowsSpot problem.now spot }
     ensures { result ≡ least_rise problem.now spot Below }
@@ -110,7 +110,7 @@ fn least_rise_below(problem: &Problem, spot: Spot) -> i128
     }
 }
 
-/// By how little it can rise where the value is one more.
+/// By how little it can rise if the value is one more.
 fn least_rise_above(problem: &Problem, spot: Spot) -> i128
     requires { KnowsSpot problem.now spot }
     ensures { result ≡ least_rise problem.now spot Above }

@@ -42,8 +42,8 @@ pub(crate) fn value_at(problem: &Problem, spot: Spot) -> i64
     }
 }
 
-/// The problem with this value, in millionths, in the spot, and all else as it is. It fails only
-/// when memory is refused.
+/// The problem with this value, in millionths, in the spot, and all else as it is. It fails only if
+/// memory is refused.
 pub fn valued(
     alloc: Global,
     problem: &Problem,

@@ -14,14 +14,14 @@ use progress::Watch;
 use stability_laws::{best_away, best_between};
 use stability_rules::Side;
 
-/// What stands at a value: a network that is cheaper there, or no answer.
+/// What is found at a value: a network that is cheaper there, or no answer.
 #[derive(Drop)]
 pub(crate) enum Beyond {
     Cheaper(Network),
     Wanting(RangeFault),
 }
 
-/// So far away the network is optimal, and farther away that stands beyond.
+/// The network is optimal so far away, and farther away this was found.
 #[derive(Drop)]
 pub(crate) struct Bracket {
     good: u64,
@@ -59,7 +59,7 @@ fn digits(number: u64) -> u32
     64 - number.leading_zeros()
 }
 
-/// A number between two others: in the middle by their lengths and at most half the greater, where
+/// A number between two others: in the middle by their lengths. It is at most half the greater, if
 /// that is above the lesser.
 fn middle(low: u64, high: u64) -> u64
     requires { low < high }
@@ -92,7 +92,7 @@ fn outwards(low: u64, high: u64) -> u64
 }
 
 impl Bracket {
-    /// Whether the end of the range is told by it, or that none is told.
+    /// Whether this settles the end of the range, or that there is no answer.
     fn is_settled(&self) -> bool
         requires { self.now.good < self.now.bad }
         ensures settled { result ≡ true → IsSettled self.now }
@@ -107,8 +107,9 @@ impl Bracket {
 }
 
 impl<'a> Case<'a> {
-    /// A guess where to look next: where the lines of the two networks meet; on the way out, where
-    /// a budget was spent, which costs all of it; or, where a number overflowed, between by length.
+    /// A guess how far away to look next. If a cheaper network is known, it is the place at which
+    /// the lines of the two networks meet. After a spent budget, which costs all of it, it is on
+    /// the way out. Else it is in between by length.
     fn guess<W: Watch>(&self, desk: &mut Desk<W>, side: Side, bracket: &Bracket) -> u64
         requires desk { IsDesk self.now desk.old }
         requires is_bracket { IsBracket self.now side bracket.now }
@@ -167,7 +168,7 @@ impl<'a> Case<'a> {
         }
     }
 
-    /// What a bracket tells.
+    /// What a bracket says of the end of the range.
     fn told(&self, side: Side, bracket: Bracket) -> Result<End, RangeFault>
         requires is_bracket { IsBracket self.now side bracket }
         requires settled { IsSettled bracket }
@@ -207,8 +208,8 @@ impl<'a> Case<'a> {
         }
     }
 
-    /// The end of the range on this side, where the network is optimal now: where its cost rises as
-    /// little as any can the range goes to the limit of the values, and else the limit is looked at
+    /// The end of the range on this side, if the network is optimal now. If its cost rises as
+    /// little as any can, the range goes to the limit of the values. Else the limit is looked at
     /// first.
     pub(crate) fn end<W: Watch>(&self, desk: &mut Desk<W>, side: Side) -> Result<End, RangeFault>
         requires desk { IsDesk self.now desk.old }

@@ -26,7 +26,8 @@ use Rattle.structure_flows.proofs.NodeLemmas.{is_between}
 both_at_most : (a b : ℤ) → a ≤ℤ b → b ≤ℤ a → a ≡ b
 both_at_most a b h k = omega (arith, ints)
 
--- Flows over q that cost c, which is n over m; a bound b over s that is at least n over m, and at most the cost of the flows: it is their cost.
+-- Flows over q cost c, which is n over m. A bound b over s is at least n over m, and at most the
+-- cost of the flows: so it is their cost.
 reached : (b c m n q s : ℤ) → pos 0 <ℤ m → pos 0 ≤ℤ q → (n *ℤ s) ≤ℤ (b *ℤ m) → c *ℤ m ≡ n *ℤ q → (q *ℤ b) ≤ℤ (s *ℤ c) → q *ℤ b ≡ s *ℤ c
 reached b c m n q s pm pq least costs dual =
     let more : (q *ℤ (n *ℤ s)) ≤ℤ (q *ℤ (b *ℤ m)) = mul-le_left q (n *ℤ s) (b *ℤ m) least pq in

@@ -1,4 +1,4 @@
--- The node of an allowed solution structure: it is sound, and all is decided there.
+-- The node of a clash-free solution structure: it is sound, and all is decided there.
 use Rattle.std.proofs.Common.{◌≡◌, ℕ, ◌<◌, Bool, true, false, not, ◌&&◌, List, length, refl, ap, ◌∙◌, inl, inr}
 use Rattle.std.proofs.lemmas.Bool.{or_cases, or_left, and_parts, and_from, both_ways, false_from_ne_true, not-true}
 use Rattle.number_sets.specs.Sets.{has}

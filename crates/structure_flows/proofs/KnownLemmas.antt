@@ -1,4 +1,5 @@
--- The columns and places of the program of a node of a problem, by the numbers of the problem, are known to it.
+-- The columns and places of the program of a node of a problem, by the numbers of the problem, are
+-- known to it.
 use Rattle.std.proofs.Common.{◌≡◌, ℕ, ◌+◌, ◌-◌, ◌<◌, ◌≤◌, Bool, true, false, cond, List, [], ◌∷◌, length, map, refl, subst, sym, arith, Some, None}
 use Rattle.std.specs.Prelude.{nat_lt, nat_eq}
 use Rattle.std.proofs.lemmas.Bool.Decides.{nat_tests}

@@ -4,7 +4,8 @@ use Rattle.std.proofs.lemmas.Int.{ints}
 use Rattle.integer_laws.proofs.Ring.{V, ◌⊗◌, ring}
 use Rattle.integer_laws.proofs.Order.{mul-le_left, cancel_le}
 
--- With flows over a that cost c and a bound b with a * b = d * c, others over e cost at least as much: e * b ≤ d * k.
+-- With flows over a that cost c and a bound b with a * b = d * c, others over e cost at least as
+-- much: e * b ≤ d * k.
 pub least_cost : (a b c d e k : ℤ) → pos 1 ≤ℤ a → pos 1 ≤ℤ d → a *ℤ b ≡ d *ℤ c → (e *ℤ b) ≤ℤ (d *ℤ k) → (c *ℤ e) ≤ℤ (k *ℤ a)
 least_cost a b c d e k pa pd reached bound =
     let p : pos 0 <ℤ d = omega (arith, ints) in

@@ -19,7 +19,7 @@ pub record IsLeastFor (p : Problem) (us : List ℕ) (w : Network) (d : ℤ) (ys 
   pub d_in_range : InRange d
   pub flows : IsLeastFlows p w d ys
 
--- the place is past at the basis that leaves the columns out, and both have names
+-- a number overflows at the place, at the basis that leaves the columns out, and both have names
 pub record IsPastFor (p : Problem) (us : List ℕ) (nonbasic : List Column) (place : Place) : Type 0 where
   pub past : IsPastNamed (net_of p) (decided p us) nonbasic place
   pub columns : Each (KnowsColumn p) nonbasic

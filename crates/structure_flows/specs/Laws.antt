@@ -1,5 +1,6 @@
--- Laws of the flows of a solution structure, each of which a public function of this crate has as its contract. They speak of
--- every valid problem and of every solution structure of it, allowed or not.
+-- Laws of the flows of a solution structure, each of which a public function of this crate has as
+-- its contract. They hold for every valid problem and every solution structure of it, clash-free or
+-- not.
 use Rattle.std.specs.Prelude.{◌≡◌, ℕ, ◌<◌, List, ℤ, length, not}
 use Rattle.number_sets.specs.Sets.{has, IsSet}
 use Rattle.problem_rules.specs.Problem.{Problem}
@@ -24,13 +25,14 @@ RefutedHasNone =
     (p : Problem) → IsValid p → (us : List ℕ) → IsStructure (shape_of p) (has us)
     → (ys : List ℤ) → length ys ≡ length (rows_of p us) → Refutes (net_of p) (decided p us) (beside (rows_of p us) ys) → HasNoFlows p us ys
 
--- at the node of a set of units each unit is taken in or left out, and its program has just these units
+-- at the node of a set of units each unit is taken in or left out, and its program has just these
+-- units
 abbrev pub NodeIsDecided : Type 0
 NodeIsDecided =
     (p : Problem) (us : List ℕ) → IsSet (length p.units) us
     → ((i : ℕ) → i < length p.units → (decided p us).outside i ≡ not ((decided p us).inside i)) × (units (net_of p) (decided p us) ≡ us)
 
--- the node of an allowed solution structure is sound, and one where all is decided
+-- the node of a clash-free solution structure is sound, and all is decided there
 abbrev pub AllowedIsDecided : Type 0
 AllowedIsDecided =
     (p : Problem) → IsValid p → (us : List ℕ) → IsStructure (shape_of p) (has us) → IsAllowed (shape_of p) (has us)

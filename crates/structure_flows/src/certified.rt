@@ -1,4 +1,4 @@
-// The flows of an allowed set of units, without the path of its program.
+// The flows of a clash-free set of units, without the path of its program.
 ghost use Rattle.std.specs.Prelude.{◌≡◌, ◌<◌, ℕ, length, true, IfOk, IfSome};
 ghost use Rattle.number_sets.specs.Sets.{has};
 ghost use Rattle.pns_rules.specs.Shape.{shape_of};
@@ -47,7 +47,7 @@ fn refuted(problem: &Problem, set: UnitSet, ys: Multipliers) -> StructureFlows
     StructureFlows::Refuted { ys }
 }
 
-/// What is told of the node of the set, if anything.
+/// The answer for the node of the set, if there is one.
 fn told(problem: &Problem, set: UnitSet, certified: Certified) -> Option<StructureFlows>
     requires structure { IsStructure (shape_of problem.now) (has set) }
     requires certified { IsCertified problem.now (decided problem.now set) true certified }
@@ -60,8 +60,8 @@ fn told(problem: &Problem, set: UnitSet, certified: Certified) -> Option<Structu
     }
 }
 
-/// What is certified of the flows of the set, if anything. Only a set that is allowed is asked for,
-/// since a network that is certified is allowed.
+/// What is certified of the flows of the set, if anything. Only a clash-free set may be asked for,
+/// since a network that is certified is clash-free.
 pub(crate) fn certified(
     alloc: Global,
     site: &Site<'_>,

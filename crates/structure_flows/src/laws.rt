@@ -4,7 +4,7 @@ ghost use Rattle.structure_flows.specs.Laws.{ProvedIsLeast, RefutedHasNone, Node
 use flow_rules::{refutation, weak_duality};
 use pns_rules::valid_is_proper;
 
-/// Flows whose cost is the bound of multipliers cost the least of all, and where multipliers refute
+/// Flows whose cost is the bound of multipliers cost the least of all; and if multipliers refute,
 /// there are none.
 pub fn multipliers_prove()
     ensures least { ProvedIsLeast }
@@ -19,7 +19,7 @@ pub fn node_is_decided()
     ensures { NodeIsDecided }
 {}
 
-/// The node of an allowed solution structure is sound, no step is possible there, and all is
+/// The node of a clash-free solution structure is sound, no step is possible there, and all is
 /// decided.
 pub fn allowed_is_decided()
     ensures { AllowedIsDecided }

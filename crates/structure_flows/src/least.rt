@@ -69,7 +69,7 @@ fn refuted(
     })
 }
 
-/// The multipliers that the bench keeps, behind their scale.
+/// The multipliers that the bench keeps, with their scale.
 fn kept_bound(alloc: Global, bench: &Bench) -> Result<Scaled, AllocError>
     requires scale { InRange bench.now.d }
     requires multipliers { AllInRange bench.now.ys }
@@ -137,8 +137,8 @@ fn walked(alloc: Global, site: &Site<'_>, set: UnitSet) -> Result<StructureFlows
     }
 }
 
-/// The flows of a solution structure, allowed or not: what the path of its program gives, and where
-/// a number on the path is out of range, what is certified without it.
+/// The flows of a solution structure, clash-free or not: what the path of its program gives. If a
+/// number overflows on the path, it is what is certified without it.
 pub fn flows_of(alloc: Global, site: &Site<'_>, set: UnitSet) -> Result<StructureFlows, AllocError>
     requires known { (u : ℕ) → has set u ≡ true → u < length site.now.units }
     requires structure { IsStructure (shape_of site.now) (has set) }

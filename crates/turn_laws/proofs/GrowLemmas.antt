@@ -1,4 +1,4 @@
--- Cells still fit where a leaf is branched, and where open leaves are shut.
+-- Cells still fit if a leaf is branched, and if open leaves are shut.
 use Rattle.std.proofs.Common.{◌≡◌, ℕ, zero, suc, ◌+◌, ◌<◌, ◌≤◌, pos, ℤ, ◌≤ℤ◌, true, List, [], ◌∷◌, length, map, refl, sym, ap, ap₂, ◌∙◌, subst, arith, inl, inr, Option, Some, None}
 use Rattle.std.specs.List.{range_with_len}
 use Rattle.std.proofs.lemmas.Bool.{cases_eq}

@@ -51,7 +51,7 @@ module _ (p : Problem) (valid : IsValid p) (start : Node) (claim new_claim : Cla
       let s = splits in
       omega (arith, a, e, s)
 
-  -- a branch is no dearer than this one
+  -- a branch costs no more than this one
   reaches_now : (l : Option Node) → last ≡ l → (n : Node) → ReachesLast p l n → IsNoDearer p n here
   reaches_now None e n r = absurd r
   reaches_now (Some o) e n r =
@@ -69,7 +69,7 @@ module _ (p : Problem) (valid : IsValid p) (start : Node) (claim new_claim : Cla
   other_end n (branch way) k h = record { reduced = k.reduced; splits = k.splits; reached = reaches_now last refl n k.reached }
   other_end n (leaf l) k h = other_leaf n l (λ e. h (ap (λ (w : Leaf). leaf w) e))
 
-  -- a child is no cheaper than the leaf
+  -- a child costs no less than the leaf
   child_dearer : (k : ℕ) → k < length children → IsNever (IsDead (shape_of p) (place_of (cell_at children k))) → IsNoDearer p here (place_of (cell_at children k))
   child_dearer k lt no_dead =
       let g : Shape = shape_of p in

@@ -1,4 +1,4 @@
--- Cells stay linked where a leaf is branched, and where open leaves are shut.
+-- Cells stay linked if a leaf is branched, and if open leaves are shut.
 use Rattle.std.proofs.Common.{◌≡◌, ℕ, zero, suc, ◌+◌, ◌-◌, ◌<◌, ◌≤◌, ◌==◌, Bool, true, false, cond, List, [], length, refl, sym, ap, ◌∙◌, subst, arith, inl, inr, ◌⊎◌, eq-eqb, ne_eqb}
 use Rattle.std.specs.List.{range_with_len}
 use Rattle.std.proofs.lemmas.Bool.{cases_eq, cases_lt}
@@ -56,7 +56,7 @@ leaf_below f e l h = ap (λ (w : End Leaf). numbers_below f w) h
 
 -- ---- a leaf is branched
 module _ (old children new : List Cell) (at : ℕ) (w : Way) (b : IsBranched old children new at w) where
-  -- where a number stands: at the leaf, among the other cells, or among the children
+  -- the place of a number: at the leaf, among the other cells, or among the children
 
   abbrev pub IsFreshAt : ℕ → Type 0
   IsFreshAt j = (k : ℕ) × (k < length children) × (j ≡ length old + k)

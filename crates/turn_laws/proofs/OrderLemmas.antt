@@ -31,13 +31,13 @@ under_reached p n w v pw pv u h =
 pub under_less : (p : Problem) (n : Node) (w v : CostOver) → IsPositive w → IsPositive v → IsNoMore w v → IsUnder p v n → IsUnder p w n
 under_less p n w v pw pv le u z d flows = fraction_trans w.cost w.d v.cost v.d (relaxed_cost (net_of p) n z d) d pw pv flows.positive le (u z d flows)
 
--- what is under a node is under each node that is no cheaper
+-- what is under a node is under each node that costs no less
 pub under_dearer : (p : Problem) (n m : Node) (v : CostOver) → IsPositive v → IsUnder p v n → IsNoDearer p n m → IsUnder p v m
 under_dearer p n m v pv u dearer z d flows =
     let h = dearer z d flows in
     fraction_trans v.cost v.d (relaxed_cost (net_of p) n h.sizes h.d) h.d (relaxed_cost (net_of p) m z d) d pv h.relaxed.positive flows.positive (u h.sizes h.d h.relaxed) h.at_most
 
--- what a node reaches is reached by each node that is no dearer
+-- what a node reaches is reached by each node that costs no more
 pub reached_dearer : (p : Problem) (n m : Node) (v : CostOver) → IsPositive v → IsNoDearer p n m → HasCheaper p m v.cost v.d → HasCheaper p n v.cost v.d
 reached_dearer p n m v pv dearer r =
     let h = dearer r.sizes r.d r.relaxed in
@@ -64,7 +64,7 @@ no_dearer_trans p n l m a b z d flows =
       at_most = fraction_trans (relaxed_cost (net_of p) n k.sizes k.d) k.d (relaxed_cost (net_of p) l h.sizes h.d) h.d (relaxed_cost (net_of p) m z d) d k.relaxed.positive h.relaxed.positive flows.positive k.at_most h.at_most;
     }
 
--- a node that has relaxed flows of at most v is no dearer than one that has none below v
+-- a node that has relaxed flows of at most v costs no more than one that has none below v
 pub reached_is_no_dearer : (p : Problem) (n m : Node) (v : CostOver) → IsPositive v → HasCheaper p n v.cost v.d → IsUnder p v m → IsNoDearer p n m
 reached_is_no_dearer p n m v pv h under z d flows = record {
   sizes = h.sizes;
@@ -96,12 +96,12 @@ may_any p undercut n r = record { sizes = r.sizes; d = r.d; relaxed = r.relaxed;
 pub reached_any : (p : Problem) (n : Node) (much e : ℤ) → HasCheaper p n much e → MayUndercut p None n
 reached_any p n much e r = record { sizes = r.sizes; d = r.d; relaxed = r.relaxed; at_most = tt }
 
--- what a cost is at most, each that is no more is at most
+-- each cost is at most what a greater one is at most
 at_most_less : (c e much over : ℤ) (u : Option CostOver) → IsPositiveCost u → pos 1 ≤ℤ e → pos 1 ≤ℤ over → (c *ℤ over) ≤ℤ (much *ℤ e) → IsAtMost u much over → IsAtMost u c e
 at_most_less c e much over None pu pe po le below = tt
 at_most_less c e much over (Some b) pu pe po le below = fraction_trans c e much over b.cost b.d pe po pu le below
 
--- so may a node that is no dearer than one that may
+-- so may a node that costs no more than one that may
 pub no_dearer_may : (p : Problem) (undercut : Option CostOver) (n m : Node) → IsPositiveCost undercut → IsNoDearer p n m → MayUndercut p undercut m → MayUndercut p undercut n
 no_dearer_may p undercut n m pu dearer r =
     let h = dearer r.sizes r.d r.relaxed in

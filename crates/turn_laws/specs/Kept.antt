@@ -1,5 +1,6 @@
--- What a search keeps between two turns. One node ties the others together: that of the leaf that was branched last. Each branch is
--- no dearer than it, and it is no dearer than any open leaf. Both are said of each node by itself.
+-- What a search keeps between two turns. One node ties the others together: that of the leaf that
+-- was branched last. Each branch costs no more than it, and it costs no more than any open leaf.
+-- Both are said of each node by itself.
 use Rattle.std.specs.Prelude.{ℕ, ◌<◌, true, List, length, Option, Some, None}
 use Rattle.problem_rules.specs.Problem.{Problem}
 use Rattle.pns_rules.specs.Shape.{shape_of}
@@ -14,12 +15,12 @@ use Rattle.search_tree.specs.Cells.{Cell, place_of, cell_at}
 use Rattle.search_tree.specs.Laws.{IsGrown}
 use Rattle.turn_laws.specs.Values.{IsPositiveCost}
 
--- the node branched last is no dearer than this one; each may be cheaper, where no leaf was branched
+-- the node branched last costs no more than this one; if no leaf was branched, any node will do
 abbrev pub IsFromLast : Problem → Option Node → Node → Type 0
 IsFromLast p None n = Unit {0}
 IsFromLast p (Some l) n = IsNoDearer p l n
 
--- the node is no dearer than that branched last
+-- the node costs no more than the one branched last
 abbrev pub ReachesLast : Problem → Option Node → Node → Type 0
 ReachesLast p None n = ⊥
 ReachesLast p (Some l) n = IsNoDearer p n l
@@ -45,7 +46,8 @@ abbrev pub LastIsOfUse : Problem → Option CostOver → Option Node → Type 0
 LastIsOfUse p undercut None = Unit {0}
 LastIsOfUse p undercut (Some l) = MayUndercut p undercut l
 
--- the search from `start` with this claim, in which a leaf of the node `last` was branched last, for networks that undercut a cost
+-- the search from `start` with this claim, in which a leaf of the node `last` was branched last,
+-- for networks that undercut a cost
 pub record IsKeptFor (p : Problem) (start : Node) (claim : Claim) (undercut : Option CostOver) (last : Option Node) (cells : List Cell) : Type 0 where
   pub grown : IsGrown true p start claim cells
   pub sound : (i : ℕ) → i < length cells → IsSound (shape_of p) (place_of (cell_at cells i))

@@ -1,5 +1,5 @@
--- Laws of the turns of a search, each of which a public function of this crate has as its contract. Each speaks of every valid
--- problem.
+-- Laws of the turns of a search, each of which a public function of this crate has as its contract.
+-- Each holds for every valid problem.
 use Rattle.std.specs.Prelude.{◌≡◌, ℕ, ◌+◌, ◌<◌, ◌++◌, slice_set, ℤ, ◌*ℤ◌, ◌≤ℤ◌, Bool, true, List, [], ◌∷◌, length, Option, Some}
 use Rattle.std.specs.List.{slice_get}
 use Rattle.problem_rules.specs.Problem.{Problem}
@@ -26,7 +26,8 @@ use Rattle.turn_laws.specs.Turns.{CanBranch, IsLeastOpen, AreChildren, IsBranche
 
 -- ---- what a turn keeps
 
--- an open leaf is branched that is no dearer than any other, where it may undercut what is to be undercut then
+-- an open leaf is branched that costs no more than any other, if it may undercut what is to be
+-- undercut after that
 abbrev pub BranchingIsKept : Type 0
 BranchingIsKept =
     (p : Problem) → IsValid p → (start : Node) (claim new_claim : Claim) (undercut new_undercut : Option CostOver) (last : Option Node) (old children new : List Cell) (at : ℕ) (w : Way)
@@ -48,9 +49,9 @@ GrowthBranches =
     (old children : List Cell) (at : ℕ) (w : Way) → at < length old → width w ≡ length children
     → IsBranched old children (slice_set old at (as_parent (cell_at old at) (length old) (branch w)) ++ children) at w
 
--- ---- how costs tell that a leaf may be branched
+-- ---- how costs show that a leaf may be branched
 
--- a node that has relaxed flows of at most v is no dearer than one that has none below v
+-- a node that has relaxed flows of at most v costs no more than one that has none below v
 abbrev pub ReachedIsNoDearer : Type 0
 ReachedIsNoDearer = (p : Problem) (n m : Node) (v : CostOver) → IsPositive v → HasCheaper p n v.cost v.d → IsUnder p v m → IsNoDearer p n m
 
@@ -74,15 +75,15 @@ KeptIsLean =
     (p : Problem) (start : Node) (claim : Claim) (undercut : Option CostOver) (last : Option Node) (cells : List Cell) (order : List ℕ) → IsKeptFor p start claim undercut last cells
     → IsPreorder cells (0 ∷ []) order → IsLean p IsUntried undercut start (tree_of cells order)
 
--- where no leaf is open, and something is claimed that passes, the tree is accepted
+-- if no leaf is open, and something is claimed that passes, the tree is accepted
 abbrev pub WholeIsAccepted : Type 0
 WholeIsAccepted =
     (p : Problem) (start : Node) (claim : Claim) (undercut : Option CostOver) (last : Option Node) (cells : List Cell) (order : List ℕ) → IsKeptFor p start claim undercut last cells
     → IsPreorder cells (0 ∷ []) order → ClaimPasses true p claim → (claim ≡ unknown → ⊥)
     → ((i : ℕ) → i < length cells → (cell_at cells i).end ≡ leaf untried → ⊥) → IsAccepted p start claim (tree_of cells order)
 
--- where all open leaves are pending, and the nodes with the children that a least one may have are more than the budget, the
--- budget is spent
+-- if all open leaves are pending, and the nodes with the children that a least one may have are
+-- more than the budget, the budget is spent
 abbrev pub KeptIsSpent : Type 0
 KeptIsSpent =
     (p : Problem) (start : Node) (claim : Claim) (undercut : Option CostOver) (last : Option Node) (cells : List Cell) (order : List ℕ) (at place count budget : ℕ) (w : Way)
@@ -92,7 +93,7 @@ KeptIsSpent =
     → IsNextCount (shape_of p) (place_of (cell_at cells at)) count → budget < length cells + count
     → IsSpent p IsUntried undercut start (tree_of cells order) place count budget
 
--- an open leaf stands open at its place
+-- an open leaf is open at its place
 abbrev pub OpenCellsStand : Type 0
 OpenCellsStand =
     (p : Problem) (start : Node) (claim : Claim) (undercut : Option CostOver) (last : Option Node) (cells : List Cell) (order : List ℕ) (at place : ℕ)

@@ -22,7 +22,7 @@ pub record CanBranch (p : Problem) (cells : List Cell) (at : ℕ) (w : Way) : Ty
   pub may : MayBranch (shape_of p) (place_of (cell_at cells at)) w
   pub splits : IsDecision (shape_of p) (place_of (cell_at cells at)) w
 
--- the leaf is no dearer than any other open leaf
+-- the leaf costs no more than any other open leaf
 abbrev pub IsLeastOpen : Problem → List Cell → ℕ → Type 0
 IsLeastOpen p cells at =
     (j : ℕ) → j < length cells → (j ≡ at → ⊥) → (cell_at cells j).end ≡ leaf untried → IsNever (IsDead (shape_of p) (place_of (cell_at cells j)))
@@ -45,7 +45,7 @@ pub record AreChildren (p : Problem) (claimed : Option CostOver) (n : Node) (w :
 abbrev pub with_end : Cell → ℕ → End Leaf → ℕ → Cell
 with_end c first end key = record { option = c.option; steps = c.steps; node = c.node; first = first; end = end; key = key }
 
--- the children, as many as the way has, stand behind the other cells, and the leaf is a branch
+-- the children, as many as the way has, follow the other cells, and the leaf is a branch
 pub record IsBranched (old children new : List Cell) (at : ℕ) (w : Way) : Type 0 where
   pub wide : width w ≡ length children
   pub len : length new ≡ length old + length children

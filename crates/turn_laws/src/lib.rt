@@ -1,9 +1,10 @@
-//! What a best-first search keeps between two turns, that a turn keeps it, and what the tree of such a search is: lean, accepted
-//! where no leaf is open, and spent where its budget does not last for the next branch.
+//! Branching a cheapest leaf, or shutting leaves, keeps what a search keeps.
 //!
-//! The laws stand in `specs/Laws`, over the cells of `search_tree`: `Values` says what the value of a node is, `Kept` what holds
-//! between two turns, and `Turns` what a turn does. Each law is the contract of a function without a body, which a proof
-//! elsewhere calls to have it.
+//! The tree of such a search is lean. It is accepted if no leaf is open, and spent if its budget
+//! does not last for the next branch. `specs/Laws` has the laws, over the cells of `search_tree`:
+//! `Values` says what the value of a node is, `Kept` what a search keeps between two turns, and
+//! `Turns` what a turn does. Each law is the contract of a function that does nothing; a proof
+//! elsewhere calls it to have the law. Modules: `turns` laws of turns, `trees` laws of the tree.
 #![tactic(auto)]
 
 mod trees;

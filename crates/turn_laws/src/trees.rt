@@ -5,17 +5,17 @@ pub fn kept_is_lean()
     ensures { KeptIsLean }
 {}
 
-/// Where no leaf is open, and something is claimed that passes, the tree is accepted.
+/// If no leaf is open, and something is claimed that passes, the tree is accepted.
 pub fn whole_is_accepted()
     ensures { WholeIsAccepted }
 {}
 
-/// Where the children of a least open leaf are too many, the budget is spent.
+/// If the children of a least open leaf are too many, the budget is spent.
 pub fn kept_is_spent()
     ensures { KeptIsSpent }
 {}
 
-/// An open leaf stands open at its place in the tree.
+/// An open leaf is open at its place in the tree.
 pub fn open_cells_stand()
     ensures { OpenCellsStand }
 {}

@@ -1,6 +1,6 @@
 ghost use Rattle.turn_laws.specs.Laws.{BranchingIsKept, ShuttingIsKept, ReachedIsNoDearer, ReachedMayUndercut, NetworksCostMore, GrowthBranches};
 
-/// A turn that branches an open leaf which is no dearer than any other keeps what a search keeps.
+/// A turn that branches an open leaf which costs no more than any other keeps what a search keeps.
 pub fn branching_is_kept()
     ensures { BranchingIsKept }
 {}
@@ -10,17 +10,17 @@ pub fn shutting_is_kept()
     ensures { ShuttingIsKept }
 {}
 
-/// Costs of relaxed flows tell that a node is no dearer than another.
+/// Costs of relaxed flows show that a node costs no more than another.
 pub fn reached_is_no_dearer()
     ensures { ReachedIsNoDearer }
 {}
 
-/// They tell that a node may undercut a cost.
+/// They show that a node may undercut a cost.
 pub fn reached_may_undercut()
     ensures { ReachedMayUndercut }
 {}
 
-/// A network costs no less than the relaxed flows of a node that it is found at.
+/// A network costs no less than the relaxed flows of a node at which it is found.
 pub fn networks_cost_more()
     ensures { NetworksCostMore }
 {}

@@ -15,7 +15,7 @@ use Rattle.rank_search.specs.Turns.{IsRanking}
 use Rattle.rank_search.proofs.TurnLemmas.{growing_of, tree_of, ends, ranking_settled, more_settled, ends_there}
 use Rattle.rank_search.proofs.turns.go_on.Goals as goal
 
--- what comes next, where this is to be undercut
+-- what comes next, if this is to be undercut
 next_by : {given : Option CostOver} (Past : PastPlaces) (p : Problem) (s : Growing) (undercut : Option CostOver) (next : Next) → given ≡ undercut → IsNext Past p s given next → IsNext Past p s undercut next
 next_by Past p s undercut next e h = subst (λ (u : Option CostOver). IsNext Past p s u next) e h
 

@@ -50,7 +50,7 @@ after_err : {T E : Type 0} (r : Result T E) (P : Type 0) → P → OnErr r P
 after_err (Ok v) P p = tt
 after_err (Err e) P p = p
 
--- where a network can't be added, those before it are
+-- if a network can't be added, those before it are
 pub returns-in_err-add_some-clause-front : goal.returns-in_err-add_some-clause-front
 returns-in_err-add_some-clause-front c =
     let at = c.networks in
