@@ -135,11 +135,15 @@ pub fn say_unfinished<K: Sink, E: Sink>(
     }
 }
 
-// The second line if nothing more is known.
-fn not_finished() -> &'static [u8]
+// Second lines of an answer with the status that is not finished, if no more is known.
+fn not_finished(status: Status) -> &'static [u8]
     ensures { AreSeconds result.now }
 {
-    b"  not finished: see pns help solve\n"
+    if let Status::Spent = status {
+        b"  not finished: all nodes of the budget are spent\n  call again with a greater BUDGET, up to 1M\n"
+    } else {
+        b"  not finished: a number overflows 128 bits\n  write rates and costs with fewer digits, or bounds nearer to what can come\n"
+    }
 }
 
 /// With which status the call ends after lines of a tree text were printed on standard output. If
@@ -178,7 +182,7 @@ pub fn say_printed<K: Sink, E: Sink>(
     ensures { (lines : List (List Token)) (old : OutputsState) → out.old.err ≡ old.err → old.out.faults ≤ out.old.out.faults → Prints lines old.out out.old.out printed
         → Ends (Tells (OneAnswer status lines)) old out.new result }
 {
-    say_searched(out, printed, not_finished(), status)
+    say_searched(out, printed, not_finished(status), status)
 }
 
 /// Puts the line that says why there is no answer on standard error, and the second lines after it.

@@ -2,5 +2,44 @@ use Rattle.std.proofs.Common.{◌∷◌, [], refl, codes}
 use Rattle.endings.proofs.Seconds.{printable_line}
 use Rattle.endings.proofs.say.not_finished.Goals as goal
 
-pub returns : goal.returns
-returns c = (codes "  not finished: see pns help solve" ∷ [], ((codes "not finished: see pns help solve", refl, printable_line (codes "not finished: see pns help solve") refl), tt), refl)
+pub returns-in-Spent : goal.returns-in-Spent
+returns-in-Spent c = (
+  codes "  not finished: all nodes of the budget are spent"
+      ∷ codes "  call again with a greater BUDGET, up to 1M" ∷ [],
+  (
+    (
+      codes "not finished: all nodes of the budget are spent",
+      refl,
+      printable_line (codes "not finished: all nodes of the budget are spent") refl,
+    ),
+    (
+      codes "call again with a greater BUDGET, up to 1M",
+      refl,
+      printable_line (codes "call again with a greater BUDGET, up to 1M") refl,
+    ),
+    tt,
+  ),
+  refl,
+)
+
+pub returns-else : goal.returns-else
+returns-else c = (
+  codes "  not finished: a number overflows 128 bits"
+      ∷ codes "  write rates and costs with fewer digits, or bounds nearer to what can come"
+      ∷ [],
+  (
+    (
+      codes "not finished: a number overflows 128 bits",
+      refl,
+      printable_line (codes "not finished: a number overflows 128 bits") refl,
+    ),
+    (
+      codes "write rates and costs with fewer digits, or bounds nearer to what can come",
+      refl,
+      printable_line
+          (codes "write rates and costs with fewer digits, or bounds nearer to what can come") refl,
+    ),
+    tt,
+  ),
+  refl,
+)
