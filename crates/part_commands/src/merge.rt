@@ -244,8 +244,8 @@ fn say_tree<F: Shelf, K: Sink, E: Sink>(
     }
 }
 
-/// Puts the parts of the other files back in the tree of the one file, in turn, and prints the tree that comes of it with what it
-/// proves but for its open leaves.
+/// Puts the parts of the other files back in the tree of the one file, one after another. Prints
+/// the resulting tree with what it proves but for its open leaves.
 pub fn merge<F: Shelf, K: Sink, E: Sink>(
     alloc: Global,
     file: &str,

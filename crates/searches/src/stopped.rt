@@ -34,7 +34,7 @@ pub fn claimed(claim: &Claim) -> Option<&Network> {
 }
 
 /// The second lines of a search with this budget: why it stopped, what its best network costs, and
-/// what to do; none where it was finished.
+/// what to do. There are none if it was finished, or if there is no memory for the cost.
 pub fn stopped_notes(
     alloc: Global,
     problem: &Problem,

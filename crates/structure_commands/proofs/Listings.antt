@@ -35,7 +35,8 @@ pub record IsGiven (p : Problem) (start now : Rest) (many : ℕ) (old new : Sink
   pub last_is : last ≡ last_of given
   pub out : Appends old.written new.written (text_of (map (structure_line p) given))
 
--- the structures that were given are the first of the listing; the lines of the first of these are out, and the others wait
+-- the structures that were given are the first of the listing; the lines of the first of these are
+-- printed, and the others wait
 pub record IsGathered (p : Problem) (start now : Rest) (many : ℕ) (old mid : SinkState) (bytes last : List ℕ) : Type 0 where
   pub out_are : List (List ℕ)
   pub waiting : List (List ℕ)
@@ -105,7 +106,7 @@ module _ (p : Problem) (start now : Rest) (many : ℕ) (old mid : SinkState) (by
       }
 
 module _ (p : Problem) where
-  -- the lines of the structures given stand first, those of n more behind them
+  -- the lines of the structures given come first, and then those of n more
   pub lines_cut : (given xs : List (List ℕ)) (count n : ℕ) → count ≡ length given + n → listing_lines p count (given ++ xs) ≡ map (structure_line p) given ++ (map (structure_line p) (take n xs) ++ last_line count (given ++ xs) ∷ [])
   lines_cut given xs count n e =
       let last : List (List ℕ) = last_line count (given ++ xs) ∷ [] in
@@ -134,7 +135,7 @@ module _ (p : Problem) where
       lines_cut given (r ∷ xs) count 0 (omega (arith, e)) ∙ ap (λ l. map (structure_line p) given ++ l ∷ []) last
 
   module _ (count : ℕ) (start : Rest) where
-    -- want of memory behind the lines of structures that begin a listing
+    -- out of memory, after the lines of structures that begin a listing
     pub memory_behind : (given xs : List (List ℕ)) → length given ≤ count → IsToCome start (given ++ xs) → Tells (RestSays p count start) Memory (text_of (map (structure_line p) given) ++ line (codes "memory"))
     memory_behind given xs le is = (
       map (structure_line p) given,
@@ -148,7 +149,7 @@ module _ (p : Problem) where
       refl,
     )
 
-    -- the last line behind the lines of the structures given
+    -- the last line, after the lines of the structures given
     pub whole_behind : (given all : List (List ℕ)) (last : List ℕ) → IsToCome start all → listing_lines p count all ≡ map (structure_line p) given ++ last ∷ [] → Tells (RestSays p count start) Done (text_of (map (structure_line p) given) ++ line last)
     whole_behind given all last is e =
         (map (structure_line p) given ++ last ∷ [], (refl, (all, is, sym e)), sym (text_of-push (map (structure_line p) given) last))
@@ -186,7 +187,7 @@ module _ (p : Problem) (count : ℕ) (start now : Rest) (many : ℕ) (old mid : 
       (only_in (λ s t. GoesOut s × Tells (RestSays p count start) s (text_of (map (structure_line p) g.out_are) ++ t)) Memory (line (codes "memory"))
       (tt, memory_behind p count start g.out_are (g.waiting ++ xs) (omega (arith, short, e, le)) (subst (IsToCome start) (append_assoc g.out_are g.waiting xs) ((g.rest xs).0 is)))) later
 
-  -- the lines that wait are cut off
+  -- of the lines that wait only a front is printed
   pub stopped_waiting : (new : OutputsState) (xs : List (List ℕ)) → HasRisen old.out.faults new.out.faults → IsToCome now xs → AppendsFront mid.out.written new.out.written bytes → new.err ≡ old.err → Ends (Tells (RestSays p count start)) old new WriteFault
   stopped_waiting new xs rose is front quiet =
       let f : List ℕ → List ℕ = structure_line p in

@@ -1,4 +1,4 @@
--- The lines of a listing from where the code has come.
+-- The lines of a listing from the place that the code has reached.
 use Rattle.std.specs.Prelude.{◌≡◌, ℕ, List}
 use Rattle.problem_rules.specs.Problem.{Problem}
 use Rattle.studio_rules.specs.Listing.{listing_lines}
