@@ -1,4 +1,4 @@
--- What is said of TREE behind FILE, over the shelf as it was left.
+-- What is said of TREE after FILE is read, over the shelf as it was left.
 use Rattle.std.proofs.Common.{◌≡◌, ◌≤◌, ◌⊎◌, ℕ, List, inl, inr, subst}
 use Rattle.text_rules.specs.Outside.{Told}
 use Rattle.io_rules.specs.State.{ShelfState}
