@@ -1,4 +1,4 @@
--- The allowed solution structures that are those of no listed network.
+-- The clash-free solution structures that are those of no listed network.
 use Rattle.std.specs.Prelude.{ℕ, Bool, List}
 use Rattle.problem_rules.specs.Problem.{Problem}
 use Rattle.pns_rules.specs.Shape.{shape_of}
