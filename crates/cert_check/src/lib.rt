@@ -1,18 +1,24 @@
-//! The checker of branch trees, which trusts nobody: with the search that made a tree it shares the sets, the graph and the sums of
-//! flows, which are proved by themselves, and stands on these and the definitions of `tree_rules` alone.
+//! A tree is accepted exactly if it proves its claim, else its first fault comes.
 //!
-//! [`check_tree`] accepts a tree exactly where it proves its claim, and then no allowed solution structure undercuts the claim;
-//! else its refusal names the claim, or the first node in preorder, that fails, and the first line of the table of causes
-//! there. [`check_claim`] judges a claim alone. [`check_from`] is the same from any start, for partial trees too, and gives the
-//! open leaves, each with its number in preorder and the node that its steps leave. [`check_nodes`] judges the nodes alone, and gives
-//! the open leaves before a node that fails too, for whoever judges open leaves by further rules.
+//! The checker trusts nobody. It shares the sets, the graph and the sums of flows with the search
+//! that made a tree, which have proofs of their own. It uses only these and the definitions of
+//! `tree_rules`.
 //!
-//! A walk holds a list of its own of the nodes that are still to come, and no recursion; a branch looks ahead at the roots of its
-//! children's subtrees, whose ends are found in one pass from the last node on. So a tree of any depth costs its steps, one
-//! judgement for each leaf, and a few numbers for each node.
+//! If [`check_tree`] accepts a tree, no clash-free solution structure undercuts the claim. Else its
+//! refusal names the claim, or the first node in preorder, that fails, and there the first cause of
+//! the table of causes. [`check_claim`] judges a claim alone. [`check_from`] does the same from any
+//! start, also for partial trees, and gives the open leaves. Each has its number in preorder and
+//! the node that its steps leave. [`check_nodes`] judges the nodes alone. If a node fails, it gives
+//! the open leaves before it, for callers that judge open leaves by further rules.
 //!
-//! Modules: `claim` judges claims, `leaf` leaves; `subtrees` finds where subtrees end and reads the options of children,
-//! `children` puts them on the stack; `visit` is one node, `walk` all, `open_leaf` what is still open, and `check` the calls.
+//! A walk keeps a list of the nodes that are left, and has no recursion. A branch looks ahead at
+//! the roots of its children's subtrees; one pass from the last node on finds the ends of subtrees.
+//! So a tree of any depth costs its steps, one judgement for each leaf, and a few numbers for each
+//! node.
+//!
+//! Modules: `claim` judges claims, `leaf` leaves; `subtrees` finds the ends of subtrees and reads
+//! the options of children; `children` puts them on the stack; `visit` is one node, `walk` all,
+//! `open_leaf` what is still open, and `check` the calls.
 #![tactic(auto)]
 
 mod check;

@@ -23,7 +23,8 @@ fn set_line(alloc: Global, line: &mut String, word: &str, units: UnitSet) -> Res
 }
 
 /// Prints a part, whole: its one text. `WriteFault` comes only if the sink's count of faults rose;
-/// a front of the text is then printed. If there is no memory, whole lines of the text are printed.
+/// a front of the text is then printed. If there is no memory, first lines of it are printed, each
+/// whole.
 pub fn print_part<K: Sink>(
     alloc: Global,
     problem: &Problem,

@@ -148,8 +148,8 @@ fn put_nodes<K: Sink>(
 }
 
 /// Prints a ranked tree, whole: its one text. `WriteFault` comes only if the sink's count of faults
-/// rose; a front of the text is then printed. If there is no memory, whole lines of the text are
-/// printed.
+/// rose; a front of the text is then printed. If there is no memory, first lines of it are printed,
+/// each whole.
 pub fn print_rank<K: Sink>(
     alloc: Global,
     problem: &Problem,

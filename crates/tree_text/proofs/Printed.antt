@@ -83,7 +83,7 @@ module _ (lines rest some behind : List (List Token)) (old mid new : SinkState) 
 pub none_put : (state : SinkState) (done : Unit {0}) → Puts [] state state (Ok done)
 none_put state done = record { prints = record { outcome = Appends-nil state.written }; later = omega arith }
 
--- the first lines, and then those behind them
+-- the first lines, and then those that follow
 pub both_put : {lines some behind : List (List Token)} {old mid new : SinkState} {done : Unit {0}} {r : Result (Unit {0}) PrintFault}
     → Puts some old mid (Ok done) → Puts behind mid new r → lines ≡ some ++ behind → Puts lines old new r
 both_put {lines} {some} {behind} {old} {mid} {new} {done} {r} first second is = record {

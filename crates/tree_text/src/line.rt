@@ -19,7 +19,7 @@ use pns_problem::Problem;
 use std::alloc::AllocError;
 use unit_sets::UnitSet;
 
-/// What stands behind the word of a line: a name or a number, or several.
+/// What follows the word of a line: a name or a number, or several.
 #[derive(Clone, Copy)]
 pub(crate) enum Field<'a> {
     Unit(u32),

@@ -120,7 +120,7 @@ pub(crate) fn put_network<'a, K: Sink>(
     requires { AreUnits problem.now network.now.units }
     ensures { Puts (network_lines problem.now network.now) (K.state out.old) (K.state out.new) result }
 {
-    // An array without a reference is told the lifetime of those that hold one.
+    // An array without a reference needs to be given the lifetime of those that have one.
     let units: [Field<'a>; 1] = [Field::Units(network.units())];
     put(line, problem, "network", &units, out)?;
     let sizes = [Field::Number(network.d()), Field::Numbers(network.sizes())];
