@@ -1,5 +1,5 @@
--- What a line can hold: numbers in range, counts up to 2^32 - 1, as many options as 2^128 - 1, and ends and places that a
--- problem knows with such counts.
+-- What a line can have: numbers in range, counts up to 2^32 - 1, up to 2^128 - 1 options, and ends
+-- and places that a problem knows with such counts.
 use Rattle.std.specs.Prelude.{◌≡◌, ℕ, ℤ, pos, ◌≤◌, ◌≤ℤ◌, ◌^◌, ◌-◌, List, length}
 use Rattle.integer_laws.specs.Range.{InRange}
 use Rattle.problem_rules.specs.Each.{Each}

@@ -1,4 +1,4 @@
-//! The laws. Each function does nothing when it runs; a call tells a proof its law.
+//! The laws. Each function does nothing when it runs; a call gives a proof its law.
 ghost use Rattle.tree_text_laws.specs.LineLaws.{TextsHaveLines, LinesHaveOneText, NumbersAreRead, NamesAreRead};
 ghost use Rattle.tree_text_laws.specs.LineLaws.{ColumnsAreRead, NodeLinesAreRead, NetworkLinesAreRead, TailLinesAreRead};
 
@@ -19,7 +19,8 @@ pub fn numbers_are_read()
     ensures { NumbersAreRead }
 {}
 
-/// Units, materials and exclusions of a valid problem are read from their names, and from no other text.
+/// Units, materials and exclusions of a valid problem are read from their names, and from no other
+/// text.
 pub fn names_are_read()
     ensures { NamesAreRead }
 {
@@ -47,7 +48,7 @@ pub fn network_lines_are_read()
     valid_is_well_formed();
 }
 
-/// So are the lines of a tail behind its first.
+/// So are the lines of a tail after its first.
 pub fn tail_lines_are_read()
     ensures { TailLinesAreRead }
 {
