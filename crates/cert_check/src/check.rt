@@ -29,7 +29,7 @@ use tree_rules::Refusal;
 use unit_sets::{Node, UnitSet};
 
 /// Judges the claim, and then the tree from the start, and gives the open leaves in preorder. In a
-/// partial tree leaves may be open, and nothing may be claimed.
+/// partial tree leaves may be open, and a claim of nothing passes.
 pub fn check_from(
     alloc: Global,
     site: &Site<'_>,

@@ -28,7 +28,7 @@ pub(crate) fn cost_of_claim(claim: &Claim) -> Option<CostOver>
     }
 }
 
-/// Judges a claim. For a partial tree nothing may be claimed.
+/// Judges a claim. For a partial tree, a claim of nothing passes.
 pub(crate) fn judge_claim(site: &Site<'_>, claim: &Claim, partial: bool) -> Result<(), Why>
     ensures passes { OnOk result (ClaimPasses partial site.now (claim_of claim.now)) }
     ensures fails { IfErr result (λ why. ClaimFails partial site.now (claim_of claim.now) why) }

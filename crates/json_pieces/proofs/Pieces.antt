@@ -1,4 +1,4 @@
--- What is appended piece after piece.
+-- Pieces appended one after another.
 use Rattle.std.proofs.Common.{◌≡◌, ℕ, List, [], ◌∷◌, ◌++◌, map, refl, sym, ap, ◌∙◌, append_assoc, append-nil}
 use Rattle.std.specs.Prelude.{Result, Ok, Err, OnOk}
 use Rattle.pns_problem.specs.Printing.{printed}

@@ -23,7 +23,7 @@ use pns_problem::Problem;
 use std::alloc::{AllocError, Global};
 use studio_rules::Status;
 
-/// What is said of a network.
+/// Which text of a network is printed.
 #[derive(Clone, Copy, Debug, PartialEq, Eq)]
 pub enum NetworkText {
     /// Its units and its materials as tables for a spreadsheet.

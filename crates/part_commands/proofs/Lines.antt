@@ -1,4 +1,4 @@
--- The lines of a listing of open leaves that is put leaf by leaf.
+-- The lines of a listing of open leaves, printed leaf by leaf.
 use Rattle.std.proofs.Common.{◌≡◌, ◌++◌, ◌+◌, ◌<◌, ◌≤◌, ℕ, zero, suc, List, [], ◌∷◌, codes, length, map, take, drop, get_or, refl, sym, ap, subst, ◌∙◌, arith, inr, append_assoc, append-nil, add-one}
 use Rattle.std.specs.Io.KnownBytes.{Appends}
 use Rattle.std.proofs.KnownBytes.{Appends-nil, Appends-trans}
@@ -39,7 +39,7 @@ module _ (leaves : List OpenLeaf) where
       ∙ ap (λ (ls : List (List ℕ)). ls ++ codes "end" ∷ []) (map-append part_line (leaves_at (take i leaves)) (leaves_at (drop i leaves)))
       ∙ append_assoc (lines_before i) (map part_line (leaves_at (drop i leaves))) (codes "end" ∷ [])
 
-  -- the lines of the leaves before place i are out
+  -- the lines of the leaves before place i are printed
   pub record AreOut (i : ℕ) (old new : SinkState) : Type 0 where
     pub out : Appends old.written new.written (text_of (lines_before i))
 

@@ -47,7 +47,7 @@ module _ (held : List ℕ → Told) (p : Problem) where
   pub all_given : (names : List (List ℕ)) (i : ℕ) (ps : List Part) → i ≡ length names → GiveBefore names i ps → GiveParts held p names ps
   all_given names i ps e before = subst (λ (ns : List (List ℕ)). GiveParts held p ns ps) (ap (λ (k : ℕ). take k names) e ∙ take-length names) before.give
 
--- ---- what is said, over the shelf as it was left
+-- ---- what is printed, over the shelf as it was left
 
 module _ (names : List (List ℕ)) (p : Problem) (old mid new : ShelfState) (keeps : (other : List ℕ) → mid.held other ≡ old.held other) (later : (other : List ℕ) → old.faults other ≤ mid.faults other) where
   same_held : mid.held ≡ old.held

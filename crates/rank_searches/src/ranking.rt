@@ -57,7 +57,7 @@ fn mark_is_in_range(mark: &Mark)
     }
 }
 
-// So are those of all marks.
+// The numbers of all marks are in range.
 fn marks_are_in_range(marks: &[Mark])
     ensures { Each IsMarkInRange (map mark_of marks.now) }
 {

@@ -1,4 +1,4 @@
--- What is read of the parts of a text is put together.
+-- What is read of the parts of a text is joined.
 use Rattle.std.proofs.Common.{◌≡◌, ◌<◌, ◌≤◌, ◌-◌, ℕ, suc, List, [], ◌∷◌, ◌++◌, drop, map, Option, Some, None, IfSome, IfNone, Result, Ok, Err, refl, sym, ap, ap₂, ◌∙◌, arith, append-nil}
 use Rattle.problem_rules.specs.Problem.{Problem}
 use Rattle.tree_rules.specs.Accepted.{Tree}

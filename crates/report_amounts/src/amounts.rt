@@ -32,7 +32,7 @@ pub(crate) fn quotient(num: i128, den: i128) -> Number
     Number::of(num, den)
 }
 
-/// The claimed number of the unit over the network's `d`, times num / den.
+/// The integer size of the unit over the network's `d`, times num / den.
 fn sized(network: &Network, u: u32, num: i128, den: i128) -> Number
     requires num_in_range { InRange num }
     requires den_in_range { InRange den }

@@ -60,7 +60,7 @@ fn spot_named(problem: &Problem, kind: SpotKind, name: &str) -> Option<Spot>
     }
 }
 
-// What is said of a name that the problem does not have.
+// What is printed of a name that the problem does not have.
 fn unknown_name(alloc: Global, problem: &Problem, kind: SpotKind, name: &str) -> Notes {
     match kind {
         SpotKind::Price => unknown_material(alloc, problem, name),

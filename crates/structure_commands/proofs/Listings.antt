@@ -27,7 +27,7 @@ last_of-push (t ∷ r ∷ ss) s = last_of-push (r ∷ ss) s
 text_of-push : (ls : List (List ℕ)) (l : List ℕ) → text_of (ls ++ l ∷ []) ≡ text_of ls ++ line l
 text_of-push ls l = flat_map-append line ls (l ∷ []) ∙ ap (λ t. text_of ls ++ t) (append-nil (line l))
 
--- the structures that were given are the first of the listing, and their lines are out
+-- the structures that were given are the first of the listing, and their lines are printed
 pub record IsGiven (p : Problem) (start now : Rest) (many : ℕ) (old new : SinkState) (last : List ℕ) : Type 0 where
   pub given : List (List ℕ)
   pub many_is : length given ≡ many
@@ -82,7 +82,7 @@ module _ (p : Problem) (start now : Rest) (many : ℕ) (old mid : SinkState) (by
         bytes_are = more_is ∙ (ap (λ t. t ++ line (f r)) g.bytes_are ∙ (sym (text_of-push (map f g.waiting) (f r)) ∙ ap text_of (sym (map-append f g.waiting (r ∷ [])))));
       }
 
-  -- those that wait are put
+  -- those that wait are printed
   out_then : (new : SinkState) → Appends mid.written new.written bytes → Appends old.written new.written (text_of (map f given))
   out_then new put =
       subst (λ t. Appends old.written new.written t)
@@ -159,14 +159,14 @@ module _ (p : Problem) where
       le_given = let e = g.many_is in omega (arith, e, le)
 
       module _ (quiet : mid.err ≡ old.err) (later : old.out.faults ≤ mid.out.faults) (new : OutputsState) (status : Status) where
-        -- no structure is to come, and `end` is said
+        -- no structure is left, and `end` is printed
         pub ended : IsToCome now [] → Ends (Only Done (line (codes "end"))) mid new status → Ends (Tells (RestSays p count start)) old new status
         ended none =
             Ends-after (Only Done (line (codes "end"))) (Tells (RestSays p count start)) old mid new status (text_of (map (structure_line p) g.given)) g.out quiet
             (only_in (λ s t. GoesOut s × Tells (RestSays p count start) s (text_of (map (structure_line p) g.given) ++ t)) Done (line (codes "end"))
             (tt, whole_behind g.given (g.given ++ []) (codes "end") ((g.rest []).0 none) (lines_end g.given count le_given))) later
 
-        -- all that are wanted are given, and another is to come
+        -- as many as are wanted are given, and another is left
         pub continued : many ≡ count → (r : List ℕ) (xs : List (List ℕ)) → IsToCome now (r ∷ xs) → Ends (OrMemory (Only Done (line (more_line last)))) mid new status → Ends (Tells (RestSays p count start)) old new status
         continued all r xs is =
             Ends-after (OrMemory (Only Done (line (more_line last)))) (Tells (RestSays p count start)) old mid new status (text_of (map (structure_line p) g.given)) g.out quiet
@@ -178,7 +178,7 @@ module _ (p : Problem) where
             (tt, memory_behind g.given (r ∷ xs) le_given ((g.rest (r ∷ xs)).0 is))) later
 
 module _ (p : Problem) (count : ℕ) (start now : Rest) (many : ℕ) (old mid : OutputsState) (bytes last : List ℕ) (g : IsGathered p start now many old.out mid.out bytes last) (le : many ≤ count) where
-  -- there is no memory for the next line, and those that wait are not put
+  -- there is no memory for the next line, and those that wait are not printed
   pub starved_waiting : (quiet : mid.err ≡ old.err) (later : old.out.faults ≤ mid.out.faults) (new : OutputsState) (status : Status) (xs : List (List ℕ)) → IsToCome now xs → Ends (Only Memory (line (codes "memory"))) mid new status → Ends (Tells (RestSays p count start)) old new status
   starved_waiting quiet later new status xs is =
       let short = length-append g.out_are g.waiting in

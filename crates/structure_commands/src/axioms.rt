@@ -42,7 +42,7 @@ fn breaks_line(alloc: Global, broken: Axiom, name: &str) -> Result<Vec<u8>, Allo
     Ok(bytes)
 }
 
-/// Says the broken axiom with the name of its place.
+/// Prints the broken axiom with the name of its place.
 pub fn say_breaks<K: Sink, E: Sink>(
     alloc: Global,
     out: &mut Outputs<K, E>,

@@ -77,7 +77,7 @@ fn push_line(bytes: &mut Vec<u8>, problem: &Problem, set: UnitSet) -> Result<(),
     Ok(())
 }
 
-// Says that more structures follow the last one given.
+// Prints that more structures follow the last one given.
 fn say_more<K: Sink, E: Sink>(alloc: Global, out: &mut Outputs<K, E>, last: UnitSet) -> Status
     ensures { Ends (OrMemory (Only Done (line (more_line last)))) out.old out.new result }
 {

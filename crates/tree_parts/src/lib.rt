@@ -1,4 +1,4 @@
-//! Open leaves exactly; a part merges exactly if tree and part pass and its leaf is there.
+//! Open leaves are exact; a part merges exactly if tree and part pass and its leaf is there.
 //!
 //! [`open_leaves`] judges a tree that may have open leaves. It gives these in preorder, each with
 //! the node that its steps leave, from which a search in parts goes on. [`is_sound`] decides

@@ -1,4 +1,4 @@
-//! The lines of each part, made in one buffer and put one after another.
+//! The lines of each part, made in one buffer and handed over one after another.
 ghost use Rattle.std.specs.Prelude.{◌≡◌, ◌∷◌, [], map};
 ghost use Rattle.problem_rules.specs.Each.{Each};
 ghost use Rattle.pgraph.specs.View.{step_of};

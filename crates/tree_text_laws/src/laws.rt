@@ -61,7 +61,7 @@ pub fn tails_are_read()
     valid_is_well_formed();
 }
 
-/// So are a claim, a tree and a tail, one after another.
+/// A claim, a tree and a tail are read from their lines, one after another, and from no others.
 pub fn rests_are_read()
     ensures { RestsAreRead }
 {
