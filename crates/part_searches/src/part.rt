@@ -52,7 +52,7 @@ fn say_searched<K: Sink, E: Sink, W: Watch>(
     say_found(alloc, out, problem, start, found, budget)
 }
 
-// Searches them for a network that is cheaper than this one.
+// Searches the structures of the node for a network that is cheaper than this one.
 fn say_against<K: Sink, E: Sink, W: Watch>(
     alloc: Global,
     out: &mut Outputs<K, E>,

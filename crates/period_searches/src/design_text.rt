@@ -54,8 +54,7 @@ fn sizes_text(alloc: Global, sizes: &[i128]) -> Result<String, AllocError>
     Ok(text)
 }
 
-/// The end of the line of names, the first word of the line of capacities, and the divisor of its
-/// sizes.
+/// The divisor of all sizes, with the first word of its line, from the end of the line of names on.
 fn over_text(alloc: Global, d: i128) -> Result<String, AllocError>
     ensures { IfOk result (λ text. string_bytes text ≡ (10 ∷ codes "capacities ") ++ signed_decimal d) }
 {

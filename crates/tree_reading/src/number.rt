@@ -33,7 +33,7 @@ pub fn number_of(token: &[u8]) -> Result<i128, TreeKind>
     whole_number(token).ok_or(TreeKind::BadNumber)
 }
 
-/// What sizes and cost are over, at least 1.
+/// The divisor of sizes and cost, at least 1.
 pub fn denominator_of(token: &[u8]) -> Result<i128, TreeKind>
     ensures value { result ≡ rules.denominator_of token.now }
     ensures range { IfOk result InRange }
