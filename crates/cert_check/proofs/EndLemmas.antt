@@ -31,7 +31,7 @@ over_end ts count from left at o (inr le) =
     let none : drop at ts ≡ [] = drop_all at ts le in
     none ∙ sym (skip-nil left) ∙ ap (λ (us : Tree). trees.skip left us) (sym none) ∙ o.so_far
 
--- the node at i and what stands behind it
+-- the node at i and what follows it
 pub node_ahead : {X : Type 0} (xs : List X) (i : ℕ) (x : X) → i < length xs → x ≡ get_or xs i x → drop i xs ≡ x ∷ drop (suc i) xs
 node_ahead [] i x h e = absurd (omega arith)
 node_ahead (y ∷ ys) zero x h e = ap (λ w. w ∷ ys) (sym e)
@@ -52,7 +52,7 @@ ends_more ts ends i end t lt same here are behind within later j low high = elim
   | inr apart ↦ subst (λ (k : ℕ). IsEnd ts j k) (sym (get_or-set_other ends i j end 0 apart)) (are j (omega arith) high)
 ]
 
--- the roots so far, and those to come
+-- the roots so far, and those that are left
 pub roots_step : (ts : Tree) (ends : List ℕ) (left at : ℕ) (t : trees.TreeNode Leaf) (found : List (List ℕ)) → AreEnds ts ends 0 → 0 < left → at < length ts → drop at ts ≡ t ∷ drop (suc at) ts → (found ++ t.option ∷ []) ++ trees.roots (left - 1) (drop (get_or ends at 0) ts) ≡ found ++ trees.roots left (drop at ts)
 roots_step ts ends left at t found are some lt here =
     let end = are at (omega arith) lt in

@@ -1,4 +1,4 @@
--- What is answered is the one answer that the claim and the tree have, but for want of memory.
+-- The answer is the one answer that the claim and the tree have, unless there is no memory.
 use Rattle.std.proofs.Common.{ℕ, Bool, false, Result, Ok, Err, OnOk, IfErr, refl, ap, ap₂, inl, inr}
 use Rattle.problem_rules.specs.Problem.{Problem}
 use Rattle.problem_rules.specs.Validity.{IsValid}

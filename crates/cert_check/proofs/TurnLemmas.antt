@@ -25,7 +25,7 @@ use Rattle.cert_check.proofs.WalkLemmas.{Leads, leads_on, leads_fault, leads_all
 pub stack_top : (rest : List Node) (n : Node) → stack_of (rest ++ n ∷ []) ≡ node_of n ∷ stack_of rest
 stack_top rest n = ap (λ (ns : List Node). map node_of ns) (reverse-append rest (n ∷ []))
 
--- the open leaves that were found before item i, and those that are still to come
+-- the open leaves that were found before item i, and those that are left
 pub record AreFound (g : Shape) (starts : List rules.Node) (ts : Tree) (found : List OpenAt) (stack : List rules.Node) (i : ℕ) : Type 0 where
   pub all : open_leaves g starts ts 0 ≡ found ++ open_leaves g stack (drop i ts) i
   pub before : AllBefore i found
@@ -74,7 +74,7 @@ module _ (g : Shape) (P : rules.Node → Leaf → Type 0) (F : rules.Node → Le
   pub all_visited : (stack : List rules.Node) (i : ℕ) → length ts ≤ i → IsAt stack i → Pass g P starts ts
   all_visited stack i le is = leads_all g P F starts ts stack i (subst (λ (us : Tree). Leads g P F starts ts stack us i) (drop_all i ts le) is.leads)
 
-  -- a stack without nodes is met only behind the last item
+  -- the stack is without nodes only after the last item
   pub none_left : (i : ℕ) → IsAt [] i → Pass g P starts ts
   none_left i is = at (drop i ts) is.leads
     where

@@ -1,4 +1,4 @@
--- A walk over a tree with a stack of nodes that are still to come.
+-- A walk over a tree with a stack of nodes that are left.
 use Rattle.std.proofs.Common.{◌≡◌, ℕ, zero, suc, ◌+◌, List, [], ◌∷◌, ◌++◌, length, refl, sym, ap, ◌∙◌, subst, arith, length-append}
 use Rattle.std.proofs.lemmas.List.{length-map}
 use Rattle.pns_rules.specs.Shape.{Shape}
@@ -38,7 +38,7 @@ module _ {L : Type 0} where
       ap suc (length-roots k m (k + m) (skip 1 (t ∷ ts)) refl (forest-skip 1 (k + m) c (t ∷ ts) (omega arith) h))
 
   module _ (g : Shape) (P : Node → L → Type 0) (F : Node → L → Why → Type 0) where
-    -- what is still to come decides of the whole; it begins at node i
+    -- the rest decides about the whole; it begins at node i
     pub record Leads (ns : List Node) (ts : List (TreeNode L)) (ms : List Node) (us : List (TreeNode L)) (i : ℕ) : Type 0 where
       pub passes : Pass g P ms us → Pass g P ns ts
       pub fault : (k j : ℕ) (why : Why) → j ≡ i + k → IsFirstFault g P F ms us k why → IsFirstFault g P F ns ts j why

@@ -25,14 +25,14 @@ abbrev pub NoneBefore : ℕ → List OpenAt → Type 0
 NoneBefore k [] = Unit {0}
 NoneBefore k (l ∷ ls) = (k ≤ l.number) × NoneBefore k ls
 
--- of the open leaves of a tree these are all that stand before node k
+-- these are all open leaves of a tree before node k
 pub record AreThoseBefore (g : Shape) (starts : List Node) (tree : Tree) (k : ℕ) (found : List OpenAt) : Type 0 where
   pub others : List OpenAt
   pub all : open_leaves g starts tree 0 ≡ found ++ others
   pub before : AllBefore k found
   pub behind : NoneBefore k others
 
--- of the open leaves of the tree these are all that stand before the node that is refused
+-- these are all open leaves of the tree before the node that is refused
 abbrev pub AreBefore : Shape → List Node → Tree → Refusal → List OpenAt → Type 0
 AreBefore g starts tree Memory found = Unit {0}
 AreBefore g starts tree (Claim why) found = Unit {0}

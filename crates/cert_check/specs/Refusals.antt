@@ -1,4 +1,5 @@
--- What a refusal of nodes names. Want of memory says nothing, and is the only answer that another may give way to.
+-- What a refusal of nodes names. `Memory`, out of memory, says nothing. It is the only answer that
+-- may come instead of another.
 use Rattle.std.specs.Prelude.{◌≡◌, ◌⊎◌, ℕ, Bool, List, Result, Ok, Err}
 use Rattle.problem_rules.specs.Problem.{Problem}
 use Rattle.pns_rules.specs.Shape.{Shape}
@@ -12,28 +13,30 @@ use Rattle.tree_rules.specs.declared.refusal.Refusal.{Refusal}
 use Rattle.tree_rules.specs.declared.refusal.Refusal.TheVariants.{Memory, Claim}
 use Rattle.tree_rules.specs.declared.refusal.Refusal.TheVariants as refusals
 
--- of the subtrees of the nodes the first that fails is the one that the refusal names, for its cause
+-- of the subtrees of the nodes, the first that fails is the one that the refusal names, for its
+-- cause
 abbrev pub NamesFault : Shape → (Node → Leaf → Type 0) → (Node → Leaf → Why → Type 0) → List Node → Tree → Refusal → Type 0
 NamesFault g P F starts tree Memory = Unit {0}
 NamesFault g P F starts tree (Claim why) = ⊥
 NamesFault g P F starts tree (refusals.Node k why) = IsFirstFault g P F starts tree k why
 
--- the answer is Ok, or want of memory
+-- the answer is Ok or `Memory`
 abbrev pub IsOkOrMemory : {A : Type 0} → Result A Refusal → Type 0
 IsOkOrMemory (Ok x) = Unit {0}
 IsOkOrMemory (Err e) = e ≡ Memory
 
--- the answer is this refusal, or want of memory
+-- the answer is this refusal or `Memory`
 abbrev pub IsRefusalOrMemory : {A : Type 0} → Refusal → Result A Refusal → Type 0
 IsRefusalOrMemory wanted (Ok x) = ⊥
 IsRefusalOrMemory wanted (Err e) = (e ≡ wanted) ⊎ (e ≡ Memory)
 
--- for each cause for which the claim fails the answer tells that it does
+-- for each cause for which the claim fails, the answer says so, or is `Memory`
 abbrev pub NamesClaim : {A : Type 0} → Bool → Problem → rules.Claim → Result A Refusal → Type 0
 NamesClaim partial p claim answer =
     (why : Why) → rules.ClaimFails partial p claim why → IsRefusalOrMemory (Claim why) answer
 
--- where the claim passes the answer tells which node is the first that fails, and for which cause
+-- if the claim passes, the answer says which node is the first that fails, and for which cause, or
+-- is `Memory`
 abbrev pub NamesNode : {A : Type 0} → Bool → Problem → Node → rules.Claim → Tree → Result A Refusal → Type 0
 NamesNode partial p start claim tree answer =
     (k : ℕ) (why : Why) → rules.ClaimPasses partial p claim → NodeIsFault partial p start claim tree k why

@@ -1,4 +1,4 @@
--- Where the subtrees of a tree end, and the nodes that are still to come on a walk.
+-- The ends of the subtrees of a tree, and the nodes that are left on a walk.
 use Rattle.std.specs.Prelude.{◌≡◌, ℕ, ◌<◌, ◌≤◌, List, map, drop, length, get_or, reverse}
 use Rattle.std.specs.List.{AllByRecursion}
 use Rattle.pns_rules.specs.Shape.{Shape}

@@ -26,17 +26,19 @@ abbrev pub refusal_at : ℕ → Halt → Refusal
 refusal_at k Memory = refusals.Memory
 refusal_at k (Fails why) = refusals.Node k why
 
--- the node may be branched so, and the subtrees that begin the list behind it have all options in order
+-- the node may be branched so, and the subtrees at the front of the list after it have all options
+-- in order
 abbrev pub BranchPasses : Shape → Node → Way → Tree → Type 0
 BranchPasses g n w behind = MayBranch g n w × (roots (width w) behind ≡ options_at g n w)
 
--- the node passes, with `behind` in the list behind it, and the nodes of its children are put before those that were to come
+-- the node passes, with the list `behind` after it, and the nodes of its children are put before
+-- those that were left
 pub record IsVisited (g : Shape) (P : Node → Leaf → Type 0) (n : Node) (t : TreeNode Leaf) (behind : Tree) (before after : List Node) : Type 0 where
   pub steps : StepsPass g n t.steps
   pub end : EndPasses g P (after_all g n t.steps) t.end behind
   pub children : after ≡ below g (after_all g n t.steps) t.end ++ before
 
--- the walk stops here for want of memory, or because the node fails
+-- the walk stops here because there is no memory, or because the node fails
 abbrev pub Halts : (Why → Type 0) → Halt → Type 0
 Halts F Memory = Unit {0}
 Halts F (Fails why) = F why

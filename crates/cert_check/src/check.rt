@@ -28,8 +28,8 @@ use tree_laws::{accepted_is_optimal, claim_has_one_fault, tree_has_one_fault};
 use tree_rules::Refusal;
 use unit_sets::{Node, UnitSet};
 
-/// Judges the claim, and then the tree from the start. In a partial tree leaves may be open, and nothing claimed. What is given are
-/// the open leaves in preorder.
+/// Judges the claim, and then the tree from the start, and gives the open leaves in preorder. In a
+/// partial tree leaves may be open, and a claim of nothing passes.
 pub fn check_from(
     alloc: Global,
     site: &Site<'_>,
@@ -40,11 +40,12 @@ pub fn check_from(
 ) -> Result<Vec<OpenLeaf>, Refusal>
     requires known { KnowsInside (shape_of site.now) (node_of start.now) }
     requires few { length tree.now < 2 ^ 32 }
-    // `Ok` only where the tree proves the claim, and where it does no other answer but want of memory.
+    // `Ok` comes only if the tree proves the claim. If it does, the only other answer is that there
+    // is no memory.
     ensures proves { OnOk result (Proves partial site.now (node_of start.now) (claim_of claim.now) tree.now) }
     ensures accepts { Proves partial site.now (node_of start.now) (claim_of claim.now) tree.now → IsOkOrMemory result }
     ensures leaves { IfOk result (λ v. leaves_at v.items ≡ open_leaves (shape_of site.now) (node_of start.now ∷ []) tree.now 0) }
-    // A refusal names the first fault, and a first fault is named.
+    // A refusal names the first fault. A first fault is named, unless there is no memory.
     ensures refuses { IfErr result (Refuses partial site.now (node_of start.now) (claim_of claim.now) tree.now) }
     ensures names_claim { NamesClaim partial site.now (claim_of claim.now) result }
     ensures names_node { NamesNode partial site.now (node_of start.now) (claim_of claim.now)
@@ -66,8 +67,9 @@ pub fn check_from(
     }
 }
 
-/// Judges the nodes of the tree in preorder from the start, against the cost that is to be undercut, if there is one. Leaves may be
-/// open. What is given are the open leaves in preorder, and where a node fails those before it.
+/// Judges the nodes of the tree in preorder from the start, against the cost that is to be
+/// undercut, if there is one. Leaves may be open. It gives the open leaves in preorder; if a node
+/// fails, those before it.
 pub fn check_nodes(
     alloc: Global,
     site: &Site<'_>,
@@ -91,19 +93,22 @@ pub fn check_nodes(
     walk_to(alloc, &judge, start, tree.nodes())
 }
 
-/// Judges the claim, and then the nodes of the tree in preorder, at each its steps and then its end.
+/// Judges the claim, and then the nodes of the tree in preorder, at each its steps and then its
+/// end.
 pub fn check_tree(alloc: Global, site: &Site<'_>, claim: &Claim, tree: &Tree) -> Result<(), Refusal>
     requires few { length tree.now < 2 ^ 32 }
-    // `Ok` only where the tree proves the claim, and where it does no other answer but want of memory.
+    // `Ok` comes only if the tree proves the claim. If it does, the only other answer is that there
+    // is no memory.
     ensures accepted { OnOk result (IsAccepted site.now first_node (claim_of claim.now) tree.now) }
     ensures accepts { IsAccepted site.now first_node (claim_of claim.now) tree.now → IsOkOrMemory result }
-    // A refusal names the first fault, and a first fault is named.
+    // A refusal names the first fault. A first fault is named, unless there is no memory.
     ensures refused { IfErr result (Refuses false site.now first_node (claim_of claim.now) tree.now) }
     ensures names_claim { NamesClaim false site.now (claim_of claim.now) result }
     ensures names_node { NamesNode false site.now first_node (claim_of claim.now) tree.now result }
-    // Each allowed solution structure costs at least what is claimed, with any flows; where no network is, none has flows.
+    // With any flows, each clash-free solution structure costs at least what is claimed. If the
+    // claim has no network, none has flows.
     ensures least { OnOk result ((s : ℕ → Bool) → IsStructure (shape_of site.now) s → IsAllowed (shape_of site.now) s → CostsEnough site.now (rules.claimed_cost (claim_of claim.now)) s) }
-    // A claimed network is allowed and has flows of the claimed cost.
+    // The network of a claim is clash-free and has flows of the claimed cost.
     ensures feasible { OnOk result ((w : rules.Network) → claim_of claim.now ≡ rules.network w → rules.IsFeasible site.now w) }
 {
     site.problem();

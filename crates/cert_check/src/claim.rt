@@ -12,7 +12,7 @@ use pgraph::Site;
 use tree_laws::claim_has_one_fault;
 use tree_rules::Why;
 
-/// The cost that is claimed, where a network is.
+/// The cost that is claimed, if the claim has a network.
 pub(crate) fn cost_of_claim(claim: &Claim) -> Option<CostOver>
     ensures { cost_over result ≡ claimed_cost (claim_of claim.now) }
 {
@@ -28,7 +28,7 @@ pub(crate) fn cost_of_claim(claim: &Claim) -> Option<CostOver>
     }
 }
 
-/// Judges a claim. Nothing may be claimed of a partial tree.
+/// Judges a claim. For a partial tree, a claim of nothing passes.
 pub(crate) fn judge_claim(site: &Site<'_>, claim: &Claim, partial: bool) -> Result<(), Why>
     ensures passes { OnOk result (ClaimPasses partial site.now (claim_of claim.now)) }
     ensures fails { IfErr result (λ why. ClaimFails partial site.now (claim_of claim.now) why) }
@@ -49,8 +49,8 @@ pub(crate) fn judge_claim(site: &Site<'_>, claim: &Claim, partial: bool) -> Resu
     }
 }
 
-/// Judges the claim alone: `Ok` exactly where it passes, so where it is claimed that there is no network too; else the cause of
-/// the first line that fails. Takes no memory.
+/// Judges the claim alone. `Ok` comes if and only if it passes, so also if the claim is that there
+/// is no network. Else the cause is that of the first line that fails. It takes no memory.
 pub fn check_claim(site: &Site<'_>, claim: &Claim) -> Result<(), Why>
     ensures passes { IsOk result ↔ ClaimPasses false site.now (claim_of claim.now) }
     ensures fails { (why : Why) → (result ≡ Err why) ↔ ClaimFails false site.now (claim_of claim.now) why }

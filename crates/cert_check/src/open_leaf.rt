@@ -9,14 +9,15 @@ use branch_tree::End;
 use std::alloc::AllocError;
 use unit_sets::Node;
 
-/// An open leaf of a tree: its number among all nodes, counted from 0 in preorder, and the node that its steps leave.
+/// An open leaf of a tree: its number among all nodes, counted from 0 in preorder, and the node
+/// that its steps leave.
 #[derive(Clone, Copy, Debug, PartialEq, Eq)]
 pub struct OpenLeaf {
     pub number: u32,
     pub node: Node,
 }
 
-/// Adds the node to the open leaves, where it ends in one.
+/// Adds the node to the open leaves, if it ends in one.
 pub(crate) fn note_end(
     leaves: &mut Vec<OpenLeaf>,
     number: u32,

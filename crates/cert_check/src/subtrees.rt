@@ -1,4 +1,5 @@
-//! Where subtrees end, so that the children of a node are found without a walk through what lies between them.
+//! The ends of subtrees, so that the children of a node are found without a walk through what is
+//! between them.
 ghost use Rattle.std.specs.Prelude.{◌≡◌, ◌≤◌, length, drop, IfOk, OnOk};
 ghost use Rattle.tree_rules.specs.Tree as trees;
 ghost use Rattle.cert_check.specs.Subtrees.{AreEnds};
@@ -7,7 +8,8 @@ use branch_tree::TreeNode;
 use std::alloc::{AllocError, Global};
 use unit_sets::UnitSet;
 
-/// What stands behind a node: the list of the tree's nodes from a place on, and where the subtree of each node ends.
+/// What follows a node: the list of the tree's nodes from a place on, and the end of the subtree of
+/// each node.
 #[derive(Clone, Copy)]
 pub struct Behind<'a> {
     pub nodes: &'a [TreeNode],
@@ -15,7 +17,7 @@ pub struct Behind<'a> {
     pub from: usize,
 }
 
-/// Where the list goes on behind some subtrees.
+/// The place after this many subtrees.
 fn past(nodes: &[TreeNode], ends: &[usize], from: usize, count: u32) -> usize
     requires same { length ends.now ≡ length nodes.now }
     requires within { from ≤ length nodes.now }
@@ -33,7 +35,8 @@ fn past(nodes: &[TreeNode], ends: &[usize], from: usize, count: u32) -> usize
     at
 }
 
-/// Where the subtree of each node ends. It is filled from the last node on, and each end is passed once: linear.
+/// The end of the subtree of each node. It is filled from the last node on, and each end is skipped
+/// once, so the time is linear.
 pub(crate) fn ends_of(alloc: Global, nodes: &[TreeNode]) -> Result<Vec<usize>, AllocError>
     ensures same { IfOk result (λ v. length v.items ≡ length nodes.now) }
     ensures ends { IfOk result (λ v. AreEnds nodes.now v.items 0) }
@@ -49,7 +52,8 @@ pub(crate) fn ends_of(alloc: Global, nodes: &[TreeNode]) -> Result<Vec<usize>, A
     Ok(ends)
 }
 
-/// Puts the options of the roots of the first subtrees from a place on into `found`, in place of what it held.
+/// Puts the options of the roots of the first subtrees from a place on into `found`, in place of
+/// what was in it.
 pub(crate) fn roots(
     nodes: &[TreeNode],
     ends: &[usize],

@@ -26,8 +26,8 @@ use pgraph::{Graph, Site};
 use tree_rules::Why;
 use unit_sets::{Node, UnitSet};
 
-/// By what nodes are judged: the problem with its P-graph, the cost that is to be undercut, if there
-/// is one, and whether leaves may be open.
+/// By what nodes are judged: the problem with its P-graph, the cost that is to be undercut, if
+/// there is one, and whether leaves may be open.
 #[derive(Clone, Copy)]
 pub struct Judge<'a> {
     pub site: &'a Site<'a>,
@@ -43,8 +43,8 @@ pub enum Halt {
     Fails(Why),
 }
 
-/// Judges a branch at the node, with so many subtrees behind it as its children, and puts their nodes on the stack. `found` is room
-/// for their options.
+/// Judges a branch at the node, with this many of the subtrees that follow as its children, and
+/// puts their nodes on the stack. `found` is room for their options.
 fn visit_branch(
     graph: &Graph,
     node: &Node,
@@ -73,8 +73,9 @@ fn visit_branch(
     }
 }
 
-/// Judges a branch in two at the unit, with the two subtrees behind it as its children, and puts their nodes on the stack, the one in
-/// which the unit goes in on top. `found` is room for their options.
+/// Judges a branch in two at the unit, with the two subtrees that follow as its children, and puts
+/// their nodes on the stack. The node in which the unit goes in is on top. `found` is room for
+/// their options.
 fn visit_either(
     graph: &Graph,
     node: &Node,
@@ -105,7 +106,8 @@ fn visit_either(
     Ok(())
 }
 
-/// Judges the end of a node, with the subtrees behind it as its children, and puts the nodes of the children on the stack.
+/// Judges the end of a node, with the subtrees that follow as its children, and puts the nodes of
+/// the children on the stack.
 fn visit_end(
     judge: &Judge<'_>,
     node: &Node,
@@ -138,8 +140,8 @@ fn visit_end(
     }
 }
 
-/// Judges the item of the tree at its node, and puts the nodes of its children on the stack. What is given is the node that its steps
-/// leave.
+/// Judges the item of the tree at its node, and puts the nodes of its children on the stack. It
+/// gives the node that its steps leave.
 pub(crate) fn visit(
     judge: &Judge<'_>,
     node: &Node,

@@ -18,7 +18,7 @@ use std::alloc::Global;
 use tree_rules::Refusal;
 use unit_sets::Node;
 
-/// A walk that stopped before its end: why, and the open leaves that it met before.
+/// A walk that stopped early: why, and the open leaves before that.
 #[derive(Drop)]
 pub struct Stop {
     pub refusal: Refusal,
@@ -26,7 +26,7 @@ pub struct Stop {
 }
 
 impl Stop {
-    /// A walk that wants memory.
+    /// A walk that is out of memory.
     fn memory(leaves: Vec<OpenLeaf>) -> Stop
         ensures { result ≡ record { refusal = refusals.Memory; leaves = leaves } }
     {
@@ -58,8 +58,8 @@ fn number(i: usize) -> u32
     i as u32
 }
 
-/// Walks the tree in preorder from the node `start`, and stops at the first node that fails. What is
-/// given are the open leaves, and where the walk stops those that it met before.
+/// Walks the tree in preorder from the node `start`, and stops at the first node that fails. It
+/// gives the open leaves; if the walk stops, those before that.
 pub(crate) fn walk_to(
     alloc: Global,
     judge: &Judge<'_>,
@@ -104,7 +104,7 @@ pub(crate) fn walk_to(
     Ok(leaves)
 }
 
-/// The same, and of a walk that stops why alone.
+/// The same. Of a walk that stops it only gives why.
 pub(crate) fn walk(
     alloc: Global,
     judge: &Judge<'_>,

@@ -41,7 +41,7 @@ known_after g n (loose w) known p = known
 known_after g n (sole x u) known p =
     λ v h. elim (or_cases (u == v) (n.inside v) h) [ inl e ↦ subst (λ (k : ℕ). k < g.units) (eqb-true u v e) p.1 | inr q ↦ known v q ]
 
--- the item at i, as f sees it, and what stands behind it
+-- the item at i, as f sees it, and what follows it
 pub item_ahead : {X Y : Type 0} (f : X → Y) (xs : List X) (i : ℕ) (d : X) → i < length xs → drop i (map f xs) ≡ f (get_or xs i d) ∷ drop (suc i) (map f xs)
 item_ahead f [] i d h = absurd (omega arith)
 item_ahead f (y ∷ ys) zero d h = refl

@@ -20,7 +20,7 @@ pub is_none : (xs : List ℕ) → ((u : ℕ) → has xs u ≡ true → ⊥) → 
 is_none [] h = refl
 is_none (x ∷ xs) h = absurd (h x (or_left (x == x) (has xs x) (eq-eqb x x refl)))
 
--- nothing is in both where the meet is empty
+-- nothing is in both if and only if the meet is empty
 pub apart_is : (a b both : List ℕ) → both ≡ meet a b → (both ≡ []) ↔ Avoids (has a) (has b)
 apart_is a b both e = (
   (λ h u p q. none_there both u h (there u ∙ and_from (has a u) (has b u) p q)),

@@ -1,4 +1,4 @@
--- The walk along the list of all options beside a list that was given.
+-- The walk along the list of all options next to a list that was given.
 use Rattle.std.proofs.Common.{◌≡◌, ℕ, zero, suc, ◌<◌, ◌≤◌, List, [], ◌∷◌, ◌++◌, length, drop, get_or, Option, Some, None, refl, sym, ap, ap₂, ◌∙◌, subst, arith, append_assoc, ◌↔◌, inl, inr}
 use Rattle.std.specs.Prelude.{IfSome, IfNone}
 use Rattle.number_sets.specs.Sets.{has, IsSet, Avoids}
@@ -9,7 +9,7 @@ abbrev pub head_of : List (List ℕ) → Option (List ℕ)
 head_of [] = None
 head_of (t ∷ ts) = Some t
 
--- the options before place i of what was found were met there, and the first of the rest is expected next
+-- the first i options are those found before place i, and the first of the rest is expected next
 pub record Expects (base free : List ℕ) (found : List (List ℕ)) (i : ℕ) (expected : Option (List ℕ)) : Type 0 where
   pub before : List (List ℕ)
   pub rest : List (List ℕ)

@@ -23,7 +23,8 @@ fn are_in_and_out(u: u32, found: &[UnitSet]) -> bool
     found[1].is_empty()
 }
 
-/// Whether the unit is one of the graph, neither taken in nor left out, and these are the options of branching at it.
+/// Whether the unit is one of the graph, neither taken in nor left out, and these are the options
+/// of branching at it.
 pub fn are_options_of_unit(graph: &Graph, node: &Node, u: u32, found: &[UnitSet]) -> bool
     ensures { IsTrue result ↔ (MayBranch (shape graph.now) (node_of node.now) (either u) × (found.now ≡ options_at (shape graph.now) (node_of node.now) (either u))) }
 {

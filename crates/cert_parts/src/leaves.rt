@@ -1,4 +1,4 @@
-//! The leaves of a tree, judged at the node where they stand.
+//! The leaves of a tree, each judged at its node.
 ghost use Rattle.std.specs.Prelude.{◌≡◌, ◌↔◌, ◌≤ℤ◌, ℕ, pos, Bool, length, Option, IsTrue, OnOk, IfErr};
 ghost use Rattle.pns_rules.specs.Shape.{shape_of};
 ghost use Rattle.pns_rules.specs.Structure.{Clashes};
@@ -90,7 +90,7 @@ fn is_scale(d: i128) -> bool
     d >= 1
 }
 
-/// A leaf at which the multipliers are to bound the cost from below, over d, by the claimed cost.
+/// A leaf whose multipliers are to bound the cost from below, over d, by the claimed cost.
 pub fn judge_bound(
     site: &Site<'_>,
     node: &Node,

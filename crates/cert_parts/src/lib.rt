@@ -1,13 +1,15 @@
-//! The parts of a certificate, judged one by one, over problems and graphs alone: a claimed network, a step at a node and the
-//! node that it leaves, the options of a branch, and each leaf. None of it knows how a tree is found.
+//! The parts of a certificate, judged one by one, over problems and graphs alone.
 //!
-//! Each judgement is exact. What passes is what the definitions of `tree_rules` let pass, and a refusal is the first line of
-//! their table that fails, with its cause. A number that the problem does not have is no condition of any call: whatever
-//! stands on it fails. No call takes memory.
+//! The parts are a network, a step at a node and the node that it leaves, the options of a branch,
+//! and each leaf. No judgement depends on how a tree is found. Each is exact. What passes is what
+//! the definitions of `tree_rules` let pass, and a refusal is the first line of their table that
+//! fails, with its cause. No call needs numbers that the problem has: whatever uses another number
+//! fails. No call takes memory.
 //!
-//! Modules: `sets` and `materials` are tests of sets and what a node needs; `steps` which steps are possible; `nodes` the nodes
-//! that steps and options leave, `options` whether given sets are all options of a material: they can be as many as 2^128, so their list is walked
-//! and never made; `either` branches in two at one unit; `network` and `leaves` judge claims and leaves.
+//! Modules: `sets` and `materials` are tests of sets and what a node needs; `steps`, which steps
+//! are possible; `nodes`, the nodes that steps and options leave; `options`, whether given sets are
+//! all options of a material (these can be as many as 2^128, so their list is walked and never
+//! made); `either`, branches in two at one unit; `network` and `leaves` judge claims and leaves.
 #![tactic(auto)]
 
 mod either;

@@ -1,4 +1,4 @@
-//! A claimed network.
+//! The network of a claim.
 ghost use Rattle.std.specs.Prelude.{◌≡◌, ◌↔◌, ◌≤ℤ◌, pos, Bool, length, IsTrue, OnOk, IfErr};
 ghost use Rattle.tree_rules.specs.Claim.{network, IsFeasible, ClaimFails};
 
@@ -15,8 +15,9 @@ fn are_same(a: i128, b: i128) -> bool
     a == b
 }
 
-/// Judges the network of these units, with a size for each in rising order and its cost, all over d: its units are an allowed
-/// solution structure, the sizes are flows for them, and the cost is theirs. The first line that fails is its cause.
+/// Judges the network of these units, with a size for each in rising order and its cost, all over
+/// d. Its units are a clash-free solution structure, the sizes are flows for them, and the cost is
+/// theirs. The cause is that of the first line that fails.
 pub fn judge_network(
     site: &Site<'_>,
     units: UnitSet,

@@ -46,7 +46,8 @@ pub(crate) fn after(graph: &Graph, node: &Node, step: &Step) -> Node
     }
 }
 
-/// The node that the steps leave, one after the other; `None` exactly where one is not possible where it stands.
+/// The node that the steps leave, one after another. It is `None` if and only if some step is not
+/// possible when its turn comes.
 pub fn after_steps(graph: &Graph, node: &Node, steps: &[Step]) -> Option<Node>
     requires { KnowsInside (shape graph.now) (node_of node.now) }
     ensures possible { IfSome result (λ m. StepsPass (shape graph.now) (node_of node.now) (map step_of steps.now)) }

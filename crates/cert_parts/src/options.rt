@@ -5,8 +5,8 @@ ghost use Rattle.number_sets.specs.Options.{all_options};
 
 use unit_sets::UnitSet;
 
-/// Whether the sets are all non-empty sets between the base and the base with free units, in numeric order. Linear in the
-/// number of the sets; takes no memory.
+/// Whether the sets are all non-empty sets between the base and the base with free units, in
+/// numeric order. The time is linear in the number of the sets. It takes no memory.
 pub(crate) fn are_options(base: UnitSet, free: UnitSet, found: &[UnitSet]) -> bool
     requires { Avoids (has base) (has free) }
     ensures { IsTrue result ↔ (found.now ≡ all_options base free) }

@@ -34,7 +34,8 @@ fn rival_is_possible(graph: &Graph, node: &Node, u: u32) -> bool
     is_free(graph, node, u) && graph.rivals(node.inside).has(u)
 }
 
-/// Whether no maker of the material is left, which is not raw, and some of its users are, none of them taken in.
+/// Whether the material is not raw, none of its makers is left, and some of its users are, none of
+/// them taken in.
 fn starve_is_possible(graph: &Graph, node: &Node, x: u32) -> bool
     ensures { IsTrue result ↔ IsPossible (shape graph.now) (node_of node.now) (starve x) }
 {
@@ -51,7 +52,7 @@ fn starve_is_possible(graph: &Graph, node: &Node, x: u32) -> bool
     is_some_apart(users_left(graph, node, x), node.inside)
 }
 
-/// Whether the units are free, and none makes a product or an input of a unit that is left and not one of them.
+/// Whether the units are free, and none makes a product, or an input of another unit that is left.
 fn loose_is_possible(graph: &Graph, node: &Node, set: UnitSet) -> bool
     ensures { IsTrue result ↔ IsPossible (shape graph.now) (node_of node.now) (loose set) }
 {
@@ -67,7 +68,7 @@ fn loose_is_possible(graph: &Graph, node: &Node, set: UnitSet) -> bool
     are_apart(graph.made(set), wanted)
 }
 
-/// Whether the material is needed, and the unit is the one maker that is left, and not taken in.
+/// Whether the material is needed, and the unit is the one maker that is left, and is not taken in.
 fn sole_is_possible(graph: &Graph, node: &Node, x: u32, u: u32) -> bool
     ensures { IsTrue result ↔ IsPossible (shape graph.now) (node_of node.now) (sole x u) }
 {

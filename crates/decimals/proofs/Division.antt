@@ -1,4 +1,4 @@
--- A number that is divided by the parts of a product one after another.
+-- A number that is divided by the factors of a product one after another.
 use Rattle.std.proofs.Common.{◌≡◌, ◌<◌, ◌≤◌, ◌+◌, ◌-◌, ◌*◌, ◌/◌, ◌%◌, ◌^◌, ◌==◌, ◌&&◌, ℕ, Bool, true, false, refl, sym, ap, ◌∙◌, arith}
 use Rattle.std.specs.Prelude.{ℤ, pos, unsigned_abs, int_lt, Result, Ok, Err, OnOk}
 use Rattle.report_rules.specs.Decimal.{rounded_text, decimal_text, signed_text, rounded, places_behind, six_digits}
@@ -7,7 +7,7 @@ use Rattle.std.proofs.lemmas.Bool.{eq-eqb, ne_eqb, eqb-true, eqb-false}
 use Rattle.std.proofs.Math.Nat.{div-div-eq-div-mul, add-mul-div_right, mul-div-mul_right, mul-div_cancel, mul-mod_left, le-mul_of_pos_right, one-le-pow}
 use Rattle.std.proofs.Math.Arith.{mod-mul}
 
--- rounded over a product, as rounded over one part of what is left by the others
+-- to round a quotient by a product is to divide by one factor, and to round the quotient of that
 pub rounded_by_parts : (a k h d : ℕ) → 0 < k → 0 < h → 0 < d → (2 * (a * k) + 2 * k * h * d) / (2 * (2 * k * h * d)) ≡ (a / d + h) / (2 * h)
 rounded_by_parts a k h d pk ph pd =
     let top : 2 * (a * k) + 2 * k * h * d ≡ (a + h * d) * (2 * k) = omega arith in
@@ -17,7 +17,7 @@ rounded_by_parts a k h d pk ph pd =
     ∙ sym (div-div-eq-div-mul (a + h * d) d (2 * h))
     ∙ ap (λ n. n / (2 * h)) (add-mul-div_right a h pd)
 
--- a rest of a product is none exactly where neither part leaves one
+-- the product divides without a rest if and only if both factors do
 pub exact_by_parts : (a k h d : ℕ) → 0 < k → 0 < h → 0 < d → (a * k % (2 * k * h * d) == 0) ≡ (a % d == 0 && (a / d) % (2 * h) == 0)
 exact_by_parts a k h d pk ph pd =
     let order : 2 * k * h * d ≡ ((2 * h) * d) * k = omega arith in

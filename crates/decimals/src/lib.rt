@@ -1,9 +1,12 @@
-//! Fractions in decimal, rounded at most once: with so many places and a mark exactly where they were rounded, or with six digits.
+//! A fraction's nearest decimal, of given places or six digits, halves away from 0.
 //!
-//! `Decimal` of `report_rules` has the text of a fraction with so many places. A quotient that is to be printed is divided by its
-//! parts, one after the other, so that no product of them is formed.
+//! `Decimal` of `report_rules` has the text. A fraction is rounded at most once. With given places,
+//! a `~` comes before a decimal that is not the fraction itself. With six digits there is no `~`. A
+//! quotient to be printed is divided by the factors of its divisor one after another. So no product
+//! of them is formed.
 //!
-//! Modules: `places`, digits behind the point; `signed`, a rounded number with its sign; `quotient`; `six`, six digits.
+//! Modules: `places`, digits after the point; `signed`, a rounded number with its sign; `quotient`;
+//! `six`, six digits.
 #![tactic(auto)]
 
 mod places;

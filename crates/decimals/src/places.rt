@@ -1,4 +1,4 @@
-//! Digits behind the point.
+//! Digits after the point.
 ghost use Rattle.std.specs.Prelude.{◌≡◌, ◌++◌, ◌^◌, OnOk, string_bytes};
 ghost use Rattle.text_rules.specs.Printed.{digits, places};
 ghost use Rattle.report_rules.specs.Decimal.{scaled_text};
@@ -17,7 +17,7 @@ fn push_digits(text: &mut String, count: u32, number: u128) -> Result<(), AllocE
     Ok(())
 }
 
-/// Appends the last so many digits of the number, up to the last that is not 0.
+/// Appends the last `count` digits of the number, without zeros at their end.
 pub fn push_places(text: &mut String, count: u32, number: u128) -> Result<(), AllocError>
     ensures { OnOk result (string_bytes text.new ≡ string_bytes text.old ++ places count number) }
 {
@@ -31,7 +31,7 @@ pub fn push_places(text: &mut String, count: u32, number: u128) -> Result<(), Al
     }
 }
 
-/// Appends the number over the scale, which is the power of ten of the places.
+/// Appends the number over the scale, which is 10^places.
 pub(crate) fn push_scaled(
     text: &mut String,
     places: u32,

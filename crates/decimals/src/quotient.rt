@@ -15,7 +15,7 @@ fn nearest(quotient: u128, half: u64) -> u128
     (quotient + half) / (2 * half)
 }
 
-/// Whether the number is divided by the one and the other without a rest.
+/// Whether d divides the number, and 2 * half the quotient.
 fn divides(number: u128, d: u128, half: u64) -> bool
     requires d { 0 < d }
     requires half { 0 < half }
@@ -28,8 +28,8 @@ fn divides(number: u128, d: u128, half: u64) -> bool
     number / d % (2 * half) == 0
 }
 
-/// Appends number / (2 * 10^places * half * d) with so many places, where the scale is 10^places. No number beyond 128 bits is formed
-/// for it.
+/// Appends number / (2 * 10^places * half * d) with this many places; the scale is 10^places. It
+/// forms no number above 128 bits.
 pub fn push_quotient(
     text: &mut String,
     places: u32,

@@ -5,7 +5,8 @@ ghost use Rattle.report_rules.specs.Decimal.{signed_text, rounded_text};
 use crate::places::push_scaled;
 use std::alloc::AllocError;
 
-/// Appends the number over the scale, which is the power of ten of the places, behind a `-` where it is negative and not 0.
+/// Appends the number over the scale, which is 10^places. A `-` comes first if the number is
+/// negative and not 0.
 pub fn push_signed(
     text: &mut String,
     places: u32,
@@ -22,7 +23,7 @@ pub fn push_signed(
     push_scaled(text, places, scale, number)
 }
 
-/// The same behind a `~` where it is not exact.
+/// The same, with a `~` before it if it is not exact.
 pub(crate) fn push_rounded(
     text: &mut String,
     places: u32,

@@ -5,7 +5,7 @@ ghost use Rattle.report_rules.specs.Decimal.{places_behind, six_digits};
 use crate::signed::push_signed;
 use std::alloc::AllocError;
 
-/// So many places, less one for each digit of the whole number.
+/// `count` places, less one for each digit of the whole number.
 pub fn places_behind(count: u32, whole: u128) -> u32
     ensures value { result ≡ places_behind count whole }
     ensures few { result ≤ count }
@@ -17,7 +17,7 @@ pub fn places_behind(count: u32, whole: u128) -> u32
     }
 }
 
-/// The power of ten.
+/// 10^places.
 pub fn scale_of(places: u32) -> u64
     requires { places ≤ 6 }
     ensures power { result ≡ 10 ^ places }
@@ -55,8 +55,8 @@ fn nearest(quotient: u128, half: u64, rest: u64) -> u128
     (quotient + half) / (2 * half)
 }
 
-/// Appends number / (2 * 10^6 * half * d) with six digits where it has more, and with all digits of its whole part. No number
-/// beyond 128 bits is formed for it.
+/// Appends number / (2 * 10^6 * half * d), rounded to six digits if it has more, and with all
+/// digits of its whole part. It forms no number above 128 bits.
 pub fn push_six_digits(
     text: &mut String,
     half: u64,

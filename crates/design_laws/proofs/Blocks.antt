@@ -10,7 +10,7 @@ use Rattle.integer_laws.specs.Total.{total_below}
 use Rattle.integer_laws.proofs.IndexTotals.{total_below-split}
 use Rattle.plan_laws.proofs.Lists.{times_more}
 
--- a block ends where the next begins, or before
+-- the end of a block is at most the start of the next
 pub block_ends : (t k w : ℕ) → t < k → t * w + w ≤ k * w
 block_ends t k w less = let le : suc t * w ≤ k * w = mul-le-mul_right w less in let more = times_more t w in omega (arith, le, more)
 
@@ -31,7 +31,7 @@ same_block s t i j w l k e =
       ]
     ]
 
--- where a number is
+-- the place of a number
 pub record InBlock (w k x : ℕ) : Type 0 where
   pub block : ℕ
   pub place : ℕ

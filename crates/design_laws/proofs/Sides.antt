@@ -1,4 +1,4 @@
--- Which materials stand in the sides of an expanded problem's units, and at which rates.
+-- Which materials the sides of an expanded problem's units have, and at which rates.
 use Rattle.std.proofs.Common.{◌≡◌, ◌<◌, ◌≤◌, ◌+◌, ◌==◌, ◌||◌, ℕ, zero, suc, Bool, true, false, List, [], ◌∷◌, ◌++◌, map, ℤ, pos, refl, sym, ap, ◌∙◌, inl, inr, ◌⊎◌, arith}
 use Rattle.std.specs.List.{range_with_len}
 use Rattle.std.proofs.lemmas.Bool.{or_cases, or_left, or_right, or_parts, ne_eqb, eq-eqb, eqb-true, true≢false}

@@ -1,5 +1,5 @@
--- The solution structures of an expanded problem are the families of solution structures of the plant, one for each period, with
--- the units that build their union.
+-- The solution structures of an expanded problem are the families of solution structures of the
+-- plant, one for each period, with the units that build their union.
 use Rattle.std.proofs.Common.{◌≡◌, ◌<◌, ◌≤◌, ◌+◌, ◌*◌, ◌||◌, ℕ, Bool, true, false, List, [], ◌∷◌, length, refl, sym, ap, subst, ◌∙◌, inl, inr, ◌⊎◌, arith}
 use Rattle.std.proofs.lemmas.Bool.{or_cases, or_left, or_right, true≢false, both_ways, false_from_ne_true, true_from_ne_false}
 use Rattle.number_sets.specs.Sets.{any_below}

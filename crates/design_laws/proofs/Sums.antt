@@ -1,4 +1,5 @@
--- What the units of an expanded problem's network leave over of each material, and what it costs: the numbers of a design.
+-- What the units of an expanded problem's network leave over of each material, and what it costs:
+-- the numbers of a design.
 use Rattle.std.proofs.Common.{◌≡◌, ◌≢◌, ◌<◌, ◌≤◌, ◌+◌, ◌*◌, ℕ, Bool, true, false, cond, length, ℤ, pos, neg_ℤ, ◌+ℤ◌, ◌-ℤ◌, ◌*ℤ◌, refl, sym, ap, subst, ◌∙◌, arith}
 use Rattle.std.proofs.lemmas.Int.{ints}
 use Rattle.std.proofs.lemmas.List.FromFn.{get_or-map-range_with_len}
@@ -47,7 +48,8 @@ none_first a b c e f = omega (arith, ints, e, f)
 none_last : (a b c : ℤ) → b ≡ pos 0 → a ≡ c → a +ℤ b ≡ c
 none_last a b c e f = omega (arith, ints, e, f)
 
--- what stands in the sets is the design's: which units are built and run, at which capacities and sizes
+-- the set and the sizes are those of the design: which units are built and run, at which capacities
+-- and sizes
 pub record Agrees (p : Problem) (plan : Plan) (x : Design) (s : ℕ → Bool) (z : ℕ → ℤ) : Type 0 where
   pub built : (i : ℕ) → i < length p.units → s i ≡ is_built plan x i
   pub running : (t i : ℕ) → t < length plan.periods → i < length p.units → s (running_number p t i) ≡ x.runs t i

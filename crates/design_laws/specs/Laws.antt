@@ -1,5 +1,5 @@
--- The laws of designs and of networks of the expanded problem, each of which a public function of this crate has as its contract.
--- Each speaks of every valid problem and of every plan for it.
+-- The laws of designs and of networks of the expanded problem. Each is the contract of a public
+-- function of this crate, and holds for every valid problem and every plan for it.
 use Rattle.std.specs.Prelude.{◌≡◌, ℕ, ◌<◌, ℤ, Bool, true, length}
 use Rattle.number_sets.specs.Sets.{any_below}
 use Rattle.problem_rules.specs.Problem.{Problem}
@@ -18,8 +18,8 @@ use Rattle.design_rules.specs.Least.{IsLeastDesign, HasNoDesign}
 
 -- ---- structures
 
--- The units that run in each period are those of the set, in which no other unit is: in the set are units of the expanded problem,
--- and in each period units of the plant.
+-- The units that run in each period are those of the set. The set has no other units than those of
+-- the expanded problem, and each period no others than those of the plant.
 pub record Runs (p : Problem) (plan : Plan) (s : ℕ → Bool) (runs : ℕ → ℕ → Bool) : Type 0 where
   pub running : (t i : ℕ) → t < length plan.periods → i < length p.units → s (running_number p t i) ≡ runs t i
   pub run_known : (t i : ℕ) → t < length plan.periods → runs t i ≡ true → i < length p.units
@@ -29,7 +29,8 @@ pub record Runs (p : Problem) (plan : Plan) (s : ℕ → Bool) (runs : ℕ → �
 abbrev pub BuildsUnion : Problem → Plan → (ℕ → Bool) → (ℕ → ℕ → Bool) → Type 0
 BuildsUnion p plan s runs = (i : ℕ) → i < length p.units → s i ≡ any_below (length plan.periods) (λ t. runs t i)
 
--- a solution structure for each period, and the units that build their union, are a solution structure of the expanded problem
+-- a solution structure for each period, and the units that build their union, are a solution
+-- structure of the expanded problem
 abbrev pub FamiliesAreStructures : Type 0
 FamiliesAreStructures =
     (p : Problem) (plan : Plan) → IsValid p → IsPlan p plan → (s : ℕ → Bool) (runs : ℕ → ℕ → Bool) → Runs p plan s runs
@@ -57,14 +58,15 @@ pub record HasNetwork (p : Problem) (plan : Plan) (y : Design) : Type 0 where
 abbrev pub DesignsAreNetworks : Type 0
 DesignsAreNetworks = (p : Problem) (plan : Plan) → IsValid p → IsPlan p plan → (y : Design) → IsDesign p plan y → HasNetwork p plan y
 
--- so where no allowed structure of the expanded problem has flows, the plant has no design
+-- so if no clash-free solution structure of the expanded problem has flows, the plant has no design
 abbrev pub NoNetworkIsNoDesign : Type 0
 NoNetworkIsNoDesign =
     (p : Problem) (plan : Plan) → IsValid p → IsPlan p plan
     → ((s : ℕ → Bool) → IsStructure (shape_of (expanded p plan)) s → IsAllowed (shape_of (expanded p plan)) s → CostsEnough (expanded p plan) (claimed_cost infeasible) s)
     → HasNoDesign p plan
 
--- and each network that is feasible there is a design at its cost; where no network undercuts it, no design does
+-- and each network that is feasible there is a design at its cost; if no network undercuts it, no
+-- design does
 abbrev pub LeastNetworkIsLeastDesign : Type 0
 LeastNetworkIsLeastDesign =
     (p : Problem) (plan : Plan) → IsValid p → IsPlan p plan → (w : Network) → IsFeasible (expanded p plan) w

@@ -3,7 +3,8 @@ ghost use Rattle.design_laws.specs.Laws.{FamiliesAreStructures, StructuresAreFam
 
 use plan_laws::expanded_is_valid;
 
-/// A solution structure for each period, and the units that build their union, are a solution structure of the expanded problem.
+/// A solution structure for each period, and the units that build their union, are a solution
+/// structure of the expanded problem.
 pub fn families_are_structures()
     ensures { FamiliesAreStructures }
 {
@@ -24,14 +25,16 @@ pub fn designs_are_networks()
     expanded_is_valid();
 }
 
-/// Where no allowed structure of the expanded problem has flows, the plant has no design over its periods.
+/// If no clash-free solution structure of the expanded problem has flows, the plant has no design
+/// over its periods.
 pub fn no_network_is_no_design()
     ensures { NoNetworkIsNoDesign }
 {
     expanded_is_valid();
 }
 
-/// A feasible network of the expanded problem stands for a design at its cost; where no network undercuts it, no design does.
+/// A feasible network of the expanded problem stands for a design at its cost. If no network
+/// undercuts it, no design does.
 pub fn least_network_is_least_design()
     ensures { LeastNetworkIsLeastDesign }
 {

@@ -1,9 +1,12 @@
-//! Laws of designs: the solution structures of an expanded problem are the families of solution structures of the plant, one for
-//! each period, with their union; its networks are the designs of the plant over its periods, at the same cost; and so one that no
-//! network undercuts is a design that no design undercuts.
+//! Least networks of a plan's problem are its least designs.
 //!
-//! The laws stand in `specs/Laws`, over the definitions of `plan_rules` and `design_rules`. Each is the contract of a function that
-//! does nothing, which a proof elsewhere calls to have it.
+//! These are the laws of designs. The solution structures of an expanded problem are the families
+//! of solution structures of the plant, one for each period, with their union. Its networks are the
+//! designs of the plant over its periods, at the same cost. So a network that no other undercuts is
+//! a design that no design undercuts.
+//!
+//! `specs/Laws` states the laws, over the definitions of `plan_rules` and `design_rules`. Each is
+//! the contract of a function that does nothing; a call gives a proof its law.
 #![tactic(auto)]
 
 mod laws;

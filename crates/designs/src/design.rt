@@ -2,7 +2,8 @@
 use std::marker::Model;
 use unit_sets::UnitSet;
 
-/// The units that run in a period, with a size for each in rising order of units, in millionths over the design's d.
+/// The units that run in a period, with a size for each in rising order of units, in millionths
+/// over the design's d.
 #[derive(Drop)]
 pub struct Run {
     pub units: UnitSet,
@@ -17,8 +18,9 @@ impl Model for Run {
     ghost view = { λ r. record { units = r.units; sizes = r.sizes.items } };
 }
 
-/// The units that are built, with a capacity for each in rising order of units, and how they run in each period. Capacities and
-/// sizes are in millionths over d, and the cost over d and the payout period is in 10^-18 of the money unit.
+/// The units that are built, with a capacity for each in rising order of units, and how they run in
+/// each period. Capacities and sizes are in millionths over d. The cost over d and the payout
+/// period is in 10^-18 of the money unit.
 #[derive(Drop)]
 pub struct Design {
     pub built: UnitSet,

@@ -16,7 +16,7 @@ use pns_problem::Problem;
 use std::alloc::{AllocError, Global};
 use unit_sets::UnitSet;
 
-/// The unit `i` in the set, and its size behind the others, where it is taken.
+/// If the unit `i` is taken, adds it to the set, and appends its size.
 fn take_if(
     taken: bool,
     units: UnitSet,
@@ -36,8 +36,8 @@ fn take_if(
     }
 }
 
-/// The units of the network among `count` numbers from `first` on, which then count from 0, and their sizes, which the table has by
-/// number.
+/// The units of the network among `count` numbers from `first` on, which then count from 0, and
+/// their sizes. The table has sizes by number.
 fn run_from(
     alloc: Global,
     network: &Network,
@@ -59,7 +59,7 @@ fn run_from(
     Ok(Run { units, sizes })
 }
 
-/// How each of so many periods runs, where so many units are built.
+/// How each of this many periods runs, for a plant of this many units.
 fn runs_of(
     alloc: Global,
     network: &Network,
@@ -103,8 +103,9 @@ fn period_count(plan: &Plan) -> u32
     plan.periods.len() as u32
 }
 
-/// The design that the network stands for: the units that build are the units that are built, at their capacities, and the copies
-/// that run in a period are the units that run in it. Its only refusal is want of memory.
+/// The design that the network stands for. The units that build are the units that are built, at
+/// their capacities. The copies that run in a period are the units that run in it. The only error
+/// is that there is no memory.
 pub fn fold(
     alloc: Global,
     problem: &Problem,

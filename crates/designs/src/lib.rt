@@ -1,8 +1,8 @@
-//! The design that a network of an expanded problem stands for: the units that are built, with their capacities, and how they run
-//! in each period.
+//! The design that a network of an expanded problem stands for.
 //!
-//! Contracts see a design as the record of `design_rules`, and which it is by the definition there. Modules: `design` (the values)
-//! and `folding`.
+//! It has the units that are built, with their capacities, and how they run in each period.
+//! Contracts see a design as the record of `design_rules`, and the definition there says which
+//! design it is. Modules: `design` (the values) and `folding`.
 #![tactic(auto)]
 
 mod design;

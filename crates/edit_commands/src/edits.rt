@@ -30,7 +30,7 @@ fn say_edited<F: Shelf, K: Sink, E: Sink>(
     }
 }
 
-/// Puts the canonical text of the file's problem after the edits of the script.
+/// Prints the canonical text of the file's problem after the edits of the script.
 pub fn edit<F: Shelf, K: Sink, E: Sink>(
     alloc: Global,
     file: &str,
@@ -63,7 +63,7 @@ fn say_inverse<F: Shelf, K: Sink, E: Sink>(
     }
 }
 
-/// Puts the script that leads back from the file's problem after the edits of the script.
+/// Prints the script that leads back from the file's problem after the edits of the script.
 pub fn undo<F: Shelf, K: Sink, E: Sink>(
     alloc: Global,
     file: &str,

@@ -21,7 +21,8 @@ fn made_text(alloc: Global, number: u64, units: u64) -> Result<Vec<u8>, AllocErr
     problem.canonical_text(alloc)
 }
 
-/// Puts the canonical text of the problem of this number with so many operating units, 1 to 128.
+/// Prints the canonical text of the problem of this number with this many operating units, 1 to
+/// 128.
 pub fn make<K: Sink, E: Sink>(
     alloc: Global,
     number: u64,

@@ -40,7 +40,8 @@ fn say_migration<K: Sink, E: Sink>(
     }
 }
 
-/// Puts the script that turns the yearly costs of the file's problem into investment costs over so many years, 1 to 100.
+/// Prints the script that turns the yearly costs of the file's problem into investment costs over
+/// this many years, 1 to 100.
 pub fn migrate<F: Shelf, K: Sink, E: Sink>(
     alloc: Global,
     file: &str,

@@ -46,7 +46,7 @@ module _ (optimal : AcceptedIsOptimal) (feasible : AcceptedHasFlows) where
         best = is_best p given.valid claim nodes work.0;
       }
 
--- what is out with status 0 is such an answer
+-- what is printed with status 0 is such an answer
 pub done_ends : AcceptedIsBest → (old new : ShelfState) (file tree : List ℕ) (before after : OutputsState) (s : Status) → Ends (TwoFilesSay (OnTree CheckWork) file tree old new) before after s → s ≡ Done → FilesClaimBest old.held file tree
 done_ends law old new file tree before after s e done =
     let said = subst (λ (t : Status). Ends (TwoFilesSay (OnTree CheckWork) file tree old new) before after t) done e in

@@ -22,7 +22,8 @@ use studio_rules::Status;
 use tree_laws::{accepted_has_flows, accepted_is_optimal};
 use tree_rules::Refusal;
 
-/// Says whether the tree proves the claim, or else the first line of the claim or the first node that fails.
+/// Prints that the tree proves the claim, or the first line of the claim or the first node that
+/// fails.
 fn say_judged<K: Sink, E: Sink>(
     alloc: Global,
     out: &mut Outputs<K, E>,
@@ -77,7 +78,8 @@ fn say_tree<F: Shelf, K: Sink, E: Sink>(
     }
 }
 
-/// Where `check` accepts, the claim is best: a network that no other undercuts, or that none has flows, and none has.
+/// If `check` accepts, the claim is best. It is a network that no other undercuts, or it is that no
+/// network has flows, and none has.
 pub fn accepted_is_best()
     ensures { AcceptedIsBest }
 {
@@ -85,7 +87,7 @@ pub fn accepted_is_best()
     accepted_has_flows();
 }
 
-/// Says whether the tree of the one file proves its claim on the problem of the other.
+/// Prints whether the tree of the one file proves its claim on the problem of the other.
 pub fn check<F: Shelf, K: Sink, E: Sink>(
     alloc: Global,
     file: &str,
@@ -95,7 +97,7 @@ pub fn check<F: Shelf, K: Sink, E: Sink>(
 ) -> Status
     ensures ends { Ends (TwoFilesSay (OnTree CheckWork) file.now tree.now (F.state shelf.old) (F.state shelf.new)) out.old out.new result }
     ensures keeps { Keeps (F.state shelf.old) (F.state shelf.new) }
-    // With status 0 the one file gives a valid problem and the other a claim, which is best.
+    // If the status is 0, the one file gives a valid problem and the other a claim that is best.
     ensures accepted { result ≡ Done → FilesClaimBest (F.state shelf.old).held file.now tree.now }
 {
     accepted_is_best();

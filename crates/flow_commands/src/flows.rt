@@ -148,8 +148,9 @@ fn say_flows<K: Sink, E: Sink>(
     }
 }
 
-/// Says the least flows of the named units of the file's problem with multipliers that prove them, or that they have none, where
-/// they are a solution structure; or else the first axiom that they break.
+/// Prints the least flows of the named units of the file's problem, with multipliers that prove
+/// them, or that they have none. If the units are no solution structure, it prints the first axiom
+/// that they break.
 pub fn flows<F: Shelf, K: Sink, E: Sink>(
     alloc: Global,
     file: &str,

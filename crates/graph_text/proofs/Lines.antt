@@ -16,7 +16,7 @@ after_three old t1 t2 t3 x y z e f g = after old t1 t3 x (y ++ z) e (after t1 t2
 pub after_four : (old t1 t2 t3 t4 x y z v : List ℕ) → t1 ≡ old ++ x → t2 ≡ t1 ++ y → t3 ≡ t2 ++ z → t4 ≡ t3 ++ v → t4 ≡ old ++ (x ++ (y ++ (z ++ v)))
 after_four old t1 t2 t3 t4 x y z v e f g h = after old t1 t4 x (y ++ (z ++ v)) e (after_three t1 t2 t3 t4 y z v f g h)
 
--- what stands where a test holds
+-- what is there if a test is true
 pub where_true : (b : Bool) (x : List ℕ) → b ≡ true → x ≡ (if b then x else [])
 where_true true x e = refl
 where_true false x e = let f : false ≡ true = e in cc
@@ -38,7 +38,7 @@ pub some_of_map : {A B : Type 0} (o : Option A) (f : A → B) (P : B → Type 0)
 some_of_map (Some a) f P h = h
 some_of_map None f P h = tt
 
--- the lines to come finish the text: one line of them, and some
+-- the text so far and the lines that are left give the whole text: for one line, and for some
 pub next_line : (line : ℕ → List ℕ) (left rest : List ℕ) (k : ℕ) (whole text t1 t2 : List ℕ) → left ≡ k ∷ rest → t1 ≡ text ++ line k → t2 ≡ t1 ++ 10 ∷ [] → text ++ printed (map line left) ≡ whole → t2 ++ printed (map line rest) ≡ whole
 next_line line left rest k whole text t1 t2 e f g h =
     ap (λ (t : List ℕ). t ++ printed (map line rest)) (after text t1 t2 (line k) (10 ∷ []) f g)

@@ -1,5 +1,5 @@
--- What contracts see of the type of pictures, and what it keeps: the graph is that of the plant, the units are units of it, all lines of
--- the network hold, and its greatest flow is known.
+-- What contracts see of a picture, and what always holds of it. Its graph is the one of the plant,
+-- its units are units of the plant, its network is feasible, and its greatest flow is known.
 use Rattle.std.specs.Prelude.{◌≡◌, ◌<◌, ℕ, true, List, Option, IfSome, length}
 use Rattle.number_sets.specs.Sets.{has}
 use Rattle.problem_rules.specs.Problem.{Problem}

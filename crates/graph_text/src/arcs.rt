@@ -21,7 +21,7 @@ use pns_tables::size_at;
 use report_amounts::material_of;
 use std::alloc::AllocError;
 
-/// The rate of an arc, where it is not 1.
+/// The rate of an arc, if it is not 1.
 fn push_rate(text: &mut String, rate: i64) -> Result<(), AllocError>
     ensures { OnOk result (string_bytes text.new ≡ string_bytes text.old ++ rate_label rate) }
 {
@@ -149,7 +149,7 @@ fn push_tip(text: &mut String, picture: &Picture<'_>, u: u32, term: &Term) -> Re
     Ok(())
 }
 
-/// Appends what stands behind the nodes of the arc of a term.
+/// Appends the rest of the line of the arc of a term, after its two nodes.
 fn push_end(text: &mut String, picture: &Picture<'_>, u: u32, term: &Term) -> Result<(), AllocError>
     requires { u < length picture.now.problem.units }
     ensures { OnOk result (string_bytes text.new ≡ string_bytes text.old ++ arc_end (picture_of picture.now) u term.now) }

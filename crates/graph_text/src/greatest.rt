@@ -31,7 +31,7 @@ fn greater(least: u128, number: u128) -> u128
     if least < number { number } else { least }
 }
 
-/// The greatest flow of the arcs of these terms of the unit, `least` at least.
+/// The greatest flow of the arcs of these terms of the unit, or `least` if none is above it.
 fn most_of(problem: &Problem, network: &Network, u: u32, least: u128, terms: &[Term]) -> u128
     requires unit { u < length problem.now.units }
     requires in_network { has network.now.units u ≡ true }
@@ -46,7 +46,7 @@ fn most_of(problem: &Problem, network: &Network, u: u32, least: u128, terms: &[T
     most
 }
 
-/// The greatest flow of the arcs of the unit, `least` at least.
+/// The greatest flow of the arcs of the unit, or `least` if none is above it.
 fn most_at(problem: &Problem, network: &Network, least: u128, u: u32) -> u128
     requires unit { u < length problem.now.units }
     requires in_network { has network.now.units u ≡ true }
@@ -69,7 +69,7 @@ fn greatest_in(problem: &Problem, network: &Network) -> u128
     most
 }
 
-/// The greatest flow of an arc of the network, where one is given, in 10^-12 over its `d`.
+/// The greatest flow of an arc of the network in 10^-12 over its `d`, or 0 without a network.
 pub(crate) fn greatest_flow(problem: &Problem, network: Option<&Network>) -> u128
     requires { IfSome network (λ n. IsFeasible problem.now n.now) }
     ensures { result ≡ greatest_flow problem.now (option_map (λ n. n.now) network.entry) }

@@ -1,4 +1,4 @@
-//! Where a number is at one of its bounds.
+//! Whether a number is at one of its bounds.
 ghost use Rattle.std.specs.Prelude.{◌≡◌, ◌<◌, ◌*ℤ◌, ◌&&◌, ◌||◌, not, pos, true, length};
 ghost use Rattle.std.specs.Ordering.{int_eq};
 ghost use Rattle.integer_laws.specs.Range.{InRange};
@@ -16,7 +16,7 @@ use pns_problem::{Kind, Problem};
 use pns_tables::size_at;
 use report_amounts::{flow_at, material_of, unit_of};
 
-/// Whether z over d is the bound. Where the product is out of range it is not z.
+/// Whether z over d is the bound. A product that overflows is not z, which is in range.
 fn is_at(z: i128, bound: i128, d: i128) -> bool
     requires { InRange z }
     ensures { result ≡ int_eq z (bound *ℤ d) }

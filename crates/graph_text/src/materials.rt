@@ -34,7 +34,7 @@ fn is_in(picture: &Picture<'_>, network: &Network, j: u32) -> bool
     materials.has(j)
 }
 
-/// Appends what comes in of a material of the network or goes out of it.
+/// Appends the amount of a material of the network that comes in or goes out.
 fn push_net_of(
     text: &mut String,
     problem: &Problem,
@@ -69,7 +69,7 @@ fn push_flow_in(
     }
 }
 
-/// Appends what comes in of the material or goes out of it, where a network is given.
+/// Appends the amount of the material that comes in or goes out, if a network is given.
 fn push_flow(text: &mut String, picture: &Picture<'_>, j: u32) -> Result<(), AllocError>
     requires { j < length picture.now.problem.materials }
     ensures { OnOk result (string_bytes text.new ≡ string_bytes text.old ++ material_flow picture.now.problem picture.now.network j) }

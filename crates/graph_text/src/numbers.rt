@@ -24,7 +24,7 @@ fn push_exact(text: &mut String, number: i64) -> Result<(), AllocError>
     )
 }
 
-/// Words, and a number of the plant behind them.
+/// Appends the words, and after them a number of the plant.
 pub(crate) fn push_told(text: &mut String, words: &str, number: i64) -> Result<(), AllocError>
     ensures { OnOk result (string_bytes text.new ≡ string_bytes text.old ++ told words.now number) }
 {
@@ -99,7 +99,7 @@ fn push_paid(text: &mut String, price: i64, flow: i128, d: i128) -> Result<(), A
     paid.push(text)
 }
 
-/// A price and what is paid at it; nothing where it is 0.
+/// A price, and what is paid at it. For a price of 0 nothing is appended.
 fn push_money(text: &mut String, price: i64, flow: i128, d: i128) -> Result<(), AllocError>
     requires in_range { InRange flow }
     requires d_in_range { InRange d }
@@ -126,7 +126,7 @@ fn push_some_net(text: &mut String, price: i64, net: i128, d: i128) -> Result<()
     push_money(text, price, net, d)
 }
 
-/// The same; nothing where it is 0.
+/// The same. For an amount of 0 nothing is appended.
 pub(crate) fn push_net(text: &mut String, price: i64, net: i128, d: i128) -> Result<(), AllocError>
     requires in_range { InRange net }
     requires d_in_range { InRange d }

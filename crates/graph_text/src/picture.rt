@@ -15,7 +15,7 @@ use pns_problem::Problem;
 use std::marker::Model;
 use unit_sets::UnitSet;
 
-/// Some units of a plant with their materials, and a network in it, where one is given.
+/// Some units of a plant with their materials, and a network in it if one is given.
 #[derive(Drop)]
 pub(crate) struct Picture<'a> {
     problem: &'a Problem,
@@ -38,7 +38,7 @@ impl<'a> Model for Picture<'a> {
 }
 
 impl<'a> Picture<'a> {
-    /// The picture of these units, and in it the network, where one is given.
+    /// The picture of these units, with the network in it if one is given.
     pub(crate) fn of(site: &Site<'a>, network: Option<&'a Network>, units: UnitSet) -> Picture<'a>
         requires known { (u : ℕ) → has units u ≡ true → u < length site.now.units }
         requires feasible { IfSome network (λ n. IsFeasible site.now n.now) }
@@ -76,7 +76,7 @@ impl<'a> Picture<'a> {
         self.graph
     }
 
-    /// The network, where one is given.
+    /// The network, if one is given.
     pub(crate) fn network(&self) -> Option<&'a Network>
         ensures same { option_map (λ n. n.now) result ≡ self.now.network }
         ensures feasible { IfSome result (λ n. IsFeasible self.now.problem n.now) }
@@ -99,7 +99,7 @@ impl<'a> Picture<'a> {
         self.greatest
     }
 
-    /// The units of the network, where one is given.
+    /// The units of the network, or none without a network.
     fn taken(&self) -> UnitSet
         ensures value { has result ≡ is_taken self.now.network }
         ensures known { (u : ℕ) → has result u ≡ true → u < length self.now.problem.units }
@@ -110,7 +110,7 @@ impl<'a> Picture<'a> {
         }
     }
 
-    /// The units of which the users of the material count.
+    /// The units that count if they use the material.
     fn counting(&self, j: u32) -> UnitSet
         requires { j < length self.now.problem.materials }
         ensures value { has result ≡ counts (picture_of self.now) j }

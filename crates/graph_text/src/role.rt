@@ -31,7 +31,7 @@ pub(crate) fn role_of(picture: &Picture<'_>, u: u32) -> Role
     }
 }
 
-/// That in a network.
+/// The part of the unit in this network.
 pub(crate) fn role_in(problem: &Problem, network: &Network, u: u32) -> Role
     requires { u < length problem.now.units }
     ensures { result ≡ role_of problem.now (Some network.now) u }
@@ -47,7 +47,7 @@ pub(crate) fn role_in(problem: &Problem, network: &Network, u: u32) -> Role
     }
 }
 
-/// Whether the unit is one of the network, where there is one.
+/// Whether the unit is one of the network; without a network each unit is.
 pub(crate) fn is_built(picture: &Picture<'_>, u: u32) -> bool
     requires { u < length picture.now.problem.units }
     ensures { result ≡ is_built picture.now.network u }

@@ -126,7 +126,7 @@ fn push_picture(text: &mut String, picture: &Picture<'_>) -> Result<(), AllocErr
     Ok(())
 }
 
-/// The graph of these units, and in it the network, where one is given.
+/// The graph of these units, with the network in it if one is given.
 pub fn graph_of(
     alloc: Global,
     site: &Site<'_>,

@@ -53,7 +53,7 @@ fn push_size_in(
     }
 }
 
-/// Appends the size and the cost of a unit, where it is in a network.
+/// Appends the size and the cost of a unit, if it is in a network.
 fn push_size(text: &mut String, picture: &Picture<'_>, u: u32) -> Result<(), AllocError>
     requires { u < length picture.now.problem.units }
     ensures { OnOk result (string_bytes text.new ≡ string_bytes text.old ++ unit_size picture.now.problem picture.now.network u) }

@@ -1,4 +1,4 @@
-//! The members that tell the verdict and the claim.
+//! The members with the verdict and the claim.
 ghost use Rattle.std.specs.Prelude.{◌≡◌, IfOk, codes};
 ghost use Rattle.branch_tree.specs.View.{claim_of};
 ghost use Rattle.json_rules.specs.Json.{member};

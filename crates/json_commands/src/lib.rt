@@ -1,8 +1,10 @@
-//! The command `json`: what a tree proves of its claim, and the facts of the claimed network, as one JSON object.
+//! The command `json`: the verdict is that of `report`, and each number is exact.
 //!
-//! It judges the text as `report` does. `Json` of `studio_rules` has the lines, which those of `json_text` are behind the head.
+//! It prints what a tree proves of its claim, and the facts of the network of the claim, as one
+//! JSON object. `Json` of `studio_rules` has its lines: the head, and then those of `json_text`.
 //!
-//! Modules: `head`, the verdict and the claim; `text`, the whole; `call`, the way from the files to the text.
+//! Modules: `head`, the verdict and the claim; `text`, the whole; `call`, the way from the files to
+//! the text.
 #![tactic(auto)]
 
 mod call;

@@ -13,7 +13,7 @@ use pgraph::Site;
 use report_rules::Verdict;
 use std::alloc::{AllocError, Global};
 
-/// What the head is the head of.
+/// The object that begins with the members of the head.
 fn text_behind(
     alloc: Global,
     head: &[Json],
@@ -29,7 +29,7 @@ fn text_behind(
     }
 }
 
-/// What the tree proves, and the facts of a claimed network.
+/// What the tree proves, and the facts of the network if one is claimed.
 pub(crate) fn json_text(
     alloc: Global,
     site: &Site<'_>,

@@ -1,4 +1,4 @@
--- What is appended piece after piece.
+-- Pieces appended one after another.
 use Rattle.std.proofs.Common.{◌≡◌, ℕ, List, [], ◌∷◌, ◌++◌, map, refl, sym, ap, ◌∙◌, append_assoc, append-nil}
 use Rattle.std.specs.Prelude.{Result, Ok, Err, OnOk}
 use Rattle.pns_problem.specs.Printing.{printed}
@@ -37,7 +37,7 @@ pub four_blocks : (old t1 t2 t3 t4 : List ℕ) (a b c d : List (List ℕ)) → t
     → t4 ≡ old ++ printed (a ++ (b ++ (c ++ d)))
 four_blocks old t1 t2 t3 t4 a b c d e f g h = two_blocks old t1 t4 a (b ++ (c ++ d)) e (three_blocks t1 t2 t3 t4 b c d f g h)
 
--- lines with a comma behind each but the last
+-- lines with a comma after each but the last
 pub comma_lines_last : (front : List (List ℕ)) (last : List ℕ) → comma_lines (front ++ last ∷ []) ≡ map with_comma front ++ last ∷ []
 comma_lines_last [] last = refl
 comma_lines_last (x ∷ []) last = refl

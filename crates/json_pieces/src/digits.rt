@@ -30,7 +30,7 @@ fn sum_of(left: u128, right: u128, den: u128) -> Rest
     }
 }
 
-/// Ten times a rest. No number beyond the divisor is formed for it.
+/// Ten times a rest. It forms no number above the divisor.
 fn tenfold(rest: u128, den: u128) -> Rest
     requires { rest < den }
     ensures product { 10 * rest ≡ result.times * den + result.rest }
@@ -54,7 +54,7 @@ pub(crate) struct Decimal {
     pub(crate) places: u32,
 }
 
-/// Rounded by what is left of it.
+/// Rounded by what is left of the division.
 fn nearest(number: u128, rest: u128, den: u128) -> u128
     requires rest { rest < den }
     requires room { number < 2 ^ 127 }
@@ -67,7 +67,8 @@ fn nearest(number: u128, rest: u128, den: u128) -> u128
     }
 }
 
-/// num / den with the least number of places, of at most 55, that give it 17 digits, rounded to the nearest.
+/// num / den, rounded to the nearest, with the least number of places that gives it 17 digits.
+/// There are at most 55 places.
 pub(crate) fn decimal_of(num: u128, den: u128) -> Decimal
     requires room { num < 2 ^ 127 }
     requires positive { 0 < den }

@@ -1,9 +1,10 @@
 //! Pieces of JSON text: strings, numbers, arrays and objects.
 //!
-//! `Json` and `Value` of `json_rules` have their bytes. A number is told twice, in decimal with 17 digits and exactly.
+//! `Json` and `Value` of `json_rules` have their bytes. A number is printed twice: in decimal with
+//! 17 digits, and exactly.
 //!
-//! Modules: `piece`, pieces and what they are put together of; `digits`, a fraction rounded to 17 digits; `value`, its text; `lines`,
-//! pieces in lines of their own.
+//! Modules: `piece`, pieces and what they are made of; `digits`, a fraction rounded to 17 digits;
+//! `value`, its text; `lines`, pieces in lines of their own.
 #![tactic(auto)]
 
 mod digits;

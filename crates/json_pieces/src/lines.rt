@@ -23,7 +23,7 @@ fn push_with_comma(text: &mut Vec<u8>, line: &[u8]) -> Result<(), AllocError>
     Ok(())
 }
 
-/// Appends a line for each piece, with a comma behind it.
+/// Appends a line for each piece, with a comma after it.
 pub fn push_with_commas(text: &mut Vec<u8>, pieces: &[Json]) -> Result<(), AllocError>
     ensures { OnOk result (text.new.items ≡ text.old.items ++ printed (map with_comma pieces.now)) }
 {
@@ -33,7 +33,7 @@ pub fn push_with_commas(text: &mut Vec<u8>, pieces: &[Json]) -> Result<(), Alloc
     Ok(())
 }
 
-/// Appends a line for each piece, with a comma behind each but the last.
+/// Appends a line for each piece, with a comma after each but the last.
 pub fn push_comma_lines(text: &mut Vec<u8>, pieces: &[Json]) -> Result<(), AllocError>
     ensures { OnOk result (text.new.items ≡ text.old.items ++ printed (comma_lines pieces.now)) }
 {
@@ -46,7 +46,7 @@ pub fn push_comma_lines(text: &mut Vec<u8>, pieces: &[Json]) -> Result<(), Alloc
     }
 }
 
-/// Appends an array under its key with a line for each value, and a comma behind the whole.
+/// Appends an array under its key, with a line for each value, and a comma after the array.
 pub fn push_array(text: &mut Vec<u8>, key: &str, values: &[Json]) -> Result<(), AllocError>
     ensures { OnOk result (text.new.items ≡ text.old.items ++ printed (array_lines key.now values.now)) }
 {

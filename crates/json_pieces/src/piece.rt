@@ -31,7 +31,7 @@ impl Json {
         &self.bytes
     }
 
-    /// Text as it stands.
+    /// The text unchanged.
     fn plain(alloc: Global, text: &str) -> Result<Json, AllocError>
         ensures { IfOk result (λ json. json ≡ text.now) }
     {
@@ -64,7 +64,7 @@ impl Json {
         Ok(Json { bytes })
     }
 
-    /// A number twice: in decimal with 17 digits, and exactly. Where there is none, both are `null`.
+    /// A number twice: in decimal with 17 digits, and exactly. If there is none, both are `null`.
     #[tactic(auto, unfolding(json_rules::specs::Value::number_json))]
     pub fn number(alloc: Global, number: Option<Frac>) -> Result<Json, AllocError>
         ensures { IfOk result (λ json. json ≡ number_json (option_map (λ f. record { num = f.num; den = f.den }) number)) }
@@ -129,7 +129,7 @@ impl Json {
     }
 }
 
-/// Appends a byte of a string: a quotation mark and a backslash behind a backslash.
+/// Appends a byte of a string, with a backslash before a quotation mark or a backslash.
 fn push_byte(text: &mut Vec<u8>, byte: u8) -> Result<(), AllocError>
     ensures { OnOk result (text.new.items ≡ text.old.items ++ escaped byte) }
 {
@@ -159,7 +159,7 @@ pub(crate) fn push_quoted(text: &mut Vec<u8>, words: &str) -> Result<(), AllocEr
     Ok(())
 }
 
-/// Appends a piece behind a comma and a space.
+/// Appends a comma, a space and a piece.
 fn push_next(text: &mut Vec<u8>, piece: &[u8]) -> Result<(), AllocError>
     ensures { OnOk result (text.new.items ≡ text.old.items ++ 44 ∷ 32 ∷ piece.now) }
 {

@@ -15,7 +15,7 @@ struct Parts {
     rest: u128,
 }
 
-/// The number over the power of ten. No power that is beyond 128 bits is formed for it.
+/// The number over the power of ten. It forms no power above 128 bits.
 fn parts_of(number: u128, places: u32) -> Parts
     ensures whole { result.whole ≡ number / 10 ^ places }
     ensures rest { result.rest ≡ number % 10 ^ places }

@@ -19,7 +19,7 @@ use report_tables::left_out;
 use std::alloc::{AllocError, Global};
 use unit_sets::UnitSet;
 
-/// The claimed cost, in 10^-18 and over the payout period.
+/// The cost of the network in 10^-18, not yet divided by the payout period.
 #[tactic(auto, unfolding(report_rules::specs::Amounts::quotient))]
 fn claimed(network: &Network) -> Number
     ensures { result ≡ quotient network.now.cost network.now.d }
@@ -38,7 +38,7 @@ fn year(problem: &Problem) -> Number
     Number::of(1, scale)
 }
 
-/// The claimed cost of one year.
+/// The cost of the network for one year.
 fn total(problem: &Problem, network: &Network) -> Number
     ensures { result ≡ facts.total problem.now network.now }
 {
@@ -125,7 +125,7 @@ fn left_out_member(alloc: Global, site: &Site<'_>, network: &Network) -> Result<
     Ok(member)
 }
 
-/// Appends the lines behind the materials.
+/// Appends the lines after the materials.
 pub(crate) fn push_foot(
     alloc: Global,
     text: &mut Vec<u8>,

@@ -67,7 +67,7 @@ fn payout_member(alloc: Global, site: &Site<'_>) -> Result<Json, AllocError>
     Ok(member)
 }
 
-/// Appends the lines before the units, behind those of the members that are given.
+/// Appends the lines of the given members, and then those before the units.
 pub(crate) fn push_head(
     alloc: Global,
     text: &mut Vec<u8>,

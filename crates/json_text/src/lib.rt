@@ -1,9 +1,11 @@
-//! The facts of a claimed network for one year as one JSON object.
+//! The exact facts of a network as one JSON object. They are those of one year.
 //!
-//! `Facts` of `json_rules` has its lines: those of the report, in its order, with the numbers of `report_amounts`. [`facts_of`] gives
-//! their bytes, and [`bare_of`] those of a claim without a network.
+//! `Facts` of `json_rules` has its lines: those of the report, in its order, with the numbers of
+//! `report_amounts`. [`facts_of`] gives their bytes, and [`bare_of`] those of a claim without a
+//! network.
 //!
-//! Modules: `members`, values under their keys; `head`, `units`, `materials` and `foot`, the parts; `text`, the whole.
+//! Modules: `members`, values under their keys; `head`, `units`, `materials` and `foot`, the parts;
+//! `text`, the whole.
 #![tactic(auto)]
 
 mod foot;

@@ -14,7 +14,7 @@ use report_rules::UnitAmount;
 use report_tables::{NO_BOUND, unit_limit};
 use std::alloc::{AllocError, Global};
 
-/// The share of the upper bound, where that is above 0 and a bound.
+/// The share of the upper bound. It is `null` if that bound is not above 0, or stands for none.
 #[tactic(auto, unfolding(json_rules::specs::Facts::share_json))]
 fn share_json(
     alloc: Global,

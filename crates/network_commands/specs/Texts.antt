@@ -1,4 +1,4 @@
--- What a command says of a claimed network, by what is asked of it.
+-- What a command prints of the network of a claim, for each text.
 use Rattle.std.specs.Prelude.{ℕ, List}
 use Rattle.problem_rules.specs.Problem.{Problem}
 use Rattle.tree_rules.specs.Claim.{Network}

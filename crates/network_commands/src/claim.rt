@@ -17,7 +17,7 @@ use std::alloc::Global;
 use studio_rules::Status;
 use tree_rules::Why;
 
-/// Says why a claim is refused.
+/// Prints why a claim is refused.
 pub fn say_refused<K: Sink, E: Sink>(alloc: Global, out: &mut Outputs<K, E>, why: Why) -> Status
     ensures { Ends (OrMemory (Only BadClaim (line (claim_line why)))) out.old out.new result }
 {
@@ -30,8 +30,8 @@ pub fn say_refused<K: Sink, E: Sink>(alloc: Global, out: &mut Outputs<K, E>, why
     )
 }
 
-/// The network of a claim of which each line holds. Where the claim has no network, or a line of it fails, the line that tells why
-/// is out, and the status is that of the call.
+/// The network of a claim of which each line holds. If the claim has no network, or a line of it
+/// fails, the line that says why is printed, and `Err` has the status of the call.
 pub fn network_of<K: Sink, E: Sink>(
     alloc: Global,
     out: &mut Outputs<K, E>,

@@ -23,7 +23,7 @@ use std::alloc::{AllocError, Global};
 use studio_rules::Status;
 use unit_sets::UnitSet;
 
-/// The graph of the maximal structure, and in it the network, where one is given.
+/// The graph of the maximal structure, with the network in it if one is given.
 fn drawn(alloc: Global, site: &Site<'_>, network: Option<&Network>) -> Result<Vec<u8>, AllocError>
     requires feasible { IfSome network (λ n. IsFeasible site.now n.now) }
     ensures { IfOk result (λ bytes. (lines : List (List ℕ)) × AreGraphLines site.now (option_map (λ n. n.now) network.entry) lines × (bytes.items ≡ text_of lines)) }
@@ -59,7 +59,7 @@ fn say_plant<K: Sink, E: Sink>(alloc: Global, out: &mut Outputs<K, E>, problem: 
     }
 }
 
-/// Says the graph of the maximal structure of the file's problem, for Graphviz.
+/// Prints the graph of the maximal structure of the file's problem, for Graphviz.
 pub fn plant_graph<F: Shelf, K: Sink, E: Sink>(
     alloc: Global,
     file: &str,
@@ -75,7 +75,7 @@ pub fn plant_graph<F: Shelf, K: Sink, E: Sink>(
     }
 }
 
-/// Says the same with the network that the tree of the other file claims on the problem.
+/// Prints the same, with the network that the tree of the other file claims on the problem.
 pub fn graph<F: Shelf, K: Sink, E: Sink>(
     alloc: Global,
     file: &str,

@@ -1,11 +1,15 @@
-//! The commands that tell a claimed network, and the graph that it lies in: `table`, `graph` and `report`.
+//! The commands `table`, `graph` and `report` judge the claim; `report` says `PROVED` exactly if
+//! `check` accepts.
 //!
-//! Each reads a problem, and all but `graph FILE` a tree, of which the claim's lines alone are judged; `report` judges its nodes too, and
-//! tells what they prove. Its contract says which text is out with which status. `Network` of `studio_rules` has what all of them say of a claim that is refused, and `Table`, `Graph` and
-//! `Report` there have the texts.
+//! Each reads a problem, and all but `graph FILE` read a tree, too. They print the network of its
+//! claim, and `graph` the graph that it lies in. `table` and `graph` judge the lines of the claim
+//! alone. `report` judges the nodes too, and prints what they prove. The contract of each says
+//! which text is printed with which status. In `studio_rules`, `Network` has what all of them print
+//! of a claim that is refused, and `Table`, `Graph` and `Report` have the texts.
 //!
-//! Modules: `claim`, which gives the network of a claim or refuses it; `network`, the way from the files to the text of a network;
-//! `table`, `graph` and `report`; `verdict_lines`, the text of a report.
+//! Modules: `claim`, which gives the network of a claim or refuses it; `network`, the way from the
+//! files to the text of a network; `table`, `graph` and `report`; `verdict_lines`, the text of a
+//! report.
 #![tactic(auto)]
 
 mod claim;

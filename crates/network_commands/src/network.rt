@@ -23,7 +23,7 @@ use pns_problem::Problem;
 use std::alloc::{AllocError, Global};
 use studio_rules::Status;
 
-/// What is said of a network.
+/// Which text of a network is printed.
 #[derive(Clone, Copy, Debug, PartialEq, Eq)]
 pub enum NetworkText {
     /// Its units and its materials as tables for a spreadsheet.
@@ -101,7 +101,8 @@ fn say_tree<F: Shelf, K: Sink, E: Sink>(
     }
 }
 
-/// Says what is asked of the network that the tree of the one file claims on the problem of the other.
+/// Prints this text of the network that the tree of the one file claims on the problem of the
+/// other.
 pub(crate) fn say_of_network<F: Shelf, K: Sink, E: Sink>(
     alloc: Global,
     what: NetworkText,

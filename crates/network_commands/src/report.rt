@@ -19,7 +19,8 @@ use std::alloc::Global;
 use studio_rules::Status;
 use verdicts::{Unjudged, verdict_of};
 
-/// Says what the tree proves of the claim, and the claimed network; or else the first line of the claim that fails.
+/// Prints what the tree proves of the claim, and its network if it has one; or the first line of
+/// the claim that fails.
 fn say_judged<K: Sink, E: Sink>(
     alloc: Global,
     out: &mut Outputs<K, E>,
@@ -71,7 +72,8 @@ fn say_tree<F: Shelf, K: Sink, E: Sink>(
     }
 }
 
-/// Says what the tree of the one file proves on the problem of the other, and the network that it claims in tables for people.
+/// Prints what the tree of the one file proves on the problem of the other, and the network that it
+/// claims in tables for people.
 pub fn report<F: Shelf, K: Sink, E: Sink>(
     alloc: Global,
     file: &str,

@@ -34,7 +34,8 @@ pub(crate) fn tables(
     Ok(bytes)
 }
 
-/// Says the network that the tree of the one file claims on the problem of the other as two tables.
+/// Prints the network that the tree of the one file claims on the problem of the other as two
+/// tables.
 pub fn table<F: Shelf, K: Sink, E: Sink>(
     alloc: Global,
     file: &str,

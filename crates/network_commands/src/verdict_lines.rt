@@ -1,4 +1,4 @@
-//! What a tree proves, in a line, and the tables of a claimed network behind it.
+//! A line with what a tree proves, and after it the tables of the network of the claim.
 ghost use Rattle.std.specs.Prelude.{◌≡◌, ◌++◌, ◌∷◌, [], true, IfOk, OnOk, string_bytes};
 ghost use Rattle.tree_rules.specs.Claim as claims;
 ghost use Rattle.tree_rules.specs.Claim.{ClaimPasses};
@@ -97,7 +97,7 @@ fn first_text(
     Ok(text.into_bytes())
 }
 
-/// The tables of the network, where one is claimed.
+/// The tables of the network, if one is claimed.
 fn tables_of(alloc: Global, site: &Site<'_>, claim: &Claim) -> Result<Vec<u8>, AllocError>
     requires passes { ClaimPasses true site.now (claim_of claim.now) }
     ensures { IfOk result (λ bytes. bytes.items ≡ text_of (tables_of site.now (claim_of claim.now))) }
@@ -108,7 +108,7 @@ fn tables_of(alloc: Global, site: &Site<'_>, claim: &Claim) -> Result<Vec<u8>, A
     }
 }
 
-/// What the tree proves, and the tables of a claimed network.
+/// What the tree proves, and the tables of the network if one is claimed.
 pub fn verdict_text(
     alloc: Global,
     site: &Site<'_>,

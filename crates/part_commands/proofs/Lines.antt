@@ -1,4 +1,4 @@
--- The lines of a listing of open leaves that is put leaf by leaf.
+-- The lines of a listing of open leaves, printed leaf by leaf.
 use Rattle.std.proofs.Common.{◌≡◌, ◌++◌, ◌+◌, ◌<◌, ◌≤◌, ℕ, zero, suc, List, [], ◌∷◌, codes, length, map, take, drop, get_or, refl, sym, ap, subst, ◌∙◌, arith, inr, append_assoc, append-nil, add-one}
 use Rattle.std.specs.Io.KnownBytes.{Appends}
 use Rattle.std.proofs.KnownBytes.{Appends-nil, Appends-trans}
@@ -39,7 +39,7 @@ module _ (leaves : List OpenLeaf) where
       ∙ ap (λ (ls : List (List ℕ)). ls ++ codes "end" ∷ []) (map-append part_line (leaves_at (take i leaves)) (leaves_at (drop i leaves)))
       ∙ append_assoc (lines_before i) (map part_line (leaves_at (drop i leaves))) (codes "end" ∷ [])
 
-  -- the lines of the leaves before place i are out
+  -- the lines of the leaves before place i are printed
   pub record AreOut (i : ℕ) (old new : SinkState) : Type 0 where
     pub out : Appends old.written new.written (text_of (lines_before i))
 
@@ -71,7 +71,7 @@ module _ (leaves : List OpenLeaf) where
             (lines_before i, inr (Done, split_lines (leaves_at leaves), lines_from i, (refl, refl), cut i), refl),
           )) later
 
-      -- all leaves are told
+      -- the lines of all leaves are printed
       pub ended : length leaves ≤ i → Ends (Only Done (line (codes "end"))) mid new status → Ends (Tells (LeavesSay (leaves_at leaves))) old new status
       ended le =
           let behind : lines_from i ≡ codes "end" ∷ [] = ap (λ (ls : List OpenLeaf). map part_line (leaves_at ls) ++ codes "end" ∷ []) (none_behind leaves i le) in
@@ -91,7 +91,7 @@ module _ (leaves : List OpenLeaf) where
           none_behind (x ∷ xs) zero h = absurd (omega arith)
           none_behind (x ∷ xs) (suc k) h = none_behind xs k (omega arith)
 
-    -- the line of the next leaf is cut off
+    -- of the line of the next leaf only a front is printed
     pub stopped : (new : OutputsState) (leaf : OpenLeaf) (piece : List ℕ) → i < length leaves → leaf ≡ get_or leaves i leaf → HasRisen old.out.faults new.out.faults → piece ≡ line (part_line (leaf_at leaf)) → AppendsFront mid.out.written new.out.written piece → new.err ≡ old.err → Ends (Tells (LeavesSay (leaves_at leaves))) old new WriteFault
     stopped new leaf piece lt here rose piece_is front quiet =
         let behind : List (List ℕ) = lines_from (suc i) in

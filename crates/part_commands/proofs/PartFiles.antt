@@ -47,7 +47,7 @@ module _ (held : List ℕ → Told) (p : Problem) where
   pub all_given : (names : List (List ℕ)) (i : ℕ) (ps : List Part) → i ≡ length names → GiveBefore names i ps → GiveParts held p names ps
   all_given names i ps e before = subst (λ (ns : List (List ℕ)). GiveParts held p ns ps) (ap (λ (k : ℕ). take k names) e ∙ take-length names) before.give
 
--- ---- what is said, over the shelf as it was left
+-- ---- what is printed, over the shelf as it was left
 
 module _ (names : List (List ℕ)) (p : Problem) (old mid new : ShelfState) (keeps : (other : List ℕ) → mid.held other ≡ old.held other) (later : (other : List ℕ) → old.faults other ≤ mid.faults other) where
   same_held : mid.held ≡ old.held
@@ -69,7 +69,7 @@ module _ (names : List (List ℕ)) (p : Problem) (old mid new : ShelfState) (kee
       })
       (λ other e. subst (Contains names) (sym e) (place, lt, sym here)) later
 
-  -- of the work behind TREE
+  -- of the work that follows the reading of TREE
   pub tree_told : (tree : List ℕ) (claim : Claim) (ts : Tree) → (file : List ℕ) × AreHeld (old.held tree) file × GivesTree p file claim ts
       → (s : Status) (t : List ℕ) → Says (MergeWork mid.held names p claim ts) (Contains names) mid new s t → Says (OnTree (MergeWork old.held names) old.held tree p) (λ other. (other ≡ tree) ⊎ Contains names other) old new s t
   tree_told tree claim ts given =
@@ -77,7 +77,7 @@ module _ (names : List (List ℕ)) (p : Problem) (old mid new : ShelfState) (kee
       (λ s lines h. (given.0, given.1, inr (claim, ts, given.2, subst (λ (held : List ℕ → Told). MergeWork held names p claim ts s lines) same_held h)))
       (λ other h. inr h) later
 
-  -- of the work behind FILE
+  -- of the work that follows the reading of FILE
   pub file_told : (file tree : List ℕ) → (bytes : List ℕ) × AreHeld (old.held file) bytes × GivesProblem bytes p
       → (s : Status) (t : List ℕ) → Says (OnTree (MergeWork mid.held names) mid.held tree p) (λ other. (other ≡ tree) ⊎ Contains names other) mid new s t
       → Says (OnFile (OnTree (MergeWork old.held names) old.held tree) old.held file) (λ other. (other ≡ file) ⊎ ((other ≡ tree) ⊎ Contains names other)) old new s t

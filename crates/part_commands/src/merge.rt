@@ -75,7 +75,7 @@ fn no_leaf_line(alloc: Global, several: bool, name: &str) -> Result<String, Allo
     Ok(text)
 }
 
-// Says why the tree is refused.
+// Prints why the tree is refused.
 fn say_tree_refused<K: Sink, E: Sink>(
     alloc: Global,
     out: &mut Outputs<K, E>,
@@ -94,7 +94,7 @@ fn say_tree_refused<K: Sink, E: Sink>(
     }
 }
 
-// Says why a part is refused.
+// Prints why a part is refused.
 fn say_part_refused<K: Sink, E: Sink>(
     alloc: Global,
     out: &mut Outputs<K, E>,
@@ -119,7 +119,7 @@ fn say_part_refused<K: Sink, E: Sink>(
     }
 }
 
-// Says why a part is not put back.
+// Prints why a part is not put back.
 fn say_fault<K: Sink, E: Sink>(
     alloc: Global,
     out: &mut Outputs<K, E>,
@@ -157,7 +157,7 @@ fn say_tree_text<K: Sink, E: Sink>(
     say_printed(out, printed, Status::Done)
 }
 
-// Puts the parts back in turn and prints what comes of it, or says which is not put back, and why.
+// Puts the parts back in turn. Prints the resulting tree, or which part is not put back, and why.
 fn say_put_back<K: Sink, E: Sink>(
     alloc: Global,
     out: &mut Outputs<K, E>,
@@ -244,8 +244,8 @@ fn say_tree<F: Shelf, K: Sink, E: Sink>(
     }
 }
 
-/// Puts the parts of the other files back in the tree of the one file, in turn, and prints the tree that comes of it with what it
-/// proves but for its open leaves.
+/// Puts the parts of the other files back in the tree of the one file, one after another. Prints
+/// the resulting tree with what it proves but for its open leaves.
 pub fn merge<F: Shelf, K: Sink, E: Sink>(
     alloc: Global,
     file: &str,

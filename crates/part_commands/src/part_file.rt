@@ -25,7 +25,7 @@ use tree_text_rules::TreeKind;
 /// The most bytes of a part file.
 const PART_LIMIT: u64 = 268_435_456;
 
-/// The words by which a line speaks of a part: with the name of its file, where there are several.
+/// The words by which a line names a part: with the name of its file, if there are several.
 pub(crate) fn push_part(text: &mut String, several: bool, name: &str) -> Result<(), AllocError>
     ensures { OnOk result (string_bytes text.new ≡ string_bytes text.old ++ part_words several name.now) }
 {
@@ -56,8 +56,8 @@ fn part_fault_line(
     Ok(text)
 }
 
-// Reads the file and judges its text as a part for the problem. Where that gives none the text that tells why is out, and the status
-// is that of the call.
+// Reads the file, and judges its text as a part for the problem. If that gives none, the text that
+// says why is printed, and `Err` has the status of the call.
 fn part_of<F: Shelf, K: Sink, E: Sink>(
     alloc: Global,
     shelf: &mut F,
@@ -91,8 +91,8 @@ fn part_of<F: Shelf, K: Sink, E: Sink>(
     }
 }
 
-/// Reads the files and judges the text of each as a part for the problem, in order. Where one gives none the text that tells why is
-/// out, and the status is that of the call.
+/// Reads the files, and judges the text of each as a part for the problem, in order. If one gives
+/// none, the text that says why is printed, and `Err` has the status of the call.
 pub(crate) fn parts_of<F: Shelf, K: Sink, E: Sink>(
     alloc: Global,
     shelf: &mut F,

@@ -49,7 +49,7 @@ fn part_line(alloc: Global, leaf: &OpenLeaf) -> Result<String, AllocError>
     Ok(text)
 }
 
-/// Puts a line for each open leaf, and the last line.
+/// Prints a line for each open leaf, and the last line.
 fn say_leaves<K: Sink, E: Sink>(
     alloc: Global,
     out: &mut Outputs<K, E>,
@@ -68,7 +68,7 @@ fn say_leaves<K: Sink, E: Sink>(
     say(out, b"end\n", Status::Done)
 }
 
-/// Says the open leaves of the tree, or else the first line of the claim or the first node that fails.
+/// Prints the open leaves of the tree, or the first line of the claim or the first node that fails.
 fn say_open<K: Sink, E: Sink>(
     alloc: Global,
     out: &mut Outputs<K, E>,
@@ -125,8 +125,8 @@ fn say_tree<F: Shelf, K: Sink, E: Sink>(
     }
 }
 
-/// Says the open leaves of the tree of the one file on the problem of the other, each with the node at which it stands, where the tree
-/// proves its claim but for them.
+/// Prints the open leaves of the tree of the one file on the problem of the other, each with its
+/// node. It does so only if the tree proves its claim but for them.
 pub fn split<F: Shelf, K: Sink, E: Sink>(
     alloc: Global,
     file: &str,

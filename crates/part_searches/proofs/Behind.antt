@@ -1,4 +1,4 @@
--- What is said of TREE behind FILE, over the shelf as it was left.
+-- What is printed of TREE after FILE is read, over the shelf as it was left.
 use Rattle.std.proofs.Common.{◌≡◌, ◌≤◌, ◌⊎◌, ℕ, List, inl, inr, subst}
 use Rattle.text_rules.specs.Outside.{Told}
 use Rattle.io_rules.specs.State.{ShelfState}
@@ -19,7 +19,7 @@ module _ (budget : ℕ) (file tree word other : List ℕ) where
       Says-map (FileFaults old.held file) (AllSay old.held) (λ name. name ≡ file) (λ name. (name ≡ file) ⊎ (name ≡ tree)) old new
       (λ s lines h. (h.0, h.1, inl h.2)) (λ name e. inl e)
 
-  -- a problem, and then what is said of it
+  -- a problem, and then what is printed of it
   pub file_work : (old mid new : ShelfState) (p : Problem) → (bytes : List ℕ) × AreHeld (old.held file) bytes × GivesProblem bytes p → ((name : List ℕ) → mid.held name ≡ old.held name) → ((name : List ℕ) → old.faults name ≤ mid.faults name)
       → (s : Status) (t : List ℕ) → Says (AgainstWork budget mid.held tree word other p) (λ name. name ≡ tree) mid new s t → Says (AllSay old.held) (λ name. (name ≡ file) ⊎ (name ≡ tree)) old new s t
   file_work old mid new p given keeps later =

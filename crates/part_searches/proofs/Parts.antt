@@ -33,7 +33,7 @@ pub record CanPrint (p : Problem) (c : Certificate) : Type 0 where
 some_is : {A : Type 0} (P : A → Type 0) (a b : A) → Some a ≡ Some b → P a → P b
 some_is P a b e h = subst P (let e' : a ≡ b = cc in e') h
 
--- what holds of a network holds of the one that is claimed, which is the same
+-- what is true of a network is true of the one that is claimed, which is the same
 pub network_is : (P : Network → Type 0) (w known : Network) → network w ≡ network known → P known → P w
 network_is P w known e h = subst P (let e' : known ≡ w = cc in e') h
 

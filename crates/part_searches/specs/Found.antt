@@ -17,7 +17,8 @@ use Rattle.studio_rules.specs.declared.status.Status.{Status}
 abbrev pub ReadsBack : Problem → Part → Type 0
 ReadsBack p part = PartReads p (part_text p part) (Ok part)
 
--- the text of a part, which reads as it, with the status that tells where the search stopped
+-- the text of a part, which reads back as it, with the status of its tail, which says why the
+-- search stopped
 abbrev pub TextSays : Problem → Part → Status → List (List ℕ) → Type 0
 TextSays p part status lines =
     (status ≡ status_of part.tail) × (lines ≡ spelled (part_text_lines p part))

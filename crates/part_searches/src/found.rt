@@ -20,8 +20,8 @@ use tree_parts::Part;
 use tree_text_laws::read_texts_are_spelled;
 use unit_sets::Node;
 
-// The text of the part of a run from the node reads as it. A call tells a proof so, and does
-// nothing.
+// The text of the part of a run from the node reads back as it. A call shows this to a proof, and
+// does nothing.
 fn reads_back(problem: &Problem, start: &Node, found: &Certificate)
     requires inside { AreUnits problem.now start.now.inside }
     requires outside { AreUnits problem.now start.now.outside }
@@ -47,7 +47,7 @@ fn part_of(start: Node, found: Certificate) -> Part
     Part::of(start, claim, tree, tail)
 }
 
-// Prints the part. The status tells where the search stopped.
+// Prints the part. The status is that of its tail, so it says why the search stopped.
 fn say_part<K: Sink, E: Sink>(
     alloc: Global,
     out: &mut Outputs<K, E>,

@@ -52,7 +52,7 @@ fn say_searched<K: Sink, E: Sink, W: Watch>(
     say_found(alloc, out, problem, start, found, budget)
 }
 
-// Searches them for a network that is cheaper than this one.
+// Searches the structures of the node for a network that is cheaper than this one.
 fn say_against<K: Sink, E: Sink, W: Watch>(
     alloc: Global,
     out: &mut Outputs<K, E>,
@@ -77,7 +77,8 @@ fn say_against<K: Sink, E: Sink, W: Watch>(
     say_found(alloc, out, problem, start, found, budget)
 }
 
-// A network is judged by the lines of the claim, and known to the search; another claim is passed over.
+// If the claim has a network, its lines are judged, and the search begins with the network. A claim
+// without a network is ignored.
 fn say_claimed<K: Sink, E: Sink, W: Watch>(
     alloc: Global,
     out: &mut Outputs<K, E>,
@@ -188,8 +189,9 @@ fn say_from_against<F: Shelf, K: Sink, E: Sink, W: Watch>(
     }
 }
 
-/// Says what a search of the structures of a node of the file's problem finds within the budget, as the text of a part. The words are
-/// the tokens of the units that are taken in at the node and of those that are left out.
+/// Prints what a search of the structures of a node of the file's problem finds within the budget,
+/// as the text of a part. The words are the tokens of the units that are taken in at the node and
+/// of those that are left out.
 pub fn part<F: Shelf, K: Sink, E: Sink, W: Watch>(
     alloc: Global,
     file: &str,
@@ -210,7 +212,8 @@ pub fn part<F: Shelf, K: Sink, E: Sink, W: Watch>(
     }
 }
 
-/// The same, where the search begins with the network that the tree of the other file claims as its best; a claim of none is passed over.
+/// The same, but the search begins with the network that the tree of the other file claims as its
+/// best. A claim without a network is ignored.
 pub fn part_against<F: Shelf, K: Sink, E: Sink, W: Watch>(
     alloc: Global,
     file: &str,

@@ -10,7 +10,7 @@ use pns_problem::Problem;
 use tree_parts::is_sound;
 use unit_sets::Node;
 
-/// The sound node that the words name; none exactly where they name none.
+/// The sound node that the words name. It is `None` if and only if they name none.
 pub(crate) fn start_of(
     problem: &Problem,
     graph: &Graph,

@@ -46,7 +46,7 @@ module _ (p : Problem) (few : length p.units ≤ 128) where
     one_set : (units others : List ℕ) → SetLine p before word line (Ok units) → SetLine p before word line (Ok others) → units ≡ others
     one_set units others h g = token_one units others (wider (length p.units) units few h.1.0) (wider (length p.units) others few g.1.0) (same_token (token_of units) (token_of others) h.0.1 g.0.1)
 
-  -- ---- lines one behind the other
+  -- ---- lines one after another
 
   module _ (before : List ℕ) (word : Token) (number : ℕ) (Read : List ℕ → List Line → Result Part Fault → Type 0)
       (once : (units : List ℕ) (lines : List Line) (r s : Result Part Fault) → Read units lines r → Read units lines s → r ≡ s) where

@@ -1,4 +1,4 @@
--- The part that the lines of a text stand for, or its first fault behind the first set.
+-- The part that the lines of a text stand for, or its first fault after the first set.
 use Rattle.std.proofs.Common.{◌≡◌, ℕ, suc, true, List, [], ◌∷◌, codes, Result, Err, sym, ap, ◌∙◌, subst, inl, inr}
 use Rattle.problem_rules.specs.Problem.{Problem}
 use Rattle.tree_text_rules.specs.Line.{Line, lines_of}
@@ -12,7 +12,7 @@ use Rattle.part_rules.specs.Read.{SetLine, FirstLine, StartReads, BehindType, Li
 use Rattle.part_text.specs.Lines.{IsTaken, HasKind, IsFaultAt}
 use Rattle.part_text.specs.Tells.{TellsPart}
 
--- ---- a line that is judged, and the lines behind it
+-- ---- a line that is judged, and the lines after it
 
 module _ (Judged : Line → Result (List ℕ) TreeKind → Type 0) (number : ℕ) (Read : List ℕ → List Line → Result Part Fault → Type 0) where
   first_taken : {lines : List Line} {units : List ℕ} {behind : List Line} (r : Result Part Fault) → IsTaken Judged lines units behind → Read units behind r → FirstLine Judged number lines Read r
@@ -22,7 +22,7 @@ module _ (Judged : Line → Result (List ℕ) TreeKind → Type 0) (number : ℕ
   first_bad line kind [] q e = λ i. Err (q i, e i)
   first_bad line kind (l ∷ lines) q judged = inl (kind, judged, λ i. Err (q i, kind))
 
--- ---- the lines behind the first set, and behind both
+-- ---- the lines after the first set, and after both
 
 abbrev BehindSets : Problem → List ℕ → List ℕ → List Line → Result Part Fault → Type 0
 BehindSets p inside outside lines result = result ≡ with_start inside outside (rest_taken p 4 lines)

@@ -36,7 +36,7 @@ line_in_front tokens rest clear =
     ∙ ap lines_from (split_at is_feed (joined 32 tokens) 10 rest clear refl)
     ∙ more_pieces (joined 32 tokens) (slice_split is_feed rest) (parts_some is_feed rest)
 
--- the lines of tokens behind that line
+-- the lines of tokens after that line
 line_ahead : (tokens : List Token) (behind : List (List Token)) → HasNoFeed tokens → lines_of (text_of behind) ≡ map line_of behind → lines_of (text_of (tokens ∷ behind)) ≡ map line_of (tokens ∷ behind)
 line_ahead tokens behind clear e = line_in_front tokens (text_of behind) clear ∙ ap (λ (ls : List Line). line_of tokens ∷ ls) e
 

@@ -45,7 +45,7 @@ no_mark mark lt (b ∷ bs) h =
     (ne_eqb b mark (λ e. let from : 48 ≤ digit h.0.digit_is = digit_from h.0.digit_is in let same = h.0.same in omega (arith, e, from, same, lt)))
     (no_mark mark lt bs h.1)
 
--- that can stand in a line
+-- a line can have the token
 pub set_is_token : (units : List ℕ) → IsToken (token_of units)
 set_is_token units =
     let form = token_has_form (token_of units) units refl in

@@ -13,7 +13,7 @@ use Rattle.part_rules.specs.Spelling.{part_text}
 abbrev pub certificate_of : Part → Certificate
 certificate_of part = record { claim = part.claim; tree = part.tree; tail = part.tail }
 
--- What a text can hold.
+-- What a text can have.
 pub record Fits (p : Problem) (part : Part) : Type 0 where
   pub inside : AreUnits p part.inside
   pub outside : AreUnits p part.outside

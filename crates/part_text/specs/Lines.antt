@@ -1,4 +1,4 @@
--- A line of a text that is judged where it comes.
+-- A line of a text that is judged when it is reached.
 use Rattle.std.specs.Prelude.{◌≡◌, ℕ, List, [], ◌∷◌, Result, Ok, Err}
 use Rattle.tree_text_rules.specs.Line.{Line}
 use Rattle.tree_text_rules.specs.declared.TreeKind.{TreeKind}
@@ -6,7 +6,7 @@ use Rattle.tree_text_rules.specs.declared.TreeKind.TheVariants.{BadLine}
 use Rattle.text_lines.specs.declared.fault.TextFault.{TextFault}
 use Rattle.text_lines.specs.declared.fault.TextFault.TheVariants.{At, Memory}
 
--- the first of the lines stands for the set, and those behind it are left
+-- the first of the lines stands for the set, and those after it are left
 pub record IsTaken (Judged : Line → Result (List ℕ) TreeKind → Type 0) (lines : List Line) (units : List ℕ) (behind : List Line) : Type 0 where
   pub line : Line
   pub judged : Judged line (Ok units)

@@ -1,4 +1,4 @@
--- What a fault of the reader tells of a text; want of memory tells nothing.
+-- What a fault of the reader says of a text. `Memory`, out of memory, says nothing.
 use Rattle.std.specs.Prelude.{ℕ, List, Err}
 use Rattle.problem_rules.specs.Problem.{Problem}
 use Rattle.tree_text_rules.specs.declared.TreeKind.{TreeKind}

@@ -1,4 +1,4 @@
-//! The laws. Each function does nothing when it runs; a call tells a proof its law.
+//! The laws. Each function does nothing when it runs; a call gives a proof its law.
 ghost use Rattle.part_text.specs.Laws.{SpelledPartsRead, ReadPartsAreSpelled, PartsAreReadOnce};
 
 use problem_rules::valid_is_well_formed;

@@ -22,8 +22,9 @@ fn set_line(alloc: Global, line: &mut String, word: &str, units: UnitSet) -> Res
     push_field(line, token.as_str())
 }
 
-/// Prints a part, whole: its one text. `WriteFault` comes only where the sink's count of faults rose; what is out is then a front of
-/// the text, and after want of memory whole lines of it.
+/// Prints a part, whole: its one text. `WriteFault` comes only if the sink's count of faults rose;
+/// a front of the text is then printed. If there is no memory, first lines of it are printed, each
+/// whole.
 pub fn print_part<K: Sink>(
     alloc: Global,
     problem: &Problem,

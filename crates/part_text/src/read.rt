@@ -21,7 +21,7 @@ fn is_file_type(line: &Line) -> bool
     line.ended && line.text == b"file_type=PNS_part_v1".as_slice()
 }
 
-// The set of units of the line at the cut, and the cut behind it.
+// The set of units of the line at this place, and the place after the line.
 fn set_at(
     problem: &Problem,
     before: UnitSet,
@@ -41,8 +41,9 @@ fn set_at(
     Ok((units, behind))
 }
 
-/// The part that a text stands for. `At` comes exactly where the text is not in the grammar, with the least line that has a fault,
-/// counted from 1, and its kind; `Memory` is want of memory. Linear in the bytes.
+/// The part that a text stands for. Unless there is no memory (`Memory`), `At` comes if and only if
+/// the text is not in the grammar. It has the least line that has a fault, counted from 1, and its
+/// kind. The time is linear in the bytes.
 pub fn read_part(alloc: Global, problem: &Problem, bytes: &[u8]) -> Result<Part, TreeFault>
     requires { length bytes.now < 2 ^ 32 - 1 }
     ensures read { IfOk result (λ part. PartReads problem.now bytes.now (Ok part)) }

@@ -13,7 +13,8 @@ use tree_reading::{Line, first_token, next_token, parts_of};
 use tree_text_rules::TreeKind;
 use unit_sets::UnitSet;
 
-/// The units of the problem whose token the word is; none exactly where it is the token of no set of them.
+/// The units of the problem whose token the word is. It is `None` if and only if the word is the
+/// token of no set of them.
 pub fn units_named(problem: &Problem, word: &str) -> Option<UnitSet>
     ensures some { IfSome result (λ units. AreUnits problem.now units × (word.now ≡ token_of units)) }
     ensures none { IfNone result ((units : List ℕ) → AreUnits problem.now units → word.now ≡ token_of units → ⊥) }
@@ -41,7 +42,8 @@ fn units_of(problem: &Problem, token: &[u8]) -> Option<UnitSet>
     }
 }
 
-// The one token behind the word, with which the line begins; none exactly where the line is another.
+// The one token after the word, with which the line begins. It is `None` if and only if the line
+// has another form.
 fn token_behind<'a>(word: &[u8], line: &Line<'a>) -> Option<&'a [u8]>
     ensures some { IfSome result (λ token. IsFormedAs (line_of line.now) (word.now ∷ token.now ∷ [])) }
     ensures none { IfNone result ((token : Token) → IsFormedAs (line_of line.now) (word.now ∷ token ∷ []) → ⊥) }

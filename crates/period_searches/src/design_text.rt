@@ -18,7 +18,7 @@ fn push_number(line: &mut String, number: i128) -> Result<(), AllocError>
     Ok(())
 }
 
-/// Appends the numbers, each behind a space.
+/// Appends the numbers, each after a space.
 fn push_numbers(line: &mut String, numbers: &[i128]) -> Result<(), AllocError>
     ensures { OnOk result (string_bytes line.new ≡ string_bytes line.old ++ spaced_numbers numbers.now) }
 {
@@ -28,7 +28,7 @@ fn push_numbers(line: &mut String, numbers: &[i128]) -> Result<(), AllocError>
     Ok(())
 }
 
-/// Appends the names of the units, each behind a space.
+/// Appends the names of the units, each after a space.
 fn push_units(text: &mut Vec<u8>, problem: &Problem, units: UnitSet) -> Result<(), AllocError>
     ensures { OnOk result (text.new.items ≡ text.old.items ++ spaced_units problem.now units) }
 {
@@ -44,7 +44,7 @@ fn head_text(alloc: Global, number: u32) -> Result<String, AllocError>
     Ok(text)
 }
 
-/// The line of sizes, behind the line of names.
+/// The line of sizes, from the end of the line of names on.
 fn sizes_text(alloc: Global, sizes: &[i128]) -> Result<String, AllocError>
     ensures { IfOk result (λ text. string_bytes text ≡ (10 ∷ codes "sizes") ++ (spaced_numbers sizes.now ++ 10 ∷ [])) }
 {
@@ -54,7 +54,7 @@ fn sizes_text(alloc: Global, sizes: &[i128]) -> Result<String, AllocError>
     Ok(text)
 }
 
-/// What sizes are over, and the first word of its line, behind the line of names.
+/// The divisor of all sizes, with the first word of its line, from the end of the line of names on.
 fn over_text(alloc: Global, d: i128) -> Result<String, AllocError>
     ensures { IfOk result (λ text. string_bytes text ≡ (10 ∷ codes "capacities ") ++ signed_decimal d) }
 {
@@ -62,7 +62,7 @@ fn over_text(alloc: Global, d: i128) -> Result<String, AllocError>
     Ok(text)
 }
 
-/// The line of capacities, behind the line of names.
+/// The line of capacities, from the end of the line of names on.
 fn capacities_text(alloc: Global, d: i128, capacities: &[i128]) -> Result<String, AllocError>
     ensures { IfOk result (λ text. string_bytes text ≡ ((10 ∷ codes "capacities ") ++ signed_decimal d) ++ spaced_numbers capacities.now) }
 {
@@ -71,7 +71,7 @@ fn capacities_text(alloc: Global, d: i128, capacities: &[i128]) -> Result<String
     Ok(text)
 }
 
-/// The line of the cost, behind the line of capacities.
+/// The line of the cost, from the end of the line of capacities on.
 fn cost_text(alloc: Global, cost: i128) -> Result<String, AllocError>
     ensures { IfOk result (λ text. string_bytes text ≡ (10 ∷ codes "cost ") ++ (signed_decimal cost ++ 10 ∷ [])) }
 {
@@ -79,7 +79,7 @@ fn cost_text(alloc: Global, cost: i128) -> Result<String, AllocError>
     Ok(text)
 }
 
-/// The lines of capacities and of the cost, behind the line of names.
+/// The lines of capacities and of the cost, from the end of the line of names on.
 fn costs_text(alloc: Global, design: &Design) -> Result<(String, String), AllocError>
     ensures capacities { IfOk result (λ texts. string_bytes texts.0 ≡ ((10 ∷ codes "capacities ") ++ signed_decimal design.now.d) ++ spaced_numbers design.now.capacities) }
     ensures cost { IfOk result (λ texts. string_bytes texts.1 ≡ (10 ∷ codes "cost ") ++ (signed_decimal design.now.cost ++ 10 ∷ [])) }

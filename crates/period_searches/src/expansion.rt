@@ -42,7 +42,7 @@ fn say_expanded<F: Shelf, K: Sink, E: Sink>(
     }
 }
 
-/// Puts the canonical text of the file's problem and the plan's periods as one ordinary problem.
+/// Prints the canonical text of the file's problem and the plan's periods as one ordinary problem.
 pub fn expand<F: Shelf, K: Sink, E: Sink>(
     alloc: Global,
     file: &str,

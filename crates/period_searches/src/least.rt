@@ -43,7 +43,7 @@ fn network_text(
     design_text(alloc, problem, &design)
 }
 
-/// Searches the expanded problem, and says what comes of it for the plant.
+/// Searches the expanded problem, and prints what follows for the plant.
 fn say_searched<K: Sink, E: Sink, W: Watch>(
     alloc: Global,
     out: &mut Outputs<K, E>,
@@ -77,7 +77,8 @@ fn say_searched<K: Sink, E: Sink, W: Watch>(
     }
 }
 
-/// Says a design of least cost, or that the plant has none; or how far the search of the expanded problem came.
+/// Prints a design of least cost, or that the plant has none. Of a search of the expanded problem
+/// that stopped it prints how far that came.
 pub fn say_least<K: Sink, E: Sink, W: Watch>(
     alloc: Global,
     out: &mut Outputs<K, E>,

@@ -33,8 +33,8 @@ fn say_planned<F: Shelf, K: Sink, E: Sink, W: Watch>(
     }
 }
 
-/// Says a design of least cost for the file's problem over the periods of the plan, or that there is none; or how far the search of
-/// the expanded problem came.
+/// Prints a design of least cost for the file's problem over the periods of the plan, or that there
+/// is none. Of a search of the expanded problem that stopped it prints how far that came.
 pub fn periods<F: Shelf, K: Sink, E: Sink, W: Watch>(
     alloc: Global,
     file: &str,

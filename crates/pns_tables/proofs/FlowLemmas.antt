@@ -1,4 +1,5 @@
--- What a network leaves over of a material, summed from its least unit on. Units without a rate of it add nothing.
+-- What a network leaves over of a material, summed from its least unit on. Units that neither make
+-- nor use it add nothing.
 use Rattle.std.proofs.Common.{◌≡◌, ◌≢◌, ℕ, ◌<◌, List, [], ◌∷◌, ◌++◌, refl, sym, ap, ◌∙◌, subst, arith, pos, ℤ, ◌+ℤ◌, ◌*ℤ◌, true, false, Bool, cond, ◌==◌}
 use Rattle.std.specs.Prelude.{◌||◌, ◌&&◌, nat_lt, not}
 use Rattle.std.specs.Ordering.{int_eq}

@@ -1,4 +1,4 @@
--- The number that stands beside a unit, looked for from the least unit on.
+-- The number of a unit, looked for from the least unit on.
 use Rattle.std.proofs.Common.{◌≡◌, ℕ, ◌+◌, ◌<◌, List, [], ◌∷◌, length, drop, get_or, refl, sym, ap, ◌∙◌, pos, ℤ, cond}
 use Rattle.std.proofs.lemmas.List.{drop_more}
 use Rattle.std.proofs.lemmas.Bool.{eq-eqb, ne_eqb}

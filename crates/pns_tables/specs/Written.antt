@@ -1,4 +1,4 @@
--- What a writer of `csv` with its default settings has written, where it stands between two records.
+-- What a writer of `csv` with its default settings has written, if no record is begun.
 use Rattle.std.specs.Prelude.{◌≡◌, ℕ, false, List, Option, Some}
 use Rattle.csv.specs.Writing.{default_writer, writer_setup, fields_written, has_written, text_written}
 use Rattle.csv.specs.declared.writer.Writer.{Writer}

@@ -36,7 +36,7 @@ fn with_unit(made: i128, rate: i64, size: i128) -> i128
 }
 
 /// What the network makes of the material less what it uses of it, in 10^-12 over its `d`. All sums
-/// are in range where they were when its flows were judged.
+/// are in range if they were when its flows were judged.
 pub fn flow_of(problem: &Problem, network: &Network, j: u32) -> i128
     requires known { (u : ℕ) → has network.now.units u ≡ true → u < length problem.now.units }
     requires steps { AreInRange (balance_steps (net_of problem.now) (size_in network.now) j (units_at (net_of problem.now) (has network.now.units) j) (pos 0)) }

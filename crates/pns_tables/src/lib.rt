@@ -1,11 +1,13 @@
-//! A network as tables of comma-separated fields, which a spreadsheet opens: its units with their sizes and fixed costs, and its
-//! materials with what is left over of each.
+//! A network as tables of comma-separated fields, which a spreadsheet opens.
 //!
-//! [`unit_table`] and [`material_table`] give the bytes that `Table` of `report_rules` says, in the words of `csv` itself. All sums are
-//! those by which the flows of a network are judged, so that none leaves the range where they were. The numbers of other texts on a
-//! network come from [`size_at`] and [`flow_of`] too, and its materials from [`materials_in`].
+//! [`unit_table`] has the units with their sizes and fixed costs, [`material_table`] the materials
+//! with what is left over of each. Their bytes are those of `Table` in `report_rules`, as the crate
+//! `csv` writes them. All sums are those by which the flows of a network are judged, so no sum
+//! overflows that did not overflow there. The numbers of other texts on a network come from
+//! [`size_at`] and [`flow_of`] too, and its materials from [`materials_in`].
 //!
-//! Modules: `rows`, records by the writer of `csv`; `sizes` and `flows`, the numbers; `units` and `materials`, the tables.
+//! Modules: `rows`, records by the writer of `csv`; `sizes` and `flows`, the numbers; `units` and
+//! `materials`, the tables.
 #![tactic(auto)]
 
 mod flows;

@@ -68,8 +68,9 @@ fn push_material(
     )
 }
 
-/// The materials of the network in file order, with their kinds and what is left over of each, in 10^-12: below 0 what is used and
-/// not made. The sums are those by which the network's flows are judged, and are in range.
+/// The materials of the network in file order, with their kinds and what is left over of each, in
+/// 10^-12. An amount below 0 is used and not made. The sums are those by which the flows of the
+/// network are judged, and are in range.
 pub fn material_table(
     alloc: Global,
     site: &Site<'_>,

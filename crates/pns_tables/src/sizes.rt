@@ -8,7 +8,7 @@ use branch_tree::Network;
 use frac128::Frac;
 use std::alloc::{AllocError, Global};
 
-/// The size of a unit, 0 where it is not in the network, in millionths over the network's `d`.
+/// The size of a unit in millionths over the network's `d`, or 0 if it is not in the network.
 pub fn size_at(network: &Network, u: u32) -> i128
     ensures value { result ≡ size_in network.now u }
     ensures in_range { InRange result }

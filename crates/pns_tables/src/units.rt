@@ -36,7 +36,8 @@ fn push_unit(
     )
 }
 
-/// The units of the network in file order, with their sizes in millionths and their fixed costs for a year in millionths.
+/// The units of the network in file order, with their sizes in millionths and their fixed costs for
+/// a year in millionths.
 pub fn unit_table(
     alloc: Global,
     problem: &Problem,

@@ -1,4 +1,4 @@
--- What is answered is the one answer that the ranking has, but for want of memory.
+-- The answer is the one answer that the ranking has, unless there is no memory.
 use Rattle.std.proofs.Common.{ℕ, false, [], Result, Ok, Err, OnOk, IfErr, refl, ap₂, inl, inr}
 use Rattle.problem_rules.specs.Problem.{Problem}
 use Rattle.rank_rules.specs.declared.why.RankWhy.{RankWhy}

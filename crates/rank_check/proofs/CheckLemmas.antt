@@ -1,4 +1,4 @@
--- What the walk and the marks tell of a ranking.
+-- What the walk and the marks say of a ranking.
 use Rattle.std.proofs.Common.{◌≡◌, ℕ, ◌+◌, true, false, List, [], ◌∷◌, length, Result, Ok, Err, OnOk, IfErr, sym, subst, arith}
 use Rattle.std.proofs.lemmas.List.{append-nil}
 use Rattle.problem_rules.specs.Problem.{Problem}
@@ -46,7 +46,7 @@ module _ (p : Problem) (t : Text) where
       subst (λ (j : ℕ). NodeIsFault false p (ranking_of t) j why) (let q : d ≡ k = omega arith in q)
       (record { cause = f.cause; first = f.first; told = f.told })
 
-  -- the walk came to its end, and a leaf fails by its mark
+  -- the walk finishes, and a leaf fails by its mark
   pub mark_fails : (found : List OpenAt) (k : ℕ) (why : RankWhy) → PlainPasses p t → found ≡ all_open → Fails found k why → NodeIsFault false p (ranking_of t) k why
   mark_fails found k why walked is f =
       let end : ℕ = length t.tree in

@@ -1,4 +1,5 @@
--- A tree with open leaves passes, or has its first fault, as a ranked tree does, where the open leaves are judged by their marks.
+-- A tree with open leaves, which are judged by their marks, passes or has its first fault as a
+-- ranked tree does.
 use Rattle.std.proofs.Common.{◌≡◌, ◌⊎◌, ℕ, zero, suc, ◌+◌, ◌<◌, ◌≤◌, true, false, List, [], ◌∷◌, ◌++◌, length, Option, refl, sym, ap, ◌∙◌, subst, inl, inr, arith}
 use Rattle.problem_rules.specs.Problem.{Problem}
 use Rattle.pns_rules.specs.Shape.{Shape, shape_of}
@@ -87,7 +88,7 @@ module _ (p : Problem) (ws : List Network) (undercut : Option CostOver) where
   abbrev F' : Node → Leaf → Why → Type 0
   F' = LeafFails false p ws undercut
 
-  -- the leaf at the node itself passes, where it is an open one
+  -- if the leaf at the node itself is open, it passes by its mark
   abbrev HerePasses : List Mark → Node → End leaves.Leaf → Type 0
   HerePasses ms n (branch w) = Unit {0}
   HerePasses ms n (leaf (leaves.dead x)) = Unit {0}
@@ -104,7 +105,7 @@ module _ (p : Problem) (ws : List Network) (undercut : Option CostOver) where
   end_passes ms n (leaf (leaves.bounded d ys)) ts h here = h
   end_passes ms n (leaf leaves.untried) ts h here = here
 
-  -- an open leaf does not fail where leaves may be open
+  -- an open leaf does not fail if leaves may be open
   end_fails : (ms : List Mark) (n : Node) (e : End leaves.Leaf) (ts : plain_trees.Tree) (why : Why) → EndFails (shape_of p) F n e ts why
       → EndFails (shape_of p) F' n (marked_end ms e) (marked (marks_behind ms e) ts) why × IsTold (marked_end ms e) why (Plain why)
   end_fails ms n (branch w) ts why h =
@@ -116,7 +117,7 @@ module _ (p : Problem) (ws : List Network) (undercut : Option CostOver) where
   end_fails ms n (leaf leaves.untried) ts why (inl h) = absurd (h.1 refl)
   end_fails ms n (leaf leaves.untried) ts why (inr h) = absurd h.1
 
-  -- a step that fails is told as it is
+  -- a step that fails has its own cause
   step_told : (e : End Leaf) (why : Why) → why ≡ causes.Step → IsTold e why (Plain why)
   step_told (branch w) why s = refl
   step_told (leaf (plain l)) why s = refl
@@ -163,7 +164,7 @@ module _ (p : Problem) (ws : List Network) (undercut : Option CostOver) where
   here_before i l n (leaf (leaves.bounded d ys)) ls lt h = h
   here_before i l n (leaf leaves.untried) ls lt h = (lt, h)
 
-  -- all open leaves stand before the end of the list
+  -- the nodes of all open leaves are before the end of the list
   pub all_before : (ns : List Node) (ts : plain_trees.Tree) (i l : ℕ) → l ≡ i + length ts → AllBefore l (open_leaves (shape_of p) ns ts i)
   all_before [] ts i l e = tt
   all_before (n ∷ ns) [] i l e = tt
@@ -178,7 +179,7 @@ module _ (p : Problem) (ws : List Network) (undercut : Option CostOver) where
     pub is : found ≡ open_here i n e ++ rest
     pub all : ls ≡ rest ++ others
 
-  -- those that were found begin with the one of this node, where it has one
+  -- those that were found begin with the one of this node, if it has one
   part : (i k : ℕ) (n : Node) (e : End leaves.Leaf) (ls found others : List OpenAt) → i < k → open_here i n e ++ ls ≡ found ++ others → NoneBefore k others → IsParted i n e ls found others
   part i k n (branch w) ls found others lt h none = record { rest = found; is = refl; all = h }
   part i k n (leaf (leaves.dead x)) ls found others lt h none = record { rest = found; is = refl; all = h }
@@ -195,7 +196,7 @@ module _ (p : Problem) (ws : List Network) (undercut : Option CostOver) where
       let low : k ≤ i = q.0 in
       absurd (omega arith)
 
-  -- where the leaves before a node pass by their marks, the node is the first that fails
+  -- if the leaves before a node pass by their marks, the node is the first that fails
   pub marked_fault : (ns : List Node) (ts : plain_trees.Tree) (ms : List Mark) (i j k : ℕ) (why : Why) (found others : List OpenAt)
       → k ≡ i + j → IsFirstFault (shape_of p) P F ns ts j why → open_leaves (shape_of p) ns ts i ≡ found ++ others → NoneBefore k others → MarksPass P' found ms
       → IsFirstFault (shape_of p) P' F' ns (marked ms ts) j why × IsToldAt (marked ms ts) j why (Plain why)
@@ -218,7 +219,7 @@ module _ (p : Problem) (ws : List Network) (undercut : Option CostOver) where
 
   -- ---- a leaf fails by its mark
 
-  -- the first so many nodes pass
+  -- the first j nodes pass
   abbrev pub PassTo : ℕ → List Node → plain_trees.Tree → Type 0
   PassTo zero ns ts = Unit {0}
   PassTo (suc j) [] ts = Unit {0}
@@ -240,13 +241,13 @@ module _ (p : Problem) (ws : List Network) (undercut : Option CostOver) where
   fault_to (suc j) (n ∷ ns) [] why h = tt
   fault_to (suc j) (n ∷ ns) (t ∷ ts) why h = (h.0, h.1, fault_to j (below (shape_of p) (after_all (shape_of p) n t.steps) t.end ++ ns) ts why h.2)
 
-  -- node d of the ranked tree is the first that fails, and is told so
+  -- node d of the ranked tree is the first that fails, and this is the cause that is given
   pub record IsFaultAt (ns : List Node) (ts : plain_trees.Tree) (ms : List Mark) (d : ℕ) (why : RankWhy) : Type 0 where
     pub cause : Why
     pub first : IsFirstFault (shape_of p) P' F' ns (marked ms ts) d cause
     pub told : IsToldAt (marked ms ts) d cause why
 
-  -- the mark of this node fails, or it passes and one behind it fails
+  -- the mark of this node fails, or it passes and one after it fails
   here_or_rest : (ms : List Mark) (i k : ℕ) (n : Node) (e : End leaves.Leaf) (ts : plain_trees.Tree) (ls : List OpenAt) (why : RankWhy) → IsFirstMark P' F' (open_here i n e ++ ls) ms k why
       → ((i ≡ k) × ((cause : Why) × EndFails (shape_of p) F' n (marked_end ms e) (marked (marks_behind ms e) ts) cause × IsTold (marked_end ms e) cause why))
       ⊎ (HerePasses ms n e × IsFirstMark P' F' ls (marks_behind ms e) k why)

@@ -1,4 +1,4 @@
--- The networks in turn: which stand before a place, and what is known when those pass.
+-- The networks in turn: which come before a place, and what is known if those pass.
 use Rattle.std.proofs.Common.{◌≡◌, ◌↔◌, ℕ, zero, suc, ◌+◌, ◌-◌, ◌<◌, ◌≤◌, Bool, true, false, ◌&&◌, List, [], ◌∷◌, length, drop, get_or, refl, sym, ap, ◌∙◌, subst, arith, IsTrue, ◌==◌, cond, Option, Some, None, ℤ, ◌*ℤ◌, ◌≤ℤ◌}
 use Rattle.std.proofs.lemmas.List.{drop_all}
 use Rattle.number_sets.specs.Sets.{has, IsWithin}
@@ -17,7 +17,7 @@ earlier_more (suc i) before (x ∷ xs) w lt e = earlier_more i (x ∷ before) xs
 pub earlier_next : (i j : ℕ) (ws : List Network) (w : Network) → j ≡ i + 1 → i < length ws → w ≡ get_or ws i w → earlier j ws ≡ w ∷ earlier i ws
 earlier_next i j ws w is lt e = ap (λ (k : ℕ). earlier k ws) (let q : j ≡ suc i = omega arith in q) ∙ earlier_more i [] ws w lt e
 
--- the networks before place i pass, and what is still to come decides of the whole
+-- the networks before place i pass, and those that are left decide about the whole
 pub record IsOn (p : Problem) (ws : List Network) (i : ℕ) : Type 0 where
   pub passes : ArePassing p (earlier i ws) (drop i ws) → ArePassing p [] ws
   pub fails : (k : ℕ) (why : RankWhy) → IsFirstOff p (earlier i ws) (drop i ws) (suc k) why → IsFirstOff p [] ws (suc (i + k)) why

@@ -23,7 +23,7 @@ others_behind [] (suc i) = refl
 others_behind (m ∷ ms) zero = refl
 others_behind (m ∷ ms) (suc i) = others_behind ms i
 
--- the mark at a place, or none behind the last
+-- the mark at a place, or none after the last
 pub mark_here : (marks : List code.Mark) (i : ℕ) (m : code.Mark) → i < length marks → m ≡ get_or marks i m → first_mark (drop i (map mark_of marks)) ≡ mark_of m
 mark_here marks i m lt e = ap first_mark (map_ahead mark_of marks i m lt e)
 
@@ -35,7 +35,7 @@ pub open_fails : (p : Problem) (ws : List Network) (undercut : Option CostOver) 
 open_fails p ws undercut n = (causes.Open, inl (refl, (λ e. absurd cc)), refl)
 
 module _ (p : Problem) (ws : List Network) where
-  -- the leaves before place i pass, and what is still to come decides of the whole
+  -- the leaves before place i pass, and those that are left decide about the whole
   pub record AreOn (ls : List OpenAt) (ms : List Mark) (i : ℕ) : Type 0 where
     pub passes : (undercut : Option CostOver) → MarksPass (LeafPasses false p ws undercut) (drop i ls) (drop i ms) → MarksPass (LeafPasses false p ws undercut) ls ms
     pub fails : (undercut : Option CostOver) (k : ℕ) (why : RankWhy) → IsFirstMark (LeafPasses false p ws undercut) (LeafFails false p ws undercut) (drop i ls) (drop i ms) k why → IsFirstMark (LeafPasses false p ws undercut) (LeafFails false p ws undercut) ls ms k why

@@ -1,4 +1,5 @@
--- The open leaves of a tree, each judged by its mark: P tells which leaves pass, F for which cause one fails.
+-- The open leaves of a tree, each judged by its mark. P says which leaves pass, F for which cause
+-- one fails.
 use Rattle.std.specs.Prelude.{◌≡◌, ◌⊎◌, ℕ, ℤ, pos, ◌≤ℤ◌, false, List, [], ◌∷◌, Option}
 use Rattle.problem_rules.specs.Problem.{Problem}
 use Rattle.pns_rules.specs.Nodes.{Node}
@@ -14,16 +15,17 @@ use Rattle.rank_rules.specs.declared.why.RankWhy.TheVariants.{Plain, Named}
 use Rattle.rank_rules.specs.Leaf.{Leaf, LeafPasses, LeafFails, IsOnly, named_cost, IsTold}
 use Rattle.rank_rules.specs.Marked.{Mark, marked_leaf, first_mark, other_marks}
 
--- each leaf passes as what its mark tells
+-- each leaf passes as what its mark makes of it
 abbrev pub MarksPass : (Node → Leaf → Type 0) → List OpenAt → List Mark → Type 0
 MarksPass P [] ms = Unit {0}
 MarksPass P (l ∷ ls) ms = P l.node (marked_leaf (first_mark ms)) × MarksPass P ls (other_marks ms)
 
--- a leaf fails for a cause that is told so
+-- a leaf fails for a cause, for which this one is given
 abbrev pub MarkFails : (Node → Leaf → Why → Type 0) → Node → Mark → RankWhy → Type 0
 MarkFails F n m why = (cause : Why) × F n (marked_leaf m) cause × IsTold (leaf (marked_leaf m)) cause why
 
--- a leaf that names the network that was found, or none, fails for a cause that is told so
+-- a leaf that names the network that was found, or none, fails for a cause, for which this one is
+-- given
 abbrev pub NamedFails : Problem → Option Network → Node → ℤ → List ℤ → RankWhy → Type 0
 NamedFails p found n d ys why =
     (cause : Why)

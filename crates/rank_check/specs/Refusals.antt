@@ -1,4 +1,5 @@
--- What a refusal says of a ranking. Want of memory says nothing, and is the only answer that another may give way to.
+-- What a refusal says of a ranking. `Memory`, out of memory, says nothing. It is the only answer
+-- that may come instead of another.
 use Rattle.std.specs.Prelude.{◌≡◌, ◌⊎◌, ℕ, false, true, List, [], ◌∷◌, Result, Ok, Err}
 use Rattle.problem_rules.specs.Problem.{Problem}
 use Rattle.pns_rules.specs.Shape.{shape_of}
@@ -17,11 +18,11 @@ use Rattle.rank_check.specs.Marks.{MarksPass, IsFirstMark}
 use Rattle.rank_check.specs.declared.refusal.RankRefusal.{RankRefusal}
 use Rattle.rank_check.specs.declared.refusal.RankRefusal.TheVariants.{Memory, Network, Node}
 
--- the tree passes, where leaves may be open
+-- the tree passes if leaves may be open
 abbrev pub PlainPasses : Problem → Text → Type 0
 PlainPasses p t = Pass (shape_of p) (leaves.LeafPasses true p (to_undercut t.count t.networks)) (first_node ∷ []) t.tree
 
--- its first fault, where leaves may be open
+-- its first fault if leaves may be open
 abbrev pub NamesPlainFault : Problem → Text → plain.Refusal → Type 0
 NamesPlainFault p t refusal =
     NamesFault (shape_of p) (leaves.LeafPasses true p (to_undercut t.count t.networks)) (leaves.LeafFails true p (to_undercut t.count t.networks))
@@ -40,18 +41,19 @@ IsNodeAnswer p r Memory = Unit {0}
 IsNodeAnswer p r (Network k why) = ⊥
 IsNodeAnswer p r (Node k why) = NodeIsFault false p r k why
 
--- a network is the first that fails for the cause; or all pass, and a node is the first that fails for the cause
+-- A network is the first that fails, for the cause. Or all networks pass, and a node is the first
+-- that fails, for the cause.
 abbrev pub Refuses : Problem → Ranking → RankRefusal → Type 0
 Refuses p r Memory = Unit {0}
 Refuses p r (Network k why) = NetworkIsFault p r k why
 Refuses p r (Node k why) = ArePassing p [] r.networks × NodeIsFault false p r k why
 
--- the answer is Ok, or want of memory
+-- the answer is Ok or `Memory`
 abbrev pub IsOkOrMemory : {A : Type 0} → Result A RankRefusal → Type 0
 IsOkOrMemory (Ok x) = Unit {0}
 IsOkOrMemory (Err e) = e ≡ Memory
 
--- the answer is this refusal, or want of memory
+-- the answer is this refusal or `Memory`
 abbrev pub IsRefusalOrMemory : {A : Type 0} → RankRefusal → Result A RankRefusal → Type 0
 IsRefusalOrMemory wanted (Ok x) = ⊥
 IsRefusalOrMemory wanted (Err e) = (e ≡ wanted) ⊎ (e ≡ Memory)

@@ -36,7 +36,8 @@ use std::alloc::Global;
 use tree_rules::Refusal;
 use unit_sets::{Node, UnitSet};
 
-/// The cost that is to be undercut: that of the last network, where there are as many as were asked for.
+/// The cost that is to be undercut: that of the last network, if there are as many as were asked
+/// for.
 fn cost_to_undercut(count: u32, networks: &[Network]) -> Option<CostOver>
     ensures { cost_over result ≡ to_undercut count networks.now }
 {
@@ -49,7 +50,8 @@ fn cost_to_undercut(count: u32, networks: &[Network]) -> Option<CostOver>
     Some(cost_of(last))
 }
 
-/// Walks the tree, whose leaves may be open. What is given are the open leaves, and where a node fails those before it.
+/// Walks the tree, whose leaves may be open, and gives the open leaves. If a node fails, it gives
+/// the open leaves before it.
 fn walk_tree(alloc: Global, site: &Site<'_>, text: &RankText) -> Result<Vec<OpenLeaf>, Stop>
     requires few { length text.now.tree < 2 ^ 32 }
     ensures passes { OnOk result (PlainPasses site.now text.now) }
@@ -65,7 +67,8 @@ fn walk_tree(alloc: Global, site: &Site<'_>, text: &RankText) -> Result<Vec<Open
     check_nodes(alloc, site, &start, undercut, text.tree())
 }
 
-/// Judges open leaves of the tree by their marks. Where one fails, the number of its node and the cause are given.
+/// Judges open leaves of the tree by their marks. If one fails, the number of its node and the
+/// cause are given.
 fn judge_open(site: &Site<'_>, text: &RankText, leaves: &[OpenLeaf]) -> Result<(), (u32, RankWhy)>
     requires listed { ArePassing site.now [] text.now.networks }
     ensures passes { OnOk result (OpenPass site.now text.now (leaves_at leaves.now)) }
@@ -74,7 +77,7 @@ fn judge_open(site: &Site<'_>, text: &RankText, leaves: &[OpenLeaf]) -> Result<(
     judge_marks(site, text.networks(), leaves, text.marks())
 }
 
-/// Tells the node that stopped the walk, but that an open leaf before it fails first.
+/// Names the node that stopped the walk, or an open leaf before it that fails first.
 fn judge_stop(site: &Site<'_>, text: &RankText, stop: &Stop) -> RankRefusal
     requires listed { ArePassing site.now [] text.now.networks }
     requires fault { NamesPlainFault site.now text.now stop.now.refusal }
@@ -96,7 +99,7 @@ fn judge_stop(site: &Site<'_>, text: &RankText, stop: &Stop) -> RankRefusal
     }
 }
 
-/// Judges the open leaves of a tree that passes where leaves may be open.
+/// Judges the open leaves of a tree that passes if leaves may be open.
 fn judge_end(site: &Site<'_>, text: &RankText, leaves: &[OpenLeaf]) -> Result<(), RankRefusal>
     requires listed { ArePassing site.now [] text.now.networks }
     requires walked { PlainPasses site.now text.now }
@@ -110,7 +113,7 @@ fn judge_end(site: &Site<'_>, text: &RankText, leaves: &[OpenLeaf]) -> Result<()
     }
 }
 
-/// Judges the tree, where the networks pass.
+/// Judges the tree; the networks pass.
 fn judge_tree(alloc: Global, site: &Site<'_>, text: &RankText) -> Result<(), RankRefusal>
     requires few { length text.now.tree < 2 ^ 32 }
     requires listed { ArePassing site.now [] text.now.networks }
@@ -136,21 +139,23 @@ fn judge(alloc: Global, site: &Site<'_>, text: &RankText) -> Result<(), RankRefu
     }
 }
 
-/// Judges the networks in turn, each as a claim and then its order, and then the nodes of the tree in preorder. A tree has fewer than
-/// 2^32 nodes.
+/// Judges the networks in turn, each as a claim and then its order. Then it judges the nodes of the
+/// tree in preorder. A tree has fewer than 2^32 nodes.
 pub fn check_rank(alloc: Global, site: &Site<'_>, text: &RankText) -> Result<(), RankRefusal>
     requires few { length text.now.tree < 2 ^ 32 }
-    // `Ok` only where it is ranked, and where it is no other answer but want of memory.
+    // `Ok` comes only if it is ranked. If it is ranked, the only other answer is that there is no
+    // memory.
     ensures ranked { OnOk result (IsRanked site.now (ranking_of text.now)) }
     ensures accepts { IsRanked site.now (ranking_of text.now) → IsOkOrMemory result }
-    // A refusal names the first fault, and a first fault is named.
+    // A refusal names the first fault. A first fault is named, unless there is no memory.
     ensures refused { IfErr result (Refuses site.now (ranking_of text.now)) }
     ensures names_network { (k : ℕ) (why : RankWhy) → NetworkIsFault site.now (ranking_of text.now) k why → IsRefusalOrMemory (refusals.Network k why) result }
     ensures names_node { (k : ℕ) (why : RankWhy) → ArePassing site.now [] text.now.networks → NodeIsFault false site.now (ranking_of text.now) k why → IsRefusalOrMemory (refusals.Node k why) result }
     // No flows for the units of a listed network cost less than it.
     ensures least { OnOk result ((k : ℕ) (w : rules.Network) → numbered k text.now.networks ≡ Some w → CostsEnough site.now (Some (ranks.cost_of w)) (has w.units)) }
-    // Where as many networks stand as were asked for, each allowed solution structure that is not listed costs at least what the last
-    // does, with any flows; where fewer stand, none of them has flows.
+    // If there are as many networks as were asked for, each clash-free solution structure that is
+    // not listed costs at least what the last does, with any flows. If there are fewer, none of
+    // them has flows.
     ensures full { OnOk result (length text.now.networks ≡ text.now.count → AllOthers site.now text.now.networks (CostsEnough site.now (last_cost text.now.networks))) }
     ensures fewer { OnOk result (length text.now.networks < text.now.count → AllOthers site.now text.now.networks (λ s. (z : ℕ → ℤ) (d : ℤ) → IsFlows (net_of site.now) s z d → ⊥)) }
 {

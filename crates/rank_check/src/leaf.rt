@@ -30,7 +30,8 @@ pub(crate) fn cost_of(network: &Network) -> CostOver
     }
 }
 
-/// Whether each unit of the graph is taken in or left out at the node, and those that are taken in are those of the network.
+/// Whether each unit of the graph is taken in or left out at the node, and exactly the units of the
+/// network are taken in.
 fn is_only(site: &Site<'_>, node: &Node, network: &Network) -> bool
     ensures { IsTrue result ↔ IsOnly site.now (Some network.now) (node_of node.now) }
 {
@@ -43,7 +44,7 @@ fn is_only(site: &Site<'_>, node: &Node, network: &Network) -> bool
     are_same(node.inside, network.units())
 }
 
-/// How the cause is told of a leaf that names a network.
+/// The cause that is given for a leaf that names a network.
 fn told(why: Why) -> RankWhy
     ensures { ((why ≡ causes.Bound) × (result ≡ whys.Named)) ⊎ ((why ≡ causes.Bound → ⊥) × (result ≡ whys.Plain why)) }
 {

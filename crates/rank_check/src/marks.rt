@@ -57,7 +57,8 @@ fn judge_mark_at(
     }
 }
 
-/// Judges open leaves in turn, each by the mark at its place. Where one fails, the number of its node and the cause are given.
+/// Judges open leaves in turn, each by the mark at its place. If one fails, the number of its node
+/// and the cause are given.
 pub(crate) fn judge_marks(
     site: &Site<'_>,
     networks: &[Network],

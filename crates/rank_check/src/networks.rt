@@ -58,7 +58,7 @@ fn number(at: usize) -> u32
     at as u32 + 1
 }
 
-/// Judges the networks in turn. Where one fails, its number, counted from 1, and the cause are given.
+/// Judges the networks in turn. If one fails, its number, counted from 1, and the cause are given.
 pub(crate) fn judge_networks(site: &Site<'_>, networks: &[Network]) -> Result<(), (u32, RankWhy)>
     requires few { length networks.now < 2 ^ 32 }
     ensures passes { OnOk result (ArePassing site.now [] networks.now) }

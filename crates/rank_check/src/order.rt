@@ -51,7 +51,7 @@ fn is_new(networks: &[Network], at: usize, network: &Network) -> bool
     true
 }
 
-/// Whether the network stands in order at the place.
+/// Whether the network is in order at the place.
 pub(crate) fn is_in_order(networks: &[Network], at: usize, network: &Network) -> bool
     requires { at < length networks.now }
     ensures { IsTrue result ↔ IsInOrder (earlier at networks.now) network.now }

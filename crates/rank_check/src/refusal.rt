@@ -7,6 +7,6 @@ pub enum RankRefusal {
     Memory,
     /// Of the networks, counted from 1, this is the first that fails.
     Network { number: u32, why: RankWhy },
-    /// The networks pass, and of the nodes in preorder, counted from 0, this is the first that fails.
+    /// The networks pass. Of the nodes in preorder, counted from 0, this is the first that fails.
     Node { node: u32, why: RankWhy },
 }

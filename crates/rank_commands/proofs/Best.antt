@@ -40,7 +40,7 @@ module _ (listed : ListedAreLeast) (full : OthersCostEnough) (fewer : OthersHave
         best = are_best p valid t work.0;
       }
 
--- what is out with status 0 is such an answer
+-- what is printed with status 0 is such an answer
 pub done_ends : AcceptedAreBest → (old new : ShelfState) (file rank : List ℕ) (before after : OutputsState) (s : Status) → Ends (TwoFilesSay OnRank file rank old new) before after s → s ≡ Done → FilesListBest old.held file rank
 done_ends law old new file rank before after s e done =
     let said = subst (λ (t : Status). Ends (TwoFilesSay OnRank file rank old new) before after t) done e in

@@ -72,7 +72,7 @@ fn say_node<K: Sink, E: Sink>(
     }
 }
 
-/// Says whether the tree proves the ranking, or else the first network or the first node that fails.
+/// Prints that the tree proves the ranking, or the first network or the first node that fails.
 fn say_judged<K: Sink, E: Sink>(
     alloc: Global,
     out: &mut Outputs<K, E>,
@@ -123,7 +123,7 @@ fn say_rank<F: Shelf, K: Sink, E: Sink>(
     }
 }
 
-/// Where `rankcheck` accepts, the networks are the best.
+/// If `rankcheck` accepts, the networks are the best.
 pub fn accepted_are_best()
     ensures { AcceptedAreBest }
 {
@@ -131,7 +131,7 @@ pub fn accepted_are_best()
     others_are_no_better();
 }
 
-/// Says whether the tree of the ranking of the one file proves it on the problem of the other.
+/// Prints whether the tree of the ranking of the one file proves it on the problem of the other.
 pub fn rankcheck<F: Shelf, K: Sink, E: Sink>(
     alloc: Global,
     file: &str,
@@ -141,7 +141,8 @@ pub fn rankcheck<F: Shelf, K: Sink, E: Sink>(
 ) -> Status
     ensures ends { Ends (TwoFilesSay OnRank file.now rank.now (F.state shelf.old) (F.state shelf.new)) out.old out.new result }
     ensures keeps { Keeps (F.state shelf.old) (F.state shelf.new) }
-    // With status 0 the one file gives a valid problem and the other networks, which are the best.
+    // If the status is 0, the one file gives a valid problem and the other networks that are the
+    // best.
     ensures accepted { result ≡ Done → FilesListBest (F.state shelf.old).held file.now rank.now }
 {
     accepted_are_best();

@@ -20,8 +20,8 @@ use tree_reading::TreeFault;
 /// The most bytes of a file that has a ranking.
 const RANK_LIMIT: u64 = 268_435_456;
 
-/// Reads the file and judges its text as a ranking for the problem. Where that gives none the text that tells why is out, and the
-/// status is that of the call.
+/// Reads the file, and judges its text as a ranking for the problem. If that gives none, the text
+/// that says why is printed, and `Err` has the status of the call.
 pub(crate) fn rank_of<F: Shelf, K: Sink, E: Sink>(
     alloc: Global,
     shelf: &mut F,

@@ -5,7 +5,7 @@ ghost use Rattle.studio_rules.specs.RankWords.{rank_why_word};
 use rank_rules::RankWhy;
 use refusal_words::why_word;
 
-/// The word by which a cause is told.
+/// The word that is printed for a cause.
 pub fn rank_why_word(why: RankWhy) -> &'static str
     ensures { result.now ≡ rank_why_word why }
 {

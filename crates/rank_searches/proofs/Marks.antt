@@ -1,4 +1,5 @@
--- A ranking with just one mark for each open leaf is the same ranked tree, and its text can be held by lines.
+-- A ranking with exactly one mark for each open leaf is the same ranked tree, and lines can have
+-- its text.
 use Rattle.std.proofs.Common.{◌≡◌, ◌+◌, ℕ, List, [], ◌∷◌, Some, None, length, refl, ap, ◌∙◌, arith}
 use Rattle.problem_rules.specs.Each.{Each}
 use Rattle.tree_rules.specs.Tree.{TreeNode, End, branch, leaf}

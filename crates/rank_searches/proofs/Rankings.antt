@@ -47,7 +47,7 @@ some_is P a b e h = subst P (let e' : a ≡ b = cc in e') h
 
 -- ---- the text
 
--- networks that are known and kept can be held by lines
+-- lines can have networks that are known and kept
 networks_fit : (p : Problem) (ws : List Network) → Each (KnowsNetwork p) ws → Each IsKept ws → Each (FitsNetwork p) ws
 networks_fit p [] known kept = tt
 networks_fit p (w ∷ ws) known kept = (record { known = known.0; kept = kept.0 }, networks_fit p ws known.1 kept.1)

@@ -1,5 +1,6 @@
--- A ranking with just one mark for each open leaf, as its text has it. Marks beyond the last open leaf, and a missing one, which stands for
--- an open leaf, make no difference to the ranked tree.
+-- A ranking with exactly one mark for each open leaf, as its text has it. Marks after that of the
+-- last open leaf make no difference to the ranked tree. A missing mark stands for an open leaf, and
+-- makes none either.
 use Rattle.std.specs.Prelude.{◌≤◌, ℕ, List, [], ◌∷◌, Some, None}
 use Rattle.integer_laws.specs.Range.{InRange, AllInRange}
 use Rattle.tree_rules.specs.Tree.{TreeNode, End, branch, leaf}
@@ -8,7 +9,7 @@ use Rattle.tree_rules.specs.Accepted.{Tree}
 use Rattle.rank_rules.specs.Marked.{Mark, first_mark, marks_behind}
 use Rattle.rank_rules.specs.Text.{Text}
 
--- the mark of an open leaf before those of the nodes behind it
+-- the mark of an open leaf, and after it those of the nodes that follow
 abbrev pub with_mark : List Mark → End Leaf → List Mark → List Mark
 with_mark ms (branch w) behind = behind
 with_mark ms (leaf (dead x)) behind = behind

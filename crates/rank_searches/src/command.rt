@@ -17,7 +17,7 @@ use rank_search::rank_watched;
 use std::alloc::Global;
 use studio_rules::Status;
 
-// Says the best networks of the problem with the tree that proves it, or how far the search came.
+// Prints the best networks of the problem with the tree that proves it, or how far the search came.
 fn say_ranked<K: Sink, E: Sink, W: Watch>(
     alloc: Global,
     out: &mut Outputs<K, E>,
@@ -43,7 +43,8 @@ fn say_ranked<K: Sink, E: Sink, W: Watch>(
     say_found(alloc, out, problem, ranked, budget)
 }
 
-/// Says the best networks of the file's problem, as many as are asked for, with the tree that proves it, or how far the search came.
+/// Prints the best networks of the file's problem, as many as are asked for, with the tree that
+/// proves it. Of a search that stopped it prints how far that came.
 pub fn rank<F: Shelf, K: Sink, E: Sink, W: Watch>(
     alloc: Global,
     file: &str,

@@ -1,6 +1,7 @@
-//! The command `rank`: the best networks of a problem, as many as are asked for, with the tree that proves it.
+//! The command `rank`: the best networks of a problem.
 //!
-//! [`rank`] prints the ranking of the problem of a file. `Rank` of `studio_rules` says what the lines are with which status.
+//! [`rank`] prints as many of them as are asked for, with the tree that proves it. `Rank` of
+//! `studio_rules` says which lines are printed with which status.
 //!
 //! Modules: `ranking`, the text of a ranking; `command`, the command.
 #![tactic(auto)]

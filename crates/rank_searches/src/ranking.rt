@@ -22,7 +22,7 @@ use searches::{status_of, stopped_notes, tail_is_counted};
 use std::alloc::Global;
 use studio_rules::Status;
 
-/// The ranking that was found; `None` exactly for want of memory.
+/// The ranking that was found. It is `None` if and only if there was no memory for the search.
 fn ranking_found(ranked: Ranked) -> Option<RankText>
     ensures { result ≡ ranking_found ranked }
 {
@@ -34,7 +34,8 @@ fn ranking_found(ranked: Ranked) -> Option<RankText>
     }
 }
 
-// Networks are sized, and their numbers are in range. A call tells a proof so, and changes nothing.
+// Networks are sized, and their numbers are in range. A call shows this to a proof, and changes
+// nothing.
 fn networks_are_kept(networks: &[Network])
     ensures { Each IsKept networks.now }
 {
@@ -43,7 +44,7 @@ fn networks_are_kept(networks: &[Network])
     }
 }
 
-// The numbers of a mark are in range. A call tells a proof so, and does nothing.
+// The numbers of a mark are in range. A call shows this to a proof, and does nothing.
 fn mark_is_in_range(mark: &Mark)
     ensures { IsMarkInRange (mark_of mark.now) }
 {
@@ -56,7 +57,7 @@ fn mark_is_in_range(mark: &Mark)
     }
 }
 
-// So are those of all marks.
+// The numbers of all marks are in range.
 fn marks_are_in_range(marks: &[Mark])
     ensures { Each IsMarkInRange (map mark_of marks.now) }
 {
@@ -65,14 +66,16 @@ fn marks_are_in_range(marks: &[Mark])
     }
 }
 
-// The count of a ranking is a number that a line can hold. A call tells a proof so, and does nothing.
+// The count of a ranking is a number that a line can have. A call shows this to a proof, and does
+// nothing.
 fn count_is_held(text: &RankText)
     ensures { text.now.count < 2 ^ 32 }
 {
     let _count = text.count();
 }
 
-/// The text of a ranking reads as it, with just one mark for each open leaf. A call tells a proof so, and changes nothing.
+/// The text of a ranking reads back as it, with exactly one mark for each open leaf. A call shows
+/// this to a proof, and changes nothing.
 fn reads_back(problem: &Problem, text: &RankText)
     requires known { KnowsText problem.now text.now }
     requires few { length text.now.tree < 2 ^ 32 }
@@ -88,7 +91,7 @@ fn reads_back(problem: &Problem, text: &RankText)
     spelled_ranks_read();
 }
 
-/// Prints the ranking. The status tells where the search stopped.
+/// Prints the ranking. The status is that of its tail, so it says why the search stopped.
 fn say_ranking<K: Sink, E: Sink>(
     alloc: Global,
     out: &mut Outputs<K, E>,

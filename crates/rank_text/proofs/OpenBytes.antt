@@ -1,4 +1,4 @@
--- A text is put together from its lines, also with `open` in place of each line that names a network.
+-- A text is made of its lines, also with `open` in place of each line that names a network.
 use Rattle.std.proofs.Common.{◌≡◌, ◌≤◌, Bool, true, false, cond, ℕ, List, [], ◌∷◌, ◌++◌, map, flat_map, length, take, drop, refl, sym, ap, ◌∙◌, append_assoc, append-nil, if◌then◌else◌}
 use Rattle.std.specs.List.{list_any, slice_split, onto_first}
 use Rattle.std.proofs.lemmas.Bool.{or_from}
@@ -61,7 +61,7 @@ opened_again (piece ∷ next ∷ pieces) each =
 
 -- ---- a text that is made line by line
 
--- the text behind what stands before the place
+-- the text after what is before the place
 abbrev pub opened_from : List ℕ → ℕ → List ℕ
 opened_from bytes at = bytes_of (unknown_line ∷ map opened (lines_of (drop at bytes)))
 

@@ -73,7 +73,7 @@ named_again n fits =
 abbrev pub IsShut : List Token → Type 0
 IsShut line = (is_first (word_text Open) line ≡ false) × (is_first named_word line ≡ false)
 
--- ---- lines, and a place for that of each open leaf
+-- ---- lines, and a place for the line of each open leaf
 
 abbrev pub Form : Type 0
 Form = List (Option (List Token))
@@ -83,7 +83,8 @@ AreShut [] = Unit {0}
 AreShut (None ∷ form) = AreShut form
 AreShut (Some line ∷ form) = IsShut line × AreShut form
 
--- with the lines of these marks, and lines `open` behind the last; so with no marks the lines of a tree text
+-- with the lines of these marks, and lines `open` after the last mark; so without marks the lines
+-- of a tree text
 abbrev pub filled : List Mark → Form → List (List Token)
 filled ms [] = []
 filled ms (None ∷ form) = mark_line (first_mark ms) ∷ filled (other_marks ms) form
@@ -112,7 +113,7 @@ opened_said line each = ap (λ (b : Bool). opened_as b (line_of line)) (begins_s
 mark_said : (line : List Token) → Each IsToken line → mark_read (line_of line) ≡ mark_as (is_first named_word line) (is_first (word_text Open) line) (line_of line)
 mark_said line each = ap₂ (λ (b c : Bool). mark_as b c (line_of line)) (begins_said named_word refl line each) (begins_said (word_text Open) refl line each)
 
--- what is read of a line, and then of the lines behind it
+-- what is read of a line, and then of the lines after it
 goes : ℕ → List Line → Option (Result Mark TreeKind) → Result (List Mark) Fault
 goes number lines read = elim read [
   | None ↦ marks_taken (suc number) lines
@@ -184,7 +185,7 @@ module _ (form : Form) (line : Line) (lines : List Line) (rest : (number : ℕ) 
   read_as : (r : Option (Result Mark TreeKind)) → mark_read line ≡ r → goes number lines r ≡ Ok ms
   read_as r e = sym (at_line number line lines r e) ∙ read
 
-  -- one mark, and those of the lines behind
+  -- one mark, and those of the lines after it
   comes_mark : (m : Mark) → FitsMark m → line ≡ line_of (mark_line m) → with_marks (m ∷ []) (marks_taken (suc number) lines) ≡ Ok ms → Comes (line ∷ lines) ms (None ∷ form)
   comes_mark m fits is e =
       let others = with_ok m (marks_taken (suc number) lines) ms e in

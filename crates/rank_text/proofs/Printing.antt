@@ -17,7 +17,7 @@ node_ahead p ms next xs i x lt is behind =
     ap (λ (ts : List (TreeNode Leaf)). tree_lines p (marked ms ts)) (item_ahead xs i x lt is)
     ∙ ap (λ (ms' : List Mark). node_lines p (marked_node ms x) ++ tree_lines p (marked ms' (drop (i + 1) xs))) (sym behind)
 
--- ---- a line that is put together: a word, two fields and then the others
+-- ---- a line that is made of a word, two fields and then the others
 
 pub line_of_more : (line second first begun word one two : List ℕ) (fields : List (List ℕ))
     → line ≡ appended second fields → second ≡ appended first (two ∷ []) → first ≡ appended begun (one ∷ []) → begun ≡ word → line ≡ joined 32 (word ∷ one ∷ two ∷ fields)

@@ -1,4 +1,5 @@
--- The lines of a tree and a tail consist of tokens, and are a form: marks can stand in the places of their open leaves, and with the marks they are those of the ranked tree.
+-- The lines of a tree and a tail consist of tokens, and have a form with a place for the mark of
+-- each open leaf. With the marks in these places they are the lines of the ranked tree.
 use Rattle.std.proofs.Common.{◌≡◌, ◌+◌, ℕ, zero, suc, List, [], ◌∷◌, ◌++◌, map, length, Option, Some, None, Ok, refl, sym, ap, ap₂, ◌∙◌, subst, append_assoc, append-nil, zero-add}
 use Rattle.problem_rules.specs.Each.{Each}
 use Rattle.problem_rules.specs.Problem.{Problem}
@@ -52,7 +53,7 @@ shut_lines (line ∷ lines) each s = shut_line line each.0 (shut_lines lines eac
 spelled_as : {ms : List Mark} {form : Form} {ranked ranked' plain plain' : List (List Token)} {count : ℕ} → ranked ≡ ranked' → plain ≡ plain' → Spells ms form ranked plain count → Spells ms form ranked' plain' count
 spelled_as e f s = record { filled_is = s.filled_is ∙ e; plain_is = s.plain_is ∙ f; places_are = s.places_are; shut = s.shut }
 
--- a place for the line where the end is that of an open leaf, or the line itself
+-- a place for the line if the end is an open leaf, or else the line itself
 abbrev place_for : ℕ → List Token → Option (List Token)
 place_for zero line = Some line
 place_for (suc n) line = None
@@ -97,7 +98,7 @@ module _ (p : Problem) where
   tree_form [] form = form
   tree_form (t ∷ ts) form = map (λ line. Some line) (plain.head_lines p t.option t.steps) ++ (place_for (opens_at t.end) (plain.end_line p t.end) ∷ tree_form ts form)
 
-  -- a head, an end and the lines behind
+  -- a head, an end and the lines after it
   apart : (head : List (List Token)) (end : List Token) (lines rest : List (List Token)) → head ++ (end ∷ (lines ++ rest)) ≡ ((head ++ end ∷ []) ++ lines) ++ rest
   apart head end lines rest = sym (append_assoc (head ++ end ∷ []) lines rest ∙ append_assoc head (end ∷ []) (lines ++ rest))
 

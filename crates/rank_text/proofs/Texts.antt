@@ -138,7 +138,7 @@ module _ (p : Problem) (formed : IsWellFormed p) (trees : TakesJust (tree_taken 
         tails.fits one.0.number one.0.behind two.0 two.1,
       )
 
-  -- the lines behind the networks
+  -- the lines after the networks
   pub record Behind (count : ℕ) (ws : List Network) (lines : List Line) (t : Text) : Type 0 where
     pub is : t ≡ record { count = count; networks = ws; tree = t.tree; marks = t.marks; tail = t.tail }
     pub lines_are : lines ≡ lines_said (grown_lines p t)
@@ -202,7 +202,7 @@ module _ (p : Problem) (formed : IsWellFormed p) (trees : TakesJust (tree_taken 
     list_tokens [] fits = tt
     list_tokens (w ∷ ws) fits = each-append (Each IsToken) (plain.network_lines p w) (list_lines ws) (network_tokens p formed w fits.0) (list_tokens ws fits.1)
 
-    -- ---- the lines behind the first one, and how they are read
+    -- ---- the lines after the first one, and how they are read
 
     abbrev counted_lines : Text → List (List Token)
     counted_lines t = (count_word ∷ decimal t.count ∷ []) ∷ (networks_word ∷ decimal (length t.networks) ∷ []) ∷ (list_lines t.networks ++ grown_lines p t)

@@ -1,4 +1,4 @@
--- What is read of the parts of a text is put together.
+-- What is read of the parts of a text is joined.
 use Rattle.std.proofs.Common.{◌≡◌, ◌<◌, ◌≤◌, ◌-◌, ℕ, suc, List, [], ◌∷◌, ◌++◌, drop, map, Option, Some, None, IfSome, IfNone, Result, Ok, Err, refl, sym, ap, ap₂, ◌∙◌, arith, append-nil}
 use Rattle.problem_rules.specs.Problem.{Problem}
 use Rattle.tree_rules.specs.Accepted.{Tree}
@@ -39,7 +39,7 @@ networks_fail [] fault = refl
 networks_fail (w ∷ ws) fault = ap (with_network w) (networks_fail ws fault)
 
 module _ (p : Problem) (whole : Result (Taken (List Network)) Fault) (ws : List Network) (left number : ℕ) (lines : List Line) (leads : with_networks ws (networks_taken p left number lines) ≡ whole) where
-  -- the next network is read, and behind it the others
+  -- the next network is read, and after it the others
   abbrev next_then : Result (Taken Network) Fault → Result (Taken (List Network)) Fault
   next_then r = with_networks ws (then_read r (λ w number lines. with_network w (networks_taken p (left - 1) number lines)))
 
@@ -56,9 +56,9 @@ module _ (p : Problem) (whole : Result (Taken (List Network)) Fault) (ws : List 
   pub networks_whole : left ≡ 0 → whole ≡ Ok (record { what = ws; number = number; behind = lines })
   networks_whole e = sym leads ∙ ap (λ (n : ℕ). with_networks ws (networks_taken p n number lines)) e ∙ networks_done ws number lines
 
--- ---- behind the networks
+-- ---- after the networks
 
--- the tree and the tail, where a text is read that claims nothing
+-- the tree and the tail of what is read of a text that claims nothing
 abbrev grown_of : Result Certificate Fault → Result Grown Fault
 grown_of (Ok c) = Ok (record { tree = c.tree; tail = c.tail })
 grown_of (Err fault) = Err fault
@@ -99,7 +99,7 @@ module _ (p : Problem) (count : ℕ) (ws : List Network) (number : ℕ) (lines :
   together : (f : Option Fault) (r : Result Certificate Fault) → fault ≡ f → IsRead r → Stands (put_together count ws (so_far ms f (Ok [])) (grown_of r))
   together f r is e = ap₂ (λ (m : Result (List Mark) Fault) (g : Result Grown Fault). put_together count ws m g) (sym marks ∙ ap (λ (f : Option Fault). so_far ms f (Ok [])) is) (grown_read r e)
 
-  -- with no fault of a line that names a network the marks are whole
+  -- without a fault of a line that names a network the marks are whole
   unmarred : (r : Result Certificate Fault) → fault ≡ None → IsRead r → Stands (put_together count ws (Ok ms) (grown_of r))
   unmarred r is e = together None r is e ∙ ap (λ (xs : List Mark). put_together count ws (Ok xs) (grown_of r)) (append-nil ms)
 

@@ -1,5 +1,5 @@
--- What the text of a ranking can hold: networks, a tree and a tail that a tree text can hold, and for each open leaf of the tree one mark,
--- with numbers in range.
+-- What the text of a ranking can have: networks, a tree and a tail that a tree text can have, and
+-- for each open leaf of the tree one mark, with numbers in range.
 use Rattle.std.specs.Prelude.{◌≡◌, ◌≤◌, ◌+◌, ℕ, [], ◌∷◌, length, Some, None}
 use Rattle.integer_laws.specs.Range.{InRange, AllInRange}
 use Rattle.problem_rules.specs.Each.{Each}

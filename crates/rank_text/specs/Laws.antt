@@ -1,4 +1,4 @@
--- The laws of the text of rankings, each of which a public function of this crate has as its contract.
+-- The laws of the text of rankings. Each is the contract of a public function of this crate.
 use Rattle.std.specs.Prelude.{◌≡◌, ℕ, List, Ok}
 use Rattle.problem_rules.specs.Problem.{Problem}
 use Rattle.problem_rules.specs.Validity.{IsValid}

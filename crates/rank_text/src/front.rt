@@ -26,7 +26,7 @@ pub fn file_type_line(line: &Line) -> Result<(), TreeKind>
     }
 }
 
-// The one count behind the word.
+// The one count after the word.
 fn word_line(word: &[u8], line: &Line) -> Result<u32, TreeKind>
     ensures { result ≡ word_read word.now (line_of line.now) }
 {
@@ -58,7 +58,7 @@ pub fn count_line(line: &Line) -> Result<u32, TreeKind>
     }
 }
 
-/// How many networks are there, at most so many.
+/// How many networks are there, at most the number that was asked for.
 pub fn networks_line(count: u32, line: &Line) -> Result<u32, TreeKind>
     ensures value { result ≡ networks_read count (line_of line.now) }
     ensures few { IfOk result (λ k. k ≤ count) }

@@ -1,4 +1,4 @@
-//! The laws. Each function does nothing when it runs; a call tells a proof its law.
+//! The laws. Each function does nothing when it runs; a call gives a proof its law.
 ghost use Rattle.rank_text.specs.Laws.{SpelledRanksRead, ReadRanksAreSpelled};
 
 use problem_rules::valid_is_well_formed;
@@ -14,7 +14,8 @@ pub fn spelled_ranks_read()
     tails_are_read();
 }
 
-/// A text without a fault is the one text of the ranking that it stands for, which fits the problem.
+/// A text without a fault is the one text of the ranking that it stands for, which fits the
+/// problem.
 pub fn read_ranks_are_spelled()
     ensures { ReadRanksAreSpelled }
 {

@@ -1,16 +1,17 @@
-//! The text PNS_rank_v1 of a ranking: the networks, best first, and the tree that proves that no other is better.
+//! The text PNS_rank_v1 of a ranking.
 //!
-//! [`print_rank`] writes the one text of a ranked tree, and [`read_rank`] gives the ranked tree that a text stands for, or its first
-//! fault. A leaf that names a network has a line of its own, `named K D Y ..`; all other lines are those of a tree text, printed and read
-//! by the crates of that text. In `rank_rules`, `Spelling` has the text, `Opened` the lines of open leaves, and `Read` what a text stands
-//! for.
+//! [`print_rank`] writes the one text of a ranked tree: the networks, best first, and the tree that
+//! proves that no other is better. [`read_rank`] gives the ranked tree that a text stands for, or
+//! its first fault. A leaf that names a network has a line of its own, `named K D Y ..`; all other
+//! lines are those of a tree text. In `rank_rules`, `Spelling` has the text, `Opened` the lines of
+//! open leaves, and `Read` what a text stands for. The text of a ranking reads back as the ranking,
+//! and what a text stands for has no other text. [`laws`] has both laws (`specs/Laws`) as contracts
+//! of functions that do nothing.
 //!
-//! The text of a ranking reads as the ranking, and what a text stands for has no other text: [`laws`] has both (`specs/Laws`) as contracts of
-//! functions that do nothing.
-//!
-//! Modules: `line`, lines that no tree text has; `print`; `front`, what a line begins with and the first three lines; `networks`; `mark`, the
-//! line of an open leaf; `opening`, a tree text made of the lines of tree and tail, with `open` for each line that names a network, and the
-//! marks beside it; `read`.
+//! Modules: `line`, lines that no tree text has; `print`; `front`, what a line begins with and the
+//! first three lines; `networks`; `mark`, the line of an open leaf; `opening`, a tree text made of
+//! the lines of tree and tail, with `open` for each line that names a network, and its marks;
+//! `read`.
 #![tactic(auto)]
 
 mod front;

@@ -38,7 +38,7 @@ fn scaled_fields(
     }
 }
 
-// A network's number that was read, and behind it a scale and multipliers.
+// A network's number that was read, and after it a scale and multipliers.
 fn named_fields(
     alloc: Global,
     problem: &Problem,
@@ -57,7 +57,7 @@ fn named_fields(
     }
 }
 
-/// What a line that begins with the word `named` tells of its leaf.
+/// What a line that begins with the word `named` says of its leaf.
 pub fn named_line(alloc: Global, problem: &Problem, line: &Line) -> Result<Mark, LineFault>
     ensures ok { IfOk result (λ m. named_read (line_of line.now) ≡ Ok (mark_of m)) }
     ensures fault { IfErr result (TellsLine (named_read (line_of line.now))) }

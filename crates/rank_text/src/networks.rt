@@ -13,8 +13,9 @@ use std::alloc::Global;
 use tree_reading::{Cut, TreeFault, read_network};
 use tree_text_laws::networks_are_taken;
 
-/// So many networks, the first of which has its first line at the cut, and the cut behind them. `At` comes exactly at the first fault
-/// of their lines, `Memory` is want of memory. Nothing is reserved by the promised number.
+/// This many networks, the first of which has its first line at this place, and the place after
+/// them. `At` comes with the first fault of their lines, and only then; `Memory` says that there
+/// was no memory. The promised number reserves no memory.
 pub fn read_networks(
     alloc: Global,
     problem: &Problem,

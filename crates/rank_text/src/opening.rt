@@ -18,8 +18,8 @@ use tree_text_rules::TreeKind;
 /// A reader takes fewer bytes than these.
 const TOO_MANY_BYTES: usize = 4_294_967_295;
 
-/// A text in which the line `open` stands for each line that names a network, with what the lines of open leaves tell, and the first
-/// fault of a line that names a network.
+/// A text in which the line `open` stands for each line that names a network. With it are the marks
+/// that the lines of open leaves give, and the first fault of a line that names a network.
 #[derive(Drop)]
 pub struct OpenText {
     pub bytes: Vec<u8>,
@@ -27,7 +27,7 @@ pub struct OpenText {
     pub fault: Option<(u32, TreeKind)>,
 }
 
-// Puts the bytes of the line, or those of `open` in its place.
+// Appends the bytes of the line, or those of `open` in its place.
 fn push_opened(bytes: &mut Vec<u8>, line: &Line, is_named: bool) -> Result<(), AllocError>
     requires { is_named ≡ begins_by named_word (line_of line.now) }
     ensures { OnOk result (bytes.new.items ≡ bytes.old.items ++ line_bytes (opened (line_of line.now))) }
@@ -43,7 +43,8 @@ fn push_opened(bytes: &mut Vec<u8>, line: &Line, is_named: bool) -> Result<(), A
     Ok(())
 }
 
-// Puts what the line tells of an open leaf behind the other marks, or gives its fault. Behind a fault that was met before nothing is taken.
+// Appends the mark that the line gives an open leaf to the marks, or gives the line's fault. After
+// an earlier fault nothing is taken.
 fn take_mark(
     alloc: Global,
     problem: &Problem,
@@ -75,8 +76,9 @@ fn take_mark(
     }
 }
 
-/// All that stands before the cut, the line `unknown`, and the lines from the cut on as those of a tree text, with the marks of open
-/// leaves. Only want of memory is an error, which a text of 2^32 - 1 bytes or more is said to be too. Linear in the bytes.
+/// All bytes before the place, the line `unknown`, and the lines from the place on as those of a
+/// tree text, with the marks of open leaves. The only error is that there is no memory; it is also
+/// given for a text of 2^32 - 1 bytes or more. The time is linear in the bytes.
 #[tactic(auto, using(crate::proofs::OpenBytes::text_begun, crate::proofs::OpenBytes::text_on, crate::proofs::OpenBytes::text_done))]
 pub fn open_lines(
     alloc: Global,

@@ -78,7 +78,8 @@ fn put_mark<K: Sink>(
     }
 }
 
-// The line of an end, where the first mark is that of the first open leaf. A leaf without a mark is open.
+// The line of an end. If it is an open leaf, the first mark is its mark. A leaf without a mark is
+// open.
 fn put_end<K: Sink>(
     alloc: Global,
     problem: &Problem,
@@ -114,7 +115,7 @@ fn put_node<K: Sink>(
     put_end(alloc, problem, &node.end, marks, out)
 }
 
-// The marks of the open leaves behind the end.
+// The marks of the open leaves after the end.
 fn marks_behind<'a>(end: &End, marks: &'a [Mark]) -> &'a [Mark]
     ensures { map mark_of result.now ≡ marks_behind (map mark_of marks.now) (end_of end.now) }
 {
@@ -146,8 +147,9 @@ fn put_nodes<K: Sink>(
     Ok(())
 }
 
-/// Prints a ranked tree, whole: its one text. `WriteFault` comes only where the sink's count of faults rose; what is out is then a
-/// front of the text, and after want of memory whole lines of it.
+/// Prints a ranked tree, whole: its one text. `WriteFault` comes only if the sink's count of faults
+/// rose; a front of the text is then printed. If there is no memory, first lines of it are printed,
+/// each whole.
 pub fn print_rank<K: Sink>(
     alloc: Global,
     problem: &Problem,

@@ -19,7 +19,8 @@ use tree_reading::{Cut, TreeFault, kind_at, line_at, read_rest};
 use tree_text_laws::{tails_are_read, trees_are_taken};
 use tree_text_rules::TreeKind;
 
-// The fault of a line that names a network where its line is the lesser one, else the other.
+// The fault of a line that names a network if its line comes before the other, else the other
+// fault.
 fn earlier(named: Option<(u32, TreeKind)>, line: u32, kind: TreeKind) -> (u32, TreeKind)
     ensures some { IfSome named (λ fault. result ≡ earlier fault (line, kind)) }
     ensures none { IfNone named (result ≡ (line, kind)) }
@@ -30,7 +31,7 @@ fn earlier(named: Option<(u32, TreeKind)>, line: u32, kind: TreeKind) -> (u32, T
     }
 }
 
-// All that stands behind the networks.
+// All that follows the networks.
 fn read_behind(
     alloc: Global,
     problem: &Problem,
@@ -75,7 +76,7 @@ fn read_behind(
     }
 }
 
-// All that stands behind the line that tells how many networks were asked for.
+// All that follows the line with the number of networks that were asked for.
 fn read_listed(
     alloc: Global,
     problem: &Problem,
@@ -127,9 +128,9 @@ fn read_counted(
     }
 }
 
-/// The ranked tree that a text stands for. `At` comes exactly where the text is not in the grammar, with the least line that has a
-/// fault, counted from 1, and its kind; `Memory` is want of memory. Linear in the bytes, of which the lines of tree and tail are copied
-/// once.
+/// The ranked tree that a text stands for. Unless there is no memory (`Memory`), `At` comes if and
+/// only if the text is not in the grammar. It has the least line that has a fault, counted from 1,
+/// and its kind. The time is linear in the bytes. The lines of tree and tail are copied once.
 pub fn read_rank(alloc: Global, problem: &Problem, bytes: &[u8]) -> Result<RankText, TreeFault>
     requires { length bytes.now < 2 ^ 32 - 1 }
     ensures read { IfOk result (λ t. read_text problem.now bytes.now ≡ Ok t) }

@@ -6,6 +6,7 @@ use branch_tree::Scaled;
 pub enum Mark {
     /// The leaf is open.
     Open,
-    /// The leaf names the network of this number, counted from 1, with multipliers over their scale that bound the cost of its flows.
+    /// The leaf names the network of this number, counted from 1, with multipliers over their scale
+    /// that bound the cost of its flows.
     Named { network: u32, scaled: Scaled },
 }

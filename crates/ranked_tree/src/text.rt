@@ -8,9 +8,10 @@ use crate::mark::Mark;
 use branch_tree::{Network, Tail, Tree};
 use std::marker::Model;
 
-/// So many networks as were asked for, those that were found, best first, and the tree that is to prove that no other is better, with
-/// a mark for each of its open leaves in preorder and the tail that tells where a search stopped. At least one network was asked for,
-/// no more are there, and networks are named by their numbers from 1 on.
+/// The number of networks asked for, those that were found, best first, and the tree that is to
+/// prove that no other is better. With the tree are a mark for each of its open leaves in preorder,
+/// and the tail, which says why a search stopped. At least one network was asked for, no more are
+/// there, and networks are named by their numbers from 1 on.
 #[derive(Drop)]
 pub struct RankText {
     count: u32,
@@ -68,7 +69,7 @@ impl RankText {
         &self.networks
     }
 
-    /// The tree, in which a leaf that names a network stands as an open one.
+    /// The tree, in which a leaf that names a network is an open leaf.
     pub fn tree(&self) -> &Tree
         ensures { result.now ≡ self.now.tree }
     {
@@ -82,14 +83,14 @@ impl RankText {
         &self.marks
     }
 
-    /// Where the search stopped.
+    /// Why the search stopped, if it did.
     pub fn tail(&self) -> &Tail
         ensures { tail_of result.now ≡ self.now.tail }
     {
         &self.tail
     }
 
-    /// The counts are kept. A call tells a proof so, and does nothing.
+    /// The counts are within their bounds. A call shows this to a proof, and does nothing.
     pub fn is_counted(&self)
         ensures counted { IsCounted self.now.count self.now.networks self.now.marks }
         ensures few { length self.now.networks < 2 ^ 32 }

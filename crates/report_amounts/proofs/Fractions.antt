@@ -1,4 +1,4 @@
--- The lowest terms of a fraction by Euclid's steps are its lowest terms.
+-- Euclid's steps give the lowest terms of a fraction.
 use Rattle.std.proofs.Common.{◌≡◌, ◌<◌, ℕ, zero, suc, ◌+◌, ◌*◌, ◌/◌, ◌%◌, ◌==◌, ◌^◌, Bool, true, false, ℤ, pos, negsuc, ◌+ℤ◌, ◌*ℤ◌, ◌<ℤ◌, true≢false, neg_ℤ, refl, sym, ap, ◌∙◌, subst, arith}
 use Rattle.std.specs.Prelude.{unsigned_abs, int_lt, ◌&&◌, Some, None, if◌then◌else◌}
 use Rattle.std.specs.Int.{IsGcd}

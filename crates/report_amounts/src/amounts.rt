@@ -32,7 +32,7 @@ pub(crate) fn quotient(num: i128, den: i128) -> Number
     Number::of(num, den)
 }
 
-/// The claimed number of the unit over the network's `d`, times num / den.
+/// The integer size of the unit over the network's `d`, times num / den.
 fn sized(network: &Network, u: u32, num: i128, den: i128) -> Number
     requires num_in_range { InRange num }
     requires den_in_range { InRange den }
@@ -51,7 +51,7 @@ pub fn size(network: &Network, u: u32) -> Number
     sized(network, u, 1, 1_000_000)
 }
 
-/// The share of a bound above 0, in millionths, that the size of the unit is.
+/// The size of the unit as a share of this bound, which is in millionths and above 0.
 pub fn share_of(network: &Network, u: u32, upper: i64) -> Number
     requires { pos 0 <ℤ upper }
     ensures { result ≡ sized network.now u (pos 1) upper }
@@ -114,7 +114,7 @@ fn unit_total(problem: &Problem, network: &Network, u: u32) -> Number
     yearly.plus(&investment(problem, network, u))
 }
 
-/// The rate where it is above 0, else 0.
+/// The rate if it is above 0, else 0.
 fn made_rate(rate: i64) -> i128
     ensures value { result ≡ made_rate rate }
     ensures in_range { InRange result }
@@ -122,7 +122,7 @@ fn made_rate(rate: i64) -> i128
     if rate < 0 { 0 } else { i128::from(rate) }
 }
 
-/// The rate without its sign where it is below 0, else 0.
+/// The rate without its sign if it is below 0, else 0.
 fn used_rate(rate: i64) -> i128
     ensures value { result ≡ used_rate rate }
     ensures in_range { InRange result }

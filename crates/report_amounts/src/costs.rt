@@ -33,7 +33,7 @@ pub fn flow_at(problem: &Problem, network: &Network, j: u32) -> i128
     flow_of(problem, network, j)
 }
 
-/// That times num / den.
+/// What the network leaves over of the material, over its `d`, times num / den.
 fn flowing(problem: &Problem, network: &Network, j: u32, num: i128, den: i128) -> Number
     requires feasible { IsFeasible problem.now network.now }
     requires material { has (materials_of (net_of problem.now) (has network.now.units)) j ≡ true }

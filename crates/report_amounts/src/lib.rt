@@ -1,12 +1,14 @@
-//! The numbers of a claimed network for one year: costs of its units, flows and costs of its materials, and their sums.
+//! Exact numbers of a network; that the total is units plus materials has no clause.
 //!
-//! `Amounts` of `report_rules` has each number as a fraction, formed before any rounding. One for which a number past 127 bits would be
-//! formed is past, and so is each sum over it.
+//! They are, for one year, the costs of its units, the flows and costs of its materials, and their
+//! sums, all before any rounding. In `report_rules`, `Amounts` has each as a fraction. A [`Number`]
+//! is a fraction in lowest terms, with numerator and denominator of at most 127 bits. If a number
+//! that has to be formed for it has more bits, it is none, which is printed as `past`; so is each
+//! sum over it. `Number` of `report_rules` says how numbers are formed and printed: with six digits
+//! if they have more, or as a share in per cent.
 //!
-//! Numbers are fractions in lowest terms whose numerator and denominator are of at most 127 bits; `Number` of `report_rules` has how they are
-//! formed and printed, with six digits where they have more, or as a share in per cent.
-//!
-//! Modules: `number`, such fractions; `amounts`, the numbers of units and their sums; `costs`, those of materials.
+//! Modules: `number`, such fractions; `amounts`, the numbers of units and their sums; `costs`,
+//! those of materials.
 #![tactic(auto)]
 
 mod amounts;

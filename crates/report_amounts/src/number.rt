@@ -1,4 +1,4 @@
-//! Fractions that may be past.
+//! Fractions, or none if a number overflows.
 ghost use Rattle.std.specs.Prelude.{◌≡◌, ◌++◌, ◌∷◌, [], ◌<ℤ◌, ◌*ℤ◌, ◌≤◌, ◌^◌, ◌*◌, ◌+◌, ◌/◌, ◌%◌, None, Some, pos, decimal, OnOk, option_map, string_bytes};
 ghost use Rattle.integer_laws.specs.Range.{InRange};
 ghost use Rattle.report_rules.specs.Number.{of, nothing, lowest, kept, times, plus, above, below, half_of, doubled_text, number_with, places_of, number_text, thousandths_text, share_text};
@@ -8,7 +8,7 @@ use frac128::Frac;
 use std::alloc::AllocError;
 use std::marker::Model;
 
-/// A fraction, or none where a number that was formed for it is past.
+/// A fraction, or none if a number that had to be formed for it has more than 127 bits.
 #[derive(Drop)]
 pub struct Number {
     fraction: Option<Frac>,
@@ -24,7 +24,7 @@ impl Model for Number {
 }
 
 impl Number {
-    /// num / den, where den is at least 1.
+    /// num / den, with a den of at least 1.
     pub fn of(num: i128, den: i128) -> Number
         requires num_in_range { InRange num }
         requires den_in_range { InRange den }
@@ -82,7 +82,7 @@ impl Number {
         }
     }
 
-    /// The number itself where it is above 0, else 0.
+    /// The number itself if it is above 0, else 0.
     pub fn above(self) -> Number
         ensures { result ≡ above self }
     {
@@ -92,7 +92,7 @@ impl Number {
         }
     }
 
-    /// The number itself where it is below 0, else 0.
+    /// The number itself if it is below 0, else 0.
     pub fn below(self) -> Number
         ensures { result ≡ below self }
     {
@@ -112,7 +112,8 @@ impl Number {
         }
     }
 
-    /// Appends the number with so many places, where the scale is the power of ten of the places, or `past`.
+    /// Appends the number with this many places, or `past` if there is none. The scale is
+    /// 10^places.
     fn push_with(&self, text: &mut String, places: u32, scale: u64) -> Result<(), AllocError>
         requires { scale ≡ 10 ^ places }
         ensures { OnOk result (string_bytes text.new ≡ string_bytes text.old ++ number_with places self.now) }
@@ -121,7 +122,7 @@ impl Number {
         doubled.push_doubled(text, places, scale)
     }
 
-    /// Appends the number with six digits where it has more, or `past`.
+    /// Appends the number with six digits if it has more, or `past` if there is none.
     pub fn push(&self, text: &mut String) -> Result<(), AllocError>
         ensures { OnOk result (string_bytes text.new ≡ string_bytes text.old ++ number_text self.now) }
     {
@@ -143,7 +144,7 @@ impl Number {
         }
     }
 
-    /// Appends the share in per cent, or `past`.
+    /// Appends the share in per cent, or `past` if there is none.
     pub fn push_share(&self, text: &mut String) -> Result<(), AllocError>
         ensures { OnOk result (string_bytes text.new ≡ string_bytes text.old ++ share_text self.now) }
     {
@@ -198,7 +199,7 @@ fn part_below(fraction: &Frac) -> Number
     }
 }
 
-/// Half of it, rounded, without its sign.
+/// Half of the fraction, rounded, without its sign.
 fn half_of(fraction: &Frac) -> u128
     ensures { result ≡ half_of (record { num = fraction.now.num; den = fraction.now.den }) }
 {

@@ -1,4 +1,4 @@
--- A number in range is none that is not.
+-- A number in range is none that is out of range.
 use Rattle.std.proofs.Common.{◌≡◌, ℤ, false, subst, arith}
 use Rattle.std.specs.Ordering.{int_eq}
 use Rattle.std.proofs.lemmas.Int.{ints}

@@ -1,4 +1,4 @@
--- What is appended piece after piece.
+-- Pieces appended one after another.
 use Rattle.std.proofs.Common.{◌≡◌, ℕ, List, [], ◌∷◌, ◌++◌, map, refl, sym, ap, ◌∙◌, append_assoc, append-nil}
 use Rattle.std.specs.Prelude.{flat_map}
 use Rattle.pns_problem.specs.Printing.{printed}
@@ -21,7 +21,7 @@ after_six old t1 t2 t3 t4 t5 t6 x y z v w u e f g h k l = after old t1 t6 x (y +
 
 -- ---- along a walk
 
--- the rows to come finish the list
+-- the list so far and the rows that are left give the whole list
 pub next_row : {X Y : Type 0} (row : Y → X) (left rest : List Y) (k : Y) (rows new whole : List X) → left ≡ k ∷ rest → new ≡ rows ++ row k ∷ [] → rows ++ map row left ≡ whole → new ++ map row rest ≡ whole
 next_row row left rest k rows new whole e f h =
     ap (λ xs. xs ++ map row rest) f ∙ append_assoc rows (row k ∷ []) (map row rest) ∙ ap (λ ks. rows ++ map row ks) (sym e) ∙ h
@@ -29,7 +29,7 @@ next_row row left rest k rows new whole e f h =
 pub last_row : {X Y : Type 0} (row : Y → X) (left : List Y) (rows whole : List X) → left ≡ [] → rows ++ map row left ≡ whole → rows ≡ whole
 last_row row left rows whole e h = sym (append-nil rows) ∙ ap (λ ks. rows ++ map row ks) (sym e) ∙ h
 
--- the pieces to come finish the text
+-- the text so far and the pieces that are left give the whole text
 pub next_piece : (piece : ℕ → List ℕ) (left rest : List ℕ) (k : ℕ) (text new whole : List ℕ) → left ≡ k ∷ rest → new ≡ text ++ piece k → text ++ flat_map piece left ≡ whole → new ++ flat_map piece rest ≡ whole
 next_piece piece left rest k text new whole e f h =
     ap (λ xs. xs ++ flat_map piece rest) f ∙ append_assoc text (piece k) (flat_map piece rest) ∙ ap (λ (ks : List ℕ). text ++ flat_map piece ks) (sym e) ∙ h

@@ -14,7 +14,7 @@ pub(crate) fn push_words(alloc: Global, row: &mut Row, words: &str) -> Result<()
     row.push(cell)
 }
 
-/// Appends the number with six digits where it has more, or `past`.
+/// Appends the number with six digits if it has more, or `past` if it overflows.
 #[tactic(auto, unfolding(report_rules::specs::Report::number_cell))]
 pub(crate) fn push_digits(text: &mut String, number: &Number) -> Result<(), AllocError>
     ensures { OnOk result (string_bytes text.new ≡ string_bytes text.old ++ number_cell number.now) }

@@ -1,10 +1,12 @@
-//! The report of a claimed network: its units, its materials and its money for one year as tables for people.
+//! The report of a network as exact tables. They show its units, its materials and its money for
+//! one year.
 //!
-//! In `report_rules`, `Report` has the lines, whose numbers are those of `report_amounts`, and `Aligned` the lines of any table, whose
-//! columns stand under each other. [`report_of`] gives their bytes.
+//! In `report_rules`, `Report` has the lines, with the numbers of `report_amounts`. `Aligned` has
+//! the lines of any table with aligned columns. [`report_of`] gives their bytes.
 //!
-//! Modules: `row`, `column`, `line` and `table`, aligned tables; `cells`, more cells in a row; `limits`, where a number is at a bound; `tables`, a table with the empty line
-//! behind it; `units`, `materials` and `money`, the three tables; `foot`; `text`, the whole.
+//! Modules: `row`, `column`, `line` and `table`, aligned tables; `cells`, more cells in a row;
+//! `limits`, whether a number is at a bound; `tables`, a table with an empty line after it;
+//! `units`, `materials` and `money`, the three tables; `foot`; `text`, the whole.
 #![tactic(auto)]
 
 mod cells;

@@ -1,4 +1,4 @@
-//! Where a number is at one of its bounds.
+//! Whether a number is at one of its bounds.
 ghost use Rattle.std.specs.Prelude.{◌≡◌, ◌*ℤ◌, ℕ};
 ghost use Rattle.std.specs.Ordering.{int_eq};
 ghost use Rattle.integer_laws.specs.Range.{InRange};
@@ -6,7 +6,7 @@ ghost use Rattle.report_rules.specs.Report.{idle_words, least_words, most_words,
 
 use int_rows::checked_product;
 
-/// Whether z over d is the bound. Where the product is out of range it is not z.
+/// Whether z over d is the bound. A product that overflows is not z, which is in range.
 fn is_at(z: i128, bound: i128, d: i128) -> bool
     requires { InRange z }
     ensures { result ≡ int_eq z (bound *ℤ d) }
@@ -50,7 +50,7 @@ fn most_words(idle: bool, lower: i128, upper: i128, z: i128, d: i128) -> &'stati
     }
 }
 
-/// The words, but where z over d is a bound that stands for none.
+/// The words; or `UNBOUNDED?`, if z over d is a bound that stands for none.
 #[tactic(auto, unfolding(report_rules::specs::Report::unbounded_or))]
 pub(crate) fn unbounded_or(none: i128, z: i128, d: i128, words: &'static str) -> &'static str
     requires { InRange z }
@@ -63,7 +63,7 @@ pub(crate) fn unbounded_or(none: i128, z: i128, d: i128, words: &'static str) ->
     }
 }
 
-/// At which of its bounds z over d is, in a word.
+/// The word for the bound, if any, that z over d is at.
 #[tactic(auto, unfolding(report_rules::specs::Report::limit_words))]
 pub(crate) fn limit_words(idle: bool, lower: i128, upper: i128, z: i128, d: i128) -> &'static str
     requires { InRange z }

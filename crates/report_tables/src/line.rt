@@ -18,7 +18,7 @@ fn push_spaces(text: &mut String, count: usize) -> Result<(), AllocError>
     Ok(())
 }
 
-/// Appends a cell behind the gap, which is then empty; of an empty cell nothing.
+/// Appends the gap and a cell, and empties the gap. Of an empty cell it appends nothing.
 fn push_shown(text: &mut String, gap: &mut String, cell: &str) -> Result<(), AllocError>
     ensures text { OnOk result (string_bytes text.new ≡ string_bytes text.old ++ shown (string_bytes gap.old) cell.now) }
     ensures gap { OnOk result (string_bytes gap.new ≡ gap_left (string_bytes gap.old) cell.now) }
@@ -116,7 +116,7 @@ fn push_behind(
     }
 }
 
-/// Appends a cell of a kept column behind the gap, and then makes the gap behind it.
+/// Appends the gap and a cell of a kept column, and then makes the gap that follows it.
 fn push_kept(
     text: &mut String,
     gap: &mut String,
@@ -134,7 +134,8 @@ fn push_kept(
     Ok(())
 }
 
-/// Appends a cell behind the gap, and then makes the gap behind it; of a column that is left out nothing.
+/// Appends the gap and a cell, and then makes the gap that follows it. Of a column that is left out
+/// it appends nothing.
 fn push_cell(
     text: &mut String,
     gap: &mut String,

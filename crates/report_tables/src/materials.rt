@@ -68,7 +68,7 @@ fn turned_flow(problem: &Problem, network: &Network, j: u32) -> i128
     bought_or_left(material_of(problem, j).kind, flow_at(problem, network, j))
 }
 
-/// Where the net amount of the material is at one of its bounds, in a word.
+/// The word for the bound, if any, that the net amount of the material is at.
 pub fn material_limit(problem: &Problem, network: &Network, j: u32) -> &'static str
     requires feasible { IsFeasible problem.now network.now }
     requires material { has (materials_of (net_of problem.now) (has network.now.units)) j ≡ true }

@@ -53,7 +53,7 @@ fn material_money(
     money_row(alloc, words, &cost_sum(part, site, network))
 }
 
-/// The claimed cost in one year, with six digits where it has more.
+/// The cost of the network in one year, with six digits if it has more.
 #[tactic(auto, unfolding(report_rules::specs::Report::total_cell))]
 pub fn push_total(text: &mut String, problem: &Problem, network: &Network) -> Result<(), AllocError>
     ensures { OnOk result (string_bytes text.new ≡ string_bytes text.old ++ total_cell problem.now network.now) }

@@ -41,7 +41,7 @@ impl Row {
         Ok(row)
     }
 
-    /// Appends a cell. After `Err`, which comes for want of memory alone, the row is as before.
+    /// Appends a cell. After `Err`, which only says that there was no memory, the row is as before.
     pub fn push(&mut self, cell: String) -> Result<(), AllocError>
         ensures appended { OnOk result (self.new ≡ self.old ++ string_bytes cell ∷ []) }
         ensures same { OnErr result (self.new ≡ self.old) }
@@ -50,7 +50,7 @@ impl Row {
         Ok(())
     }
 
-    /// The cell in column k, empty where there is none.
+    /// The cell in column k, or an empty one if there is none.
     pub(crate) fn cell(&self, k: usize) -> &str
         ensures { result.now ≡ cell_at k self.now }
     {

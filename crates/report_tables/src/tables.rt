@@ -1,4 +1,4 @@
-//! A table with the empty line behind it.
+//! A table with an empty line after it.
 ghost use Rattle.std.specs.Prelude.{◌≡◌, ◌++◌, OnOk, string_bytes};
 ghost use Rattle.pns_problem.specs.Printing.{printed};
 ghost use Rattle.report_rules.specs.Report.{table_and_gap};

@@ -98,7 +98,7 @@ fn push_report(
     Ok(())
 }
 
-/// The report of a network on its problem. Numbers past 128 bits are told as `past` in their cells.
+/// The report of a network on its problem. The cell of a number that overflows is `past`.
 pub fn report_of(alloc: Global, site: &Site<'_>, network: &Network) -> Result<Vec<u8>, AllocError>
     requires feasible { IsFeasible site.now network.now }
     ensures { IfOk result (λ bytes. bytes.items ≡ printed (report_lines site.now network.now)) }

@@ -32,7 +32,7 @@ const HEADING: [&str; 8] = [
 /// 1000000000 in millionths: a bound that stands for none.
 pub const NO_BOUND: i64 = 1_000_000_000_000_000;
 
-/// The share of the upper bound, or `-` where that is 0 or none.
+/// The share of the upper bound, or `-` if that is 0 or stands for none.
 fn push_share(
     alloc: Global,
     row: &mut Row,
@@ -52,7 +52,7 @@ fn push_share(
     row.push(cell)
 }
 
-/// Where the size of the unit is at one of its bounds, in a word.
+/// The word for the bound, if any, that the size of the unit is at.
 pub fn unit_limit(problem: &Problem, network: &Network, u: u32) -> &'static str
     requires { u < length problem.now.units }
     ensures { result.now ≡ unit_limit problem.now network.now u }

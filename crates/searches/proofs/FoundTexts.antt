@@ -75,7 +75,7 @@ module _ (optimal : AcceptedIsOptimal) (p : Problem) (valid : IsValid p) where
   pub found_solves : (budget : ℕ) (f : Found) → IsFound p first_node budget f → (s : Status) (lines : List (List ℕ)) → FoundSays p f s lines → SolveWork budget p s lines
   found_solves budget f h s lines said = (said.0, said.2.0, holds budget f h said.0 said.1, said.2.1)
 
-  -- ---- the same where no network is proved
+  -- ---- the same if no network is proved
 
   pub found_sums : (budget : ℕ) (f : Found) → IsFound p first_node budget f → ((w : Network) (tree : Tree) → f ≡ found.Solved w tree → ⊥) → (s : Status) (lines : List (List ℕ)) → FoundSays p f s lines → SummaryWork budget p s lines
   found_sums budget (found.Solved w tree) h not s lines said = absurd (not w tree refl)

@@ -14,7 +14,7 @@ use Rattle.studio_rules.specs.Summary.{CountsMaximal, summary_lines}
 regrouped : (u a f m b n names k c d v e : List ℕ) → ((u ++ (a ++ ((f ++ m) ++ (b ++ (f ++ n))))) ++ names) ++ ((f ++ k) ++ (c ++ (d ++ ((f ++ v) ++ (e ++ f))))) ≡ ((u ++ a) ++ f) ++ (((m ++ b) ++ f) ++ (((n ++ names) ++ f) ++ ((((k ++ c) ++ d) ++ f) ++ (((v ++ e) ++ f) ++ []))))
 regrouped u a f m b n names k c d v e = simp (append_assoc, append-nil)
 
--- the lines before the names of a network, and those behind them
+-- the lines before the names of a network, and those after them
 abbrev pub before_names : ℕ → ℕ → List ℕ
 before_names units most = codes "units " ++ (decimal units ++ (10 ∷ codes "maximal " ++ (decimal most ++ 10 ∷ codes "network")))
 

@@ -27,7 +27,7 @@ use studio_rules::Status;
 use tree_text::{PrintFault, print_tree};
 use tree_text_laws::spelled_texts_read;
 
-/// What is claimed, the tree, and where the search stopped.
+/// What is claimed, the tree, and a tail that says at which node the search stopped, if it did.
 #[derive(Drop)]
 pub struct Certificate {
     claim: Claim,
@@ -54,7 +54,8 @@ fn claim_with(best: Option<Network>) -> Claim
     }
 }
 
-/// What was found, as it is printed; `None` exactly for want of memory.
+/// What was found, as it is printed. It is `None` if and only if there was no memory for the
+/// search.
 pub fn certificate_of(found: Found) -> Option<Certificate>
     ensures { result ≡ certificate_of found }
 {
@@ -109,7 +110,8 @@ pub fn status_of(tail: &Tail) -> Status
     }
 }
 
-// The step of a place is a number that a line can hold. A call tells a proof so, and does nothing.
+// The step of a place is a number that a line can have. A call shows this to a proof, and does
+// nothing.
 fn place_is_counted(place: &Place)
     ensures { CountsPlace place.now }
 {
@@ -124,7 +126,8 @@ fn place_is_counted(place: &Place)
     }
 }
 
-/// The numbers of a tail are such that a line can hold. A call tells a proof so, and does nothing.
+/// The numbers of a tail are such that a line can have them. A call shows this to a proof, and does
+/// nothing.
 pub fn tail_is_counted(tail: &Tail)
     ensures { CountsTail (tail_of tail.now) }
 {
@@ -141,7 +144,8 @@ pub fn tail_is_counted(tail: &Tail)
     }
 }
 
-// A claimed network is sized, and its numbers are in range. A call tells a proof so, and does nothing.
+// The network of a claim is sized, and its numbers are in range. A call shows this to a proof, and
+// does nothing.
 fn claim_is_kept(claim: &Claim)
     ensures { KeepsClaim (claim_of claim.now) }
 {
@@ -161,7 +165,7 @@ impl Certificate {
         (self.claim, self.tree, self.tail)
     }
 
-    /// The text of a certificate reads as it. A call tells a proof so, and does nothing.
+    /// The text of a certificate reads back as it. A call shows this to a proof, and does nothing.
     pub fn reads_back(&self, problem: &Problem)
         requires claim { KnowsClaim problem.now self.now.claim }
         requires tree { KnowsTree problem.now self.now.tree }
@@ -199,7 +203,7 @@ impl Certificate {
         print_tree(alloc, problem, &self.claim, &self.tree, &self.tail, out)
     }
 
-    /// Says the certificate. The status tells where the search stopped.
+    /// Prints the certificate. The status is that of its tail, so it says why the search stopped.
     pub(crate) fn say<K: Sink, E: Sink>(
         &self,
         alloc: Global,

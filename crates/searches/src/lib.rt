@@ -1,15 +1,15 @@
 //! The commands that search all structures of a problem: `solve` and `trial`.
 //!
-//! [`solve::solve`] prints a claim, the tree that proves it and where the search stopped, for the
-//! problem of a file; [`trial::trial`] a summary in the place of a proved network, for a problem out
-//! of numbers. `Solve`, `Summary` and `Trial` of `studio_rules` say what the lines are with which
-//! status.
+//! For the problem of a file, [`solve::solve`] prints a claim, the tree that proves it, and at
+//! which node the search stopped if it did. For a problem out of numbers, [`trial::trial`] prints a
+//! summary instead of a proved network. `Solve`, `Summary` and `Trial` of `studio_rules` say which
+//! lines are printed with which status.
 //!
-//! [`search_all`] searches a problem, and [`say_found`] prints what was found, for the commands that
-//! search; [`stopped_notes`] are the second lines of a search that stopped.
+//! The commands that search use [`search_all`], which searches a problem, and [`say_found`], which
+//! prints what was found. [`stopped_notes`] are the second lines of a search that stopped.
 //!
-//! Modules: `certificate`, the text of a claim, a tree and a tail; `stopped`; `solve`, `summary` and
-//! `trial`.
+//! Modules: `certificate`, the text of a claim, a tree and a tail; `stopped`; `solve`, `summary`
+//! and `trial`.
 #![tactic(auto)]
 
 mod certificate;

@@ -41,7 +41,8 @@ pub fn search_all<W: Watch>(
     search_watched(alloc, &Site::of(problem, graph), start, effort, None)
 }
 
-/// Says an allowed network of least cost with the tree that proves it, or that no network has flows; or how far the search came.
+/// Prints a network of least cost with the tree that proves it, or that no network has flows. Of a
+/// search that stopped it prints how far that came.
 pub fn say_solved<K: Sink, E: Sink, W: Watch>(
     alloc: Global,
     out: &mut Outputs<K, E>,
@@ -62,8 +63,8 @@ pub fn say_solved<K: Sink, E: Sink, W: Watch>(
     say_found(alloc, out, problem, found, budget)
 }
 
-/// Says an allowed network of least cost for the file's problem with the tree that proves it, or that no network has flows; or how
-/// far the search came.
+/// Prints a network of least cost for the file's problem with the tree that proves it, or that no
+/// network has flows. Of a search that stopped it prints how far that came.
 pub fn solve<F: Shelf, K: Sink, E: Sink, W: Watch>(
     alloc: Global,
     file: &str,

@@ -1,4 +1,4 @@
-//! What is said for people of a search that stopped.
+//! What is printed for people of a search that stopped.
 ghost use Rattle.std.specs.Prelude.{◌≡◌};
 
 use branch_tree::{Claim, Network, Tail};
@@ -25,7 +25,7 @@ fn stop_of(tail: &Tail, budget: u64) -> Option<Stop> {
     }
 }
 
-/// The network that is claimed, if one is.
+/// The network of the claim, if it has one.
 pub fn claimed(claim: &Claim) -> Option<&Network> {
     match claim {
         Claim::Network(network) => Some(network),
@@ -34,7 +34,7 @@ pub fn claimed(claim: &Claim) -> Option<&Network> {
 }
 
 /// The second lines of a search with this budget: why it stopped, what its best network costs, and
-/// what to do; none where it was finished.
+/// what to do. There are none if it was finished, or if there is no memory for the cost.
 pub fn stopped_notes(
     alloc: Global,
     problem: &Problem,

@@ -40,7 +40,7 @@ fn maximal_count(problem: &Problem, graph: &Graph) -> u32
     }
 }
 
-// The lines before the names of the network, and those behind them.
+// The lines before the names of the network, and those after them.
 fn sizes_text(alloc: Global, units: usize, most: u32) -> Result<String, AllocError>
     ensures { IfOk result (λ text. string_bytes text ≡ codes "units " ++ (decimal units ++ (10 ∷ codes "maximal " ++ (decimal most ++ 10 ∷ codes "network")))) }
 {
@@ -93,7 +93,7 @@ fn say_summary<K: Sink, E: Sink>(
     )
 }
 
-/// Says a summary of what the search solves; or how far it came.
+/// Prints a summary of what the search solves, or how far it came.
 pub fn say_summed<K: Sink, E: Sink, W: Watch>(
     alloc: Global,
     out: &mut Outputs<K, E>,

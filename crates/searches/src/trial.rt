@@ -11,7 +11,8 @@ use progress::{Effort, Watch};
 use std::alloc::Global;
 use studio_rules::Status;
 
-/// Says what the search of the problem of this number with so many operating units, 1 to 128, comes to.
+/// Prints what a search finds of the problem of this number with this many operating units, 1 to
+/// 128.
 pub fn trial<K: Sink, E: Sink, W: Watch>(
     alloc: Global,
     number: u64,

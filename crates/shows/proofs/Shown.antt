@@ -43,7 +43,7 @@ tells_of answers (past node nonbasic place) lines text h e = (lines, h, e)
 pub found_shows : AcceptedIsOptimal → (p : Problem) → IsValid p → (budget : ℕ) (f : Found) → IsFound p first_node budget f → (s : Status) (lines : List (List ℕ)) → FoundShows p f s lines → ShowWork budget p s lines
 found_shows optimal p valid budget f h s lines said = (said.0, holds optimal p valid budget f h said.0 said.1, said.2)
 
--- what is proved is told so
+-- if the claim is proved, the lines say so
 proved_lines : (p : Problem) (claim : Claim) (tree : Tree) (v : Verdict) (lines : List (List ℕ)) → Solves p claim tree → IsVerdict p claim tree v → lines ≡ verdict_lines p claim v → lines ≡ proved_line p claim ∷ tables_of p claim
 proved_lines p claim tree Proved lines solves is e = e
 proved_lines p claim tree Unfinished lines solves is e = absurd (is.0 solves.proved.accepted)

@@ -29,7 +29,7 @@ use studio_rules::Status;
 use tree_laws::accepted_is_optimal;
 use verdicts::verdict_of;
 
-/// Says a report with the status of the search, by where that stopped.
+/// Prints a report with the status of the search, which says why that stopped if it did.
 fn say_report<K: Sink, E: Sink>(
     out: &mut Outputs<K, E>,
     text: &[u8],
@@ -46,8 +46,8 @@ fn say_report<K: Sink, E: Sink>(
     }
 }
 
-/// What the tree proves of the claim, and the network. The claim of a search passes, so that there is
-/// none for want of memory alone.
+/// What the tree proves of the claim, and the network. The claim of a search passes, so there is no
+/// report only if there is no memory.
 fn report_of(alloc: Global, site: &Site<'_>, claim: &Claim, tree: &Tree) -> Option<Vec<u8>>
     requires few { length tree.now < 2 ^ 32 }
     ensures { IfSome result (λ bytes. (lines : List (List ℕ)) × ReportSays site.now (claim_of claim.now) tree.now lines × (bytes.items ≡ text_of lines)) }
@@ -61,7 +61,7 @@ fn report_of(alloc: Global, site: &Site<'_>, claim: &Claim, tree: &Tree) -> Opti
     }
 }
 
-/// Says what a search found, for people.
+/// Prints for people what a search found.
 fn say_certificate<K: Sink, E: Sink>(
     alloc: Global,
     out: &mut Outputs<K, E>,
@@ -82,7 +82,7 @@ fn say_certificate<K: Sink, E: Sink>(
     }
 }
 
-/// The same, where there was memory for the search.
+/// The same, if there was memory for the search.
 fn say_found<K: Sink, E: Sink>(
     alloc: Global,
     out: &mut Outputs<K, E>,
@@ -99,7 +99,7 @@ fn say_found<K: Sink, E: Sink>(
     }
 }
 
-/// Searches the problem, and says what was found.
+/// Searches the problem, and prints what was found.
 fn say_shown<K: Sink, E: Sink, W: Watch>(
     alloc: Global,
     out: &mut Outputs<K, E>,
@@ -126,7 +126,7 @@ pub fn shown_is_proved()
     ensures { ShownIsProved }
 {}
 
-/// Says for people what the search of the file's problem finds and what its tree proves.
+/// Prints for people what the search of the file's problem finds and what its tree proves.
 pub fn show<F: Shelf, K: Sink, E: Sink, W: Watch>(
     alloc: Global,
     file: &str,

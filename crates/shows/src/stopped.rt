@@ -7,7 +7,7 @@ use endings::say::say_unfinished;
 use pns_io::{Outputs, Sink};
 use studio_rules::Status;
 
-/// Puts the text on standard output, and says on standard error why it is not finished.
+/// Prints the text on standard output, and on standard error why the search is not finished.
 pub(crate) fn say_stopped<K: Sink, E: Sink>(
     out: &mut Outputs<K, E>,
     text: &[u8],

@@ -1,4 +1,4 @@
--- What the lines that are out tell of the range.
+-- What the printed lines say of the range.
 use Rattle.std.proofs.Common.{◌≡◌, ◌<◌, ◌∷◌, ℕ, ℤ, List, Option, Some, None, Ok, length, refl, sym, ◌∙◌, subst, inl, inr}
 use Rattle.number_sets.proofs.SetLemmas.{below_from}
 use Rattle.problem_rules.specs.Problem.{Problem}
@@ -41,7 +41,7 @@ some_is P a b e h = subst P (let e' : a ≡ b = cc in e') h
 pub can_print_there : (q r : Problem) (budget : ℕ) (f : Found) (c : Certificate) (o : Option Certificate) → r ≡ q → IsFound q first_node budget f → o ≡ certificate_of f → o ≡ Some c → CanPrint r c
 can_print_there q r budget f c o same h is some = subst (λ (t : Problem). CanPrint t c) (sym same) (can_print budget q f h c (sym is ∙ some))
 
--- the text of what was found, behind the value
+-- the text of what was found, after the line of the value
 pub stop_says : (q : Problem) (value : ℤ) (f : Found) (c : Certificate) → certificate_of f ≡ Some c → read_text q (tree_text q c.claim c.tree c.tail) ≡ Ok c → (status : Status) → status ≡ status_of c.tail
     → (s : Status) (lines : List (List ℕ)) → OneAnswer status (at_line value ∷ tree_text_lines q c.claim c.tree c.tail) s lines → StopSays q value f s lines
 stop_says q value f c is reads status st s lines h =

@@ -1,4 +1,5 @@
--- What the printing of a range needs, and the text of a search that stops, for the proof of the command.
+-- What the printing of a range needs, and the text of a search that stops, for the proof of the
+-- command.
 use Rattle.std.specs.Prelude.{◌≡◌, ℕ, ℤ, List, [], ◌∷◌, ◌++◌, Option, Some, None, length}
 use Rattle.number_sets.specs.Sets.{AreBelow}
 use Rattle.problem_rules.specs.Problem.{Problem}
@@ -14,6 +15,6 @@ abbrev pub KnowsBeyond : Problem → Option Network → Type 0
 KnowsBeyond p None = Unit {0}
 KnowsBeyond p (Some w) = AreBelow (length p.units) w.units
 
--- the value, and behind it the text of what was found
+-- the line of the value, and after it the text of what was found
 abbrev pub StopSays : Problem → ℤ → Found → Status → List (List ℕ) → Type 0
 StopSays p value found status lines = (rest : List (List ℕ)) × FoundSays p found status rest × (lines ≡ spelled (at_line value ∷ []) ++ rest)

@@ -1,7 +1,8 @@
-//! The command `stable`: how far one price or cost may move while a claimed network stays optimal.
+//! The command `stable` judges the claim, and not the nodes.
 //!
-//! [`stable::stable`] reads a problem and a tree, looks the name up, judges the claim's lines and tells the range. `Stable`
-//! of `studio_rules` says what the lines are with which status.
+//! It prints how far one price or cost may move while the network of a claim stays optimal.
+//! [`stable::stable`] reads a problem and a tree, looks the name up, judges the lines of the claim,
+//! and prints the range. `Stable` of `studio_rules` says which lines are printed with which status.
 //!
 //! Modules: `stable`, the command; `text`, its lines.
 #![tactic(auto)]

@@ -39,7 +39,8 @@ use studio_rules::Status;
 use tree_laws::accepted_is_optimal;
 use tree_text::PrintFault;
 
-/// The spot of this kind and name, none exactly where the problem has no such material or unit.
+/// The spot of this kind and name. It is `None` if and only if the problem has no such material or
+/// unit.
 fn spot_named(problem: &Problem, kind: SpotKind, name: &str) -> Option<Spot>
     ensures { result ≡ spot_named problem.now kind name.now }
 {
@@ -59,7 +60,7 @@ fn spot_named(problem: &Problem, kind: SpotKind, name: &str) -> Option<Spot>
     }
 }
 
-// What is said of a name that the problem has not.
+// What is printed of a name that the problem does not have.
 fn unknown_name(alloc: Global, problem: &Problem, kind: SpotKind, name: &str) -> Notes {
     match kind {
         SpotKind::Price => unknown_material(alloc, problem, name),
@@ -67,7 +68,7 @@ fn unknown_name(alloc: Global, problem: &Problem, kind: SpotKind, name: &str) ->
     }
 }
 
-/// Says that a network is not the best, and a cheaper one of least cost.
+/// Prints that a network is not the best, and a cheaper one of least cost.
 fn say_not_best<K: Sink, E: Sink>(
     alloc: Global,
     out: &mut Outputs<K, E>,
@@ -84,7 +85,7 @@ fn say_not_best<K: Sink, E: Sink>(
     }
 }
 
-/// Says that the network's cost is past the range at a value.
+/// Prints that the network's cost overflows at a value.
 fn say_past_cost<K: Sink, E: Sink>(
     alloc: Global,
     out: &mut Outputs<K, E>,
@@ -97,7 +98,8 @@ fn say_past_cost<K: Sink, E: Sink>(
     say_printed(out, printed, Status::Past)
 }
 
-/// Says at which value a search stopped, and how far it came there on the problem with this value in the spot.
+/// Prints at which value a search stopped, and how far it came on the problem with this value in
+/// the spot.
 fn say_stopped<K: Sink, E: Sink>(
     alloc: Global,
     out: &mut Outputs<K, E>,
@@ -124,7 +126,7 @@ fn say_stopped<K: Sink, E: Sink>(
     }
 }
 
-/// Says why no range is told.
+/// Prints why there is no range.
 fn say_refusal<K: Sink, E: Sink>(
     alloc: Global,
     out: &mut Outputs<K, E>,
@@ -179,7 +181,7 @@ fn say_refusal<K: Sink, E: Sink>(
     }
 }
 
-/// Says the range of a spot for a network, or why none is told.
+/// Prints the range of a spot for a network, or why there is none.
 fn say_range<K: Sink, E: Sink, W: Watch>(
     alloc: Global,
     out: &mut Outputs<K, E>,
@@ -207,7 +209,7 @@ fn say_range<K: Sink, E: Sink, W: Watch>(
     }
 }
 
-/// Says the range for the network of a claim, of which each line is judged.
+/// Prints the range for the network of a claim, of which each line is judged.
 fn say_claimed<K: Sink, E: Sink, W: Watch>(
     alloc: Global,
     out: &mut Outputs<K, E>,
@@ -232,7 +234,7 @@ fn say_claimed<K: Sink, E: Sink, W: Watch>(
     }
 }
 
-/// Says the same, or that the name is none of the problem.
+/// Prints the same, or that the problem does not have the name.
 fn say_named<K: Sink, E: Sink, W: Watch>(
     alloc: Global,
     out: &mut Outputs<K, E>,
@@ -254,7 +256,7 @@ fn say_named<K: Sink, E: Sink, W: Watch>(
     }
 }
 
-/// Says the same for the claim of a tree file.
+/// Prints the same for the claim of a tree file.
 fn say_tree<F: Shelf, K: Sink, E: Sink, W: Watch>(
     alloc: Global,
     problem: &Problem,
@@ -280,8 +282,9 @@ fn say_tree<F: Shelf, K: Sink, E: Sink, W: Watch>(
     }
 }
 
-/// Says how far the price or the cost of this name may move while the network that the tree of the one file claims on the problem of
-/// the other stays optimal among the allowed ones, with a network that is cheaper one step beyond each end.
+/// Prints how far the price or the cost of this name may move. Within the range, the network that
+/// the tree of the one file claims on the problem of the other stays optimal. A network that is
+/// cheaper one step beyond an end is printed too, unless the end is the limit of the values.
 pub fn stable<F: Shelf, K: Sink, E: Sink, W: Watch>(
     alloc: Global,
     file: &str,

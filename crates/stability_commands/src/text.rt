@@ -25,7 +25,7 @@ fn number_line(alloc: Global, head: &str, number: i64) -> Result<String, AllocEr
     Ok(text)
 }
 
-/// Puts a line, which has its line feed.
+/// Prints a line that has its line feed.
 fn put<K: Sink>(out: &mut K, line: &[u8]) -> Result<(), PrintFault>
     ensures prints { (tokens : List Token) → line.now ≡ line_text tokens → Prints (tokens ∷ []) (K.state out.old) (K.state out.new) result }
     ensures later { (K.state out.old).faults ≤ (K.state out.new).faults }
@@ -36,7 +36,7 @@ fn put<K: Sink>(out: &mut K, line: &[u8]) -> Result<(), PrintFault>
     }
 }
 
-/// Puts the line of a word and a number.
+/// Prints the line of a word and a number.
 fn put_number<K: Sink>(
     alloc: Global,
     out: &mut K,
@@ -59,7 +59,7 @@ fn step_line(alloc: Global, at: u32) -> Result<String, AllocError>
     Ok(text)
 }
 
-/// Puts the line of a step of a cost.
+/// Prints the line of a step of a cost.
 fn put_step<K: Sink>(alloc: Global, out: &mut K, at: u32) -> Result<(), PrintFault>
     ensures prints { Prints ((codes "place" ∷ codes "cost" ∷ decimal at ∷ []) ∷ []) (K.state out.old) (K.state out.new) result }
     ensures later { (K.state out.old).faults ≤ (K.state out.new).faults }
@@ -80,7 +80,7 @@ fn beyond_line(side: Side) -> &'static [u8]
     }
 }
 
-/// The line where an end of the range is the limit of the values.
+/// The line of an end of the range that is the limit of the values.
 fn limit_line(side: Side) -> &'static [u8]
     ensures { result.now ≡ line_text (side_word side ∷ codes "limit" ∷ []) }
 {
@@ -90,7 +90,7 @@ fn limit_line(side: Side) -> &'static [u8]
     }
 }
 
-/// Puts a line, which has its line feed, and the lines of a network.
+/// Prints a line that has its line feed, and the lines of a network.
 fn put_headed<K: Sink>(
     alloc: Global,
     problem: &Problem,
@@ -110,7 +110,7 @@ fn put_headed<K: Sink>(
     }
 }
 
-/// Puts what stands beyond an end of the range.
+/// Prints the network beyond an end of the range, or that this end is the limit of the values.
 fn put_beyond<K: Sink>(
     alloc: Global,
     problem: &Problem,
@@ -128,7 +128,7 @@ fn put_beyond<K: Sink>(
     }
 }
 
-/// Puts an end of a range, and what stands beyond it.
+/// Prints an end of a range, and what is beyond it.
 fn put_end<K: Sink>(
     alloc: Global,
     problem: &Problem,
@@ -189,7 +189,7 @@ pub(crate) fn print_not_best<K: Sink>(
     put_headed(alloc, problem, out, b"not best\n", cheaper)
 }
 
-/// Prints at which value the network's cost is past the range, and the step.
+/// Prints the value at which the network's cost overflows, and the step.
 pub(crate) fn print_past_cost<K: Sink>(
     alloc: Global,
     value: i64,

@@ -1,4 +1,5 @@
--- A network that is optimal at two values is optimal between them, and one whose cost rises as little as any can stays so on that side.
+-- A network that is optimal at two values is optimal between them. One whose cost rises as little
+-- as any can stays so on that side.
 use Rattle.std.proofs.Common.{◌≡◌, ℕ, Bool, ℤ, pos, ◌+ℤ◌, ◌-ℤ◌, ◌*ℤ◌, ◌≤ℤ◌, sym, ap, ◌∙◌, subst, arith}
 use Rattle.std.proofs.lemmas.Int.{ints}
 use Rattle.integer_laws.proofs.Ring.{ring_z}
@@ -36,7 +37,7 @@ excess_line p spot h w s z d =
 shape_between : (p : Problem) (spot : Spot) → KnowsSpot p spot → (v x : ℤ) → shape_of (valued p spot v) ≡ shape_of (valued p spot x)
 shape_between p spot h v x = shape_stays p spot h v ∙ sym (shape_stays p spot h x)
 
--- no less at x, where the network is optimal
+-- no less at a value x at which the network is optimal
 excess_at : (p : Problem) (spot : Spot) → KnowsSpot p spot → (w : Network) (v x : ℤ) → IsBestAt p spot w x
     → (s : ℕ → Bool) → IsStructure (shape_of (valued p spot v)) s → IsAllowed (shape_of (valued p spot v)) s
     → (z : ℕ → ℤ) (d : ℤ) → IsFlows (net_of (valued p spot v)) s z d → pos 0 ≤ℤ excess p spot w s z d x

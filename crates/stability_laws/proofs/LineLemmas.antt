@@ -1,4 +1,5 @@
--- Straight lines: what is put together of them is one, and one that is not below 0 at two values is not below 0 between them.
+-- Straight lines: a sum or a multiple of them is one, and one that is not below 0 at two values is
+-- not below 0 between them.
 use Rattle.std.proofs.Common.{◌≡◌, ℕ, zero, suc, Bool, true, false, cond, List, [], ◌∷◌, inl, inr, ℤ, pos, ◌+ℤ◌, ◌-ℤ◌, ◌*ℤ◌, ◌≤ℤ◌, ap, ◌∙◌, arith}
 use Rattle.std.proofs.lemmas.Int.{ints}
 use Rattle.integer_laws.specs.Total.{total, total_below}

@@ -32,7 +32,7 @@ use Rattle.stability_laws.proofs.NetLemmas.{fix_in, net_in, net_valued}
 abbrev unit_cost : Problem → Spot → ℤ → (ℕ → ℤ) → ℤ → ℕ → ℤ
 unit_cost p spot v z d k = (fix_in p spot v k *ℤ trillion) *ℤ d +ℤ size_cost (net_in p spot v) k *ℤ z k
 
--- and what it costs more where the value, over the payout period, is so much more
+-- and what it costs more if the value, over the payout period, is this much more
 abbrev moved : Problem → Spot → (ℕ → ℤ) → ℤ → ℤ → ℕ → ℤ
 moved p (Price x) z d more k = neg_ℤ more *ℤ (rate_of p x k *ℤ z k)
 moved p (Fix u) z d more k = cond (u == k) (more *ℤ (trillion *ℤ d)) (pos 0)
@@ -161,7 +161,7 @@ bounded true t lower upper left d hl hu hd low high = (low, le_trans_z left ((mi
 bounded false true lower upper left d hl hu hd low high = (low, high)
 bounded false false lower upper left d hl hu hd low high = (le_trans_z ((million *ℤ pos 0) *ℤ d) ((million *ℤ lower) *ℤ d) left (scaled_up (pos 0) lower d hl hd) low, high)
 
--- of one that it has not nothing, and it has each product
+-- nothing is left over of a material that the structure does not have, and it has each product
 unbounded : (r t : Bool) (lower upper left d : ℤ) → pos 0 ≤ℤ upper → pos 0 ≤ℤ d → left ≡ pos 0 → (t ≡ true → ⊥)
     → (((million *ℤ cond r (neg_ℤ upper) (cond t lower (pos 0))) *ℤ d) ≤ℤ left) × (left ≤ℤ ((million *ℤ cond r (pos 0) upper) *ℤ d))
 unbounded r true lower upper left d hu hd e none = absurd (none refl)

@@ -1,4 +1,4 @@
--- The problem with another value in the spot: what stands where, and that it is valid.
+-- The problem with another value in the spot: which value is at each place, and that it is valid.
 use Rattle.std.proofs.Common.{◌≡◌, ℕ, ◌<◌, ◌==◌, Bool, true, false, cond, List, length, get_or, set, inl, inr, ℤ, pos, negsuc, neg_ℤ, ◌≤ℤ◌, refl, sym, ap, ◌∙◌, arith}
 use Rattle.std.specs.Prelude.{int_lt}
 use Rattle.std.proofs.lemmas.Int.{ints}
@@ -16,7 +16,7 @@ use Rattle.stability_rules.specs.declared.spot.Spot.{Spot}
 use Rattle.stability_rules.specs.declared.spot.Spot.TheVariants.{Price, Fix, Proportional}
 use Rattle.stability_rules.specs.Spot.{KnowsSpot, value_at, valued, IsAllowedValue}
 
--- ---- what stands where
+-- ---- the value at each place
 
 changed_at : {X : Type 0} (f : X → X) (xs : List X) (k j : ℕ) (d : X) → k < length xs
     → get_or (set xs k (f (get_or xs k d))) j d ≡ cond (k == j) (f (get_or xs j d)) (get_or xs j d)

@@ -1,4 +1,4 @@
--- The laws of values in a spot, each of which a public function of this crate has as its contract.
+-- The laws of values in a spot. Each is the contract of a public function of this crate.
 use Rattle.std.specs.Prelude.{◌≡◌, ℕ, ℤ, ◌+ℤ◌, ◌*ℤ◌, ◌≤ℤ◌, Bool}
 use Rattle.number_sets.specs.Sets.{has}
 use Rattle.problem_rules.specs.Problem.{Problem}
@@ -53,14 +53,15 @@ BestBetween =
     (p : Problem) (spot : Spot) → KnowsSpot p spot → (w : Network) (x y v : ℤ) → IsBestAt p spot w x → IsBestAt p spot w y
     → x ≤ℤ v → v ≤ℤ y → IsBestAt p spot w v
 
--- one step farther away the flows of no structure cost less than the least rise more
+-- one step farther away, the flows of no structure cost less than the least rise more
 abbrev pub RisesEnough : Type 0
 RisesEnough =
     (p : Problem) → IsValid p → (spot : Spot) → KnowsSpot p spot
     → (s : ℕ → Bool) → IsStructure (shape_of p) s → (z : ℕ → ℤ) (d : ℤ) → IsFlows (net_of p) s z d → (side : Side) (v : ℤ)
     → (cost (net_of (valued p spot v)) s z d +ℤ least_rise p spot side *ℤ d) ≤ℤ cost (net_of (valued p spot (value_on side v 1))) s z d
 
--- so a network that is optimal now, and costs just so much more one step away, is optimal on this side however far away
+-- so a network that is optimal now, and costs exactly the least rise more one step away, is optimal
+-- on this side however far away
 abbrev pub BestAway : Type 0
 BestAway =
     (p : Problem) → IsValid p → (spot : Spot) → KnowsSpot p spot → (w : Network) → IsFeasible p w → IsBestAt p spot w (value_at p spot) → (side : Side)

@@ -1,7 +1,11 @@
-//! Laws of sensitivity ranges: what a value in a spot leaves as it is, that the cost of flows is a straight line in it, that a
-//! network that is optimal at two values is optimal between them, and that one whose cost rises as little as any can stays optimal.
+//! What is best at two values of a price or cost is best between them.
 //!
-//! `specs/Laws` states them. Each is the contract of a function that does nothing: a caller's proof has the law behind the call.
+//! These are the laws of sensitivity ranges. They say what a value in a spot does not change, and
+//! that the cost of flows is a straight line in it. A network that is optimal now, and whose cost
+//! rises on one side as little as any can, stays optimal there.
+//!
+//! `specs/Laws` states them. Each is the contract of a function that does nothing; a call gives a
+//! proof its law.
 #![tactic(auto)]
 
 ghost use Rattle.stability_laws.specs.Laws.{ValuedIsValid, PresentIsAllowed, ValuedIsSame, ShapeStays, FeasibleStays, CostIsALine, BestBetween, RisesEnough, BestAway};
@@ -17,21 +21,23 @@ pub fn present_stays()
     ensures same { ValuedIsSame }
 {}
 
-/// The P-graph is the same with each value in the spot; and a network is feasible there at what its flows cost, where the numbers
-/// of this cost are in range.
+/// The P-graph is the same with each value in the spot. A network is feasible there at what its
+/// flows cost, if the numbers of this cost are in range.
 pub fn structures_stay()
     ensures shape { ShapeStays }
     ensures feasible { FeasibleStays }
 {}
 
-/// The cost of flows is a straight line in the value; a network that is optimal at two values is optimal at each value between.
+/// The cost of flows is a straight line in the value. A network that is optimal at two values is
+/// optimal at each value between.
 pub fn best_between()
     ensures line { CostIsALine }
     ensures between { BestBetween }
 {}
 
-/// One step away from a value the cost of each structure's flows rises by at least `least_rise`, over their `d`; a network that is
-/// optimal now and whose cost rises by no more on a side is optimal at each value there.
+/// One step away from a value, the cost of each structure's flows rises by at least `least_rise`,
+/// over their `d`. A network that is optimal now, and whose cost rises by no more on a side, is
+/// optimal at each value there.
 pub fn best_away()
     ensures rises { RisesEnough }
     ensures away { BestAway }

@@ -18,7 +18,7 @@ use Rattle.studio_rules.specs.declared.status.Status.TheVariants.{Done}
 use Rattle.structure_commands.proofs.Listings.{lines_cut}
 use Rattle.structure_commands.proofs.ListingStart.{not_start, set_of}
 
--- ---- lists with an element behind
+-- ---- lists with one more element at the end
 
 module _ {A : Type 0} (xs ys : List A) (x y : A) (e : xs ++ x ∷ [] ≡ ys ++ y ∷ []) where
   same_length : length xs ≡ length ys
@@ -50,7 +50,7 @@ is_in : (xs : List (List ℕ)) (z : List ℕ) (ys : List (List ℕ)) → IsIn z 
 is_in [] z ys = inl refl
 is_in (x ∷ xs) z ys = inr (is_in xs z ys)
 
--- the last line of a listing is that of what stands behind its first structures
+-- the last line of a listing is that of the structures after its first ones
 module _ (given rest : List (List ℕ)) (m n : ℕ) (many : length given ≡ m) (some : 0 < n) where
   last_given : n < length rest → last_of (take (m + n) (given ++ rest)) ≡ last_of (take n rest)
   last_given less =
@@ -74,7 +74,7 @@ module _ (given rest : List (List ℕ)) (m n : ℕ) (many : length given ≡ m) 
       at true false e f = absurd (let l = long in let a = ltb-true n (length rest) e in let b = ltb-false (m + n) (length (given ++ rest)) f in omega (arith, a, b, l))
       at false true e f = absurd (let l = long in let a = ltb-false n (length rest) e in let b = ltb-true (m + n) (length (given ++ rest)) f in omega (arith, a, b, l))
 
--- ---- where the second part begins
+-- ---- the structure at which the second part begins
 
 after_is : (p : Problem) (z : List ℕ) (token : List ℕ) (after : Option (List ℕ)) → length p.units ≤ 128 → IsRising z → IsStructure (shape_of p) (has z) → token ≡ token_of z → IsAfter (shape_of p) token after → after ≡ Some z
 after_is p z token None few up is e h = absurd (not_start token z e h)

@@ -1,4 +1,4 @@
--- Where a listing begins.
+-- At which structure a listing begins.
 use Rattle.std.proofs.Common.{◌≡◌, ◌≤◌, ℕ, List, Option, Some, None, IfSome, IfNone, codes, length, sym, ap, subst, ◌∙◌, arith}
 use Rattle.number_sets.specs.Sets.{has, IsRising, IsSet}
 use Rattle.number_sets.proofs.SetLemmas.{below_from, AreBelow-higher}

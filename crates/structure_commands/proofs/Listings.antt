@@ -27,7 +27,7 @@ last_of-push (t ∷ r ∷ ss) s = last_of-push (r ∷ ss) s
 text_of-push : (ls : List (List ℕ)) (l : List ℕ) → text_of (ls ++ l ∷ []) ≡ text_of ls ++ line l
 text_of-push ls l = flat_map-append line ls (l ∷ []) ∙ ap (λ t. text_of ls ++ t) (append-nil (line l))
 
--- the structures that were given are the first of the listing, and their lines are out
+-- the structures that were given are the first of the listing, and their lines are printed
 pub record IsGiven (p : Problem) (start now : Rest) (many : ℕ) (old new : SinkState) (last : List ℕ) : Type 0 where
   pub given : List (List ℕ)
   pub many_is : length given ≡ many
@@ -35,7 +35,8 @@ pub record IsGiven (p : Problem) (start now : Rest) (many : ℕ) (old new : Sink
   pub last_is : last ≡ last_of given
   pub out : Appends old.written new.written (text_of (map (structure_line p) given))
 
--- the structures that were given are the first of the listing; the lines of the first of these are out, and the others wait
+-- the structures that were given are the first of the listing; the lines of the first of these are
+-- printed, and the others wait
 pub record IsGathered (p : Problem) (start now : Rest) (many : ℕ) (old mid : SinkState) (bytes last : List ℕ) : Type 0 where
   pub out_are : List (List ℕ)
   pub waiting : List (List ℕ)
@@ -81,7 +82,7 @@ module _ (p : Problem) (start now : Rest) (many : ℕ) (old mid : SinkState) (by
         bytes_are = more_is ∙ (ap (λ t. t ++ line (f r)) g.bytes_are ∙ (sym (text_of-push (map f g.waiting) (f r)) ∙ ap text_of (sym (map-append f g.waiting (r ∷ [])))));
       }
 
-  -- those that wait are put
+  -- those that wait are printed
   out_then : (new : SinkState) → Appends mid.written new.written bytes → Appends old.written new.written (text_of (map f given))
   out_then new put =
       subst (λ t. Appends old.written new.written t)
@@ -105,7 +106,7 @@ module _ (p : Problem) (start now : Rest) (many : ℕ) (old mid : SinkState) (by
       }
 
 module _ (p : Problem) where
-  -- the lines of the structures given stand first, those of n more behind them
+  -- the lines of the structures given come first, and then those of n more
   pub lines_cut : (given xs : List (List ℕ)) (count n : ℕ) → count ≡ length given + n → listing_lines p count (given ++ xs) ≡ map (structure_line p) given ++ (map (structure_line p) (take n xs) ++ last_line count (given ++ xs) ∷ [])
   lines_cut given xs count n e =
       let last : List (List ℕ) = last_line count (given ++ xs) ∷ [] in
@@ -134,7 +135,7 @@ module _ (p : Problem) where
       lines_cut given (r ∷ xs) count 0 (omega (arith, e)) ∙ ap (λ l. map (structure_line p) given ++ l ∷ []) last
 
   module _ (count : ℕ) (start : Rest) where
-    -- want of memory behind the lines of structures that begin a listing
+    -- out of memory, after the lines of structures that begin a listing
     pub memory_behind : (given xs : List (List ℕ)) → length given ≤ count → IsToCome start (given ++ xs) → Tells (RestSays p count start) Memory (text_of (map (structure_line p) given) ++ line (codes "memory"))
     memory_behind given xs le is = (
       map (structure_line p) given,
@@ -148,7 +149,7 @@ module _ (p : Problem) where
       refl,
     )
 
-    -- the last line behind the lines of the structures given
+    -- the last line, after the lines of the structures given
     pub whole_behind : (given all : List (List ℕ)) (last : List ℕ) → IsToCome start all → listing_lines p count all ≡ map (structure_line p) given ++ last ∷ [] → Tells (RestSays p count start) Done (text_of (map (structure_line p) given) ++ line last)
     whole_behind given all last is e =
         (map (structure_line p) given ++ last ∷ [], (refl, (all, is, sym e)), sym (text_of-push (map (structure_line p) given) last))
@@ -158,14 +159,14 @@ module _ (p : Problem) where
       le_given = let e = g.many_is in omega (arith, e, le)
 
       module _ (quiet : mid.err ≡ old.err) (later : old.out.faults ≤ mid.out.faults) (new : OutputsState) (status : Status) where
-        -- no structure is to come, and `end` is said
+        -- no structure is left, and `end` is printed
         pub ended : IsToCome now [] → Ends (Only Done (line (codes "end"))) mid new status → Ends (Tells (RestSays p count start)) old new status
         ended none =
             Ends-after (Only Done (line (codes "end"))) (Tells (RestSays p count start)) old mid new status (text_of (map (structure_line p) g.given)) g.out quiet
             (only_in (λ s t. GoesOut s × Tells (RestSays p count start) s (text_of (map (structure_line p) g.given) ++ t)) Done (line (codes "end"))
             (tt, whole_behind g.given (g.given ++ []) (codes "end") ((g.rest []).0 none) (lines_end g.given count le_given))) later
 
-        -- all that are wanted are given, and another is to come
+        -- as many as are wanted are given, and another is left
         pub continued : many ≡ count → (r : List ℕ) (xs : List (List ℕ)) → IsToCome now (r ∷ xs) → Ends (OrMemory (Only Done (line (more_line last)))) mid new status → Ends (Tells (RestSays p count start)) old new status
         continued all r xs is =
             Ends-after (OrMemory (Only Done (line (more_line last)))) (Tells (RestSays p count start)) old mid new status (text_of (map (structure_line p) g.given)) g.out quiet
@@ -177,7 +178,7 @@ module _ (p : Problem) where
             (tt, memory_behind g.given (r ∷ xs) le_given ((g.rest (r ∷ xs)).0 is))) later
 
 module _ (p : Problem) (count : ℕ) (start now : Rest) (many : ℕ) (old mid : OutputsState) (bytes last : List ℕ) (g : IsGathered p start now many old.out mid.out bytes last) (le : many ≤ count) where
-  -- there is no memory for the next line, and those that wait are not put
+  -- there is no memory for the next line, and those that wait are not printed
   pub starved_waiting : (quiet : mid.err ≡ old.err) (later : old.out.faults ≤ mid.out.faults) (new : OutputsState) (status : Status) (xs : List (List ℕ)) → IsToCome now xs → Ends (Only Memory (line (codes "memory"))) mid new status → Ends (Tells (RestSays p count start)) old new status
   starved_waiting quiet later new status xs is =
       let short = length-append g.out_are g.waiting in
@@ -186,7 +187,7 @@ module _ (p : Problem) (count : ℕ) (start now : Rest) (many : ℕ) (old mid : 
       (only_in (λ s t. GoesOut s × Tells (RestSays p count start) s (text_of (map (structure_line p) g.out_are) ++ t)) Memory (line (codes "memory"))
       (tt, memory_behind p count start g.out_are (g.waiting ++ xs) (omega (arith, short, e, le)) (subst (IsToCome start) (append_assoc g.out_are g.waiting xs) ((g.rest xs).0 is)))) later
 
-  -- the lines that wait are cut off
+  -- of the lines that wait only a front is printed
   pub stopped_waiting : (new : OutputsState) (xs : List (List ℕ)) → HasRisen old.out.faults new.out.faults → IsToCome now xs → AppendsFront mid.out.written new.out.written bytes → new.err ≡ old.err → Ends (Tells (RestSays p count start)) old new WriteFault
   stopped_waiting new xs rose is front quiet =
       let f : List ℕ → List ℕ = structure_line p in

@@ -1,4 +1,4 @@
--- The lines of a listing from where the code has come.
+-- The lines of a listing from the place that the code has reached.
 use Rattle.std.specs.Prelude.{◌≡◌, ℕ, List}
 use Rattle.problem_rules.specs.Problem.{Problem}
 use Rattle.studio_rules.specs.Listing.{listing_lines}
@@ -6,7 +6,7 @@ use Rattle.structure_list.specs.Rest.{Rest, IsToCome}
 use Rattle.studio_rules.specs.declared.status.Status.{Status}
 use Rattle.studio_rules.specs.declared.status.Status.TheVariants.{Done}
 
--- what is said of a listing that is under way
+-- what is printed of a listing from this place on
 abbrev pub RestSays : Problem → ℕ → Rest → Status → List (List ℕ) → Type 0
 RestSays p count rest status lines =
     (status ≡ Done) × ((all : List (List ℕ)) × IsToCome rest all × (lines ≡ listing_lines p count all))

@@ -5,8 +5,8 @@ use Rattle.problem_rules.specs.WellFormed.{IsWellFormed}
 use Rattle.studio_rules.specs.Listing.{ListingWork}
 use Rattle.studio_rules.specs.declared.status.Status.TheVariants.{Done}
 
--- A listing that is taken in parts, the second behind the last token of the first, is the listing taken at once: the lines
--- of the second part stand in the place of the line `more` of the first.
+-- A listing may be printed in two parts, the second after the last token of the first. The first
+-- part without its line `more`, and then the second, are the listing printed at once.
 abbrev pub PartsJoin : Type 0
 PartsJoin =
     (p : Problem) (word token : List ℕ) (m n : ℕ) (first second : List (List ℕ)) → IsWellFormed p → 0 < m → 0 < n

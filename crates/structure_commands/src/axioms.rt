@@ -42,7 +42,7 @@ fn breaks_line(alloc: Global, broken: Axiom, name: &str) -> Result<Vec<u8>, Allo
     Ok(bytes)
 }
 
-/// Says the broken axiom with the name of its place.
+/// Prints the broken axiom with the name of its place.
 pub fn say_breaks<K: Sink, E: Sink>(
     alloc: Global,
     out: &mut Outputs<K, E>,
@@ -112,7 +112,7 @@ pub fn units_named(problem: &Problem, units: &UnitNames) -> UnitSet
     set
 }
 
-/// Says `meets`, or the broken axiom with the name of its least place.
+/// Prints `meets`, or the broken axiom with the name of its least place.
 pub fn say_verdict<K: Sink, E: Sink>(
     alloc: Global,
     out: &mut Outputs<K, E>,
@@ -160,7 +160,8 @@ fn say_judged<K: Sink, E: Sink>(
     }
 }
 
-/// Says whether the named units are a solution structure of the file's problem, or else the first axiom that they break.
+/// Prints that the named units are a solution structure of the file's problem, or the first axiom
+/// that they break.
 pub fn axioms<F: Shelf, K: Sink, E: Sink>(
     alloc: Global,
     file: &str,

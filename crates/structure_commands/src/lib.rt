@@ -1,9 +1,11 @@
 //! The commands on the solution structures of a problem: `max`, `axioms` and `list`.
 //!
-//! Each reads the problem of a file, and its contract says which text is out with which status. `studio_rules` has a file for what
-//! each says of a problem: `Max`, `Axioms` and `Listing`; `specs/ListingLaws` says that a listing may be taken in parts.
+//! Each reads the problem of a file. Its contract says which text is printed with which status.
+//! What each prints is in a file of `studio_rules`: `Max`, `Axioms` and `Listing`.
+//! `specs/ListingLaws` says that a listing may be printed in parts.
 //!
-//! Modules: `max`, the maximal structure; `axioms`, whether named units are a solution structure; `list`, the allowed ones.
+//! Modules: `max`, the maximal structure; `axioms`, whether named units are a solution structure;
+//! `list`, the clash-free solution structures.
 #![tactic(auto)]
 
 pub mod axioms;

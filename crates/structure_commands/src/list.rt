@@ -30,7 +30,7 @@ use structure_list::{OpenFault, StructureList, print_token, read_token};
 use studio_rules::Status;
 use unit_sets::UnitSet;
 
-// Gives the next structure, with a count of viability tests that nobody reads.
+// Gives the next structure. It also counts viability tests, which nobody reads.
 fn next_counted<L: Ledger>(blank: Blank, list: &mut StructureList<'_>) -> Option<UnitSet>
     requires { (blank.name ≡ L.name) × (blank.parts ≡ L.parts) × (0 < L.parts) }
     ensures head { IfSome result (λ r. (xs : List (List ℕ)) → IsToCome list.new xs ↔ IsToCome list.old (r ∷ xs)) }
@@ -77,7 +77,7 @@ fn push_line(bytes: &mut Vec<u8>, problem: &Problem, set: UnitSet) -> Result<(),
     Ok(())
 }
 
-// Says that more structures follow the last one given.
+// Prints that more structures follow the last one given.
 fn say_more<K: Sink, E: Sink>(alloc: Global, out: &mut Outputs<K, E>, last: UnitSet) -> Status
     ensures { Ends (OrMemory (Only Done (line (more_line last)))) out.old out.new result }
 {
@@ -87,7 +87,7 @@ fn say_more<K: Sink, E: Sink>(alloc: Global, out: &mut Outputs<K, E>, last: Unit
     }
 }
 
-// Puts the lines that wait, and leaves none.
+// Prints the lines that wait, so that none waits.
 fn put_waiting<K: Sink, E: Sink>(out: &mut Outputs<K, E>, bytes: &mut Vec<u8>) -> Result<(), Failed>
     ensures ok { OnOk result (Appends out.old.out.written out.new.out.written bytes.old.items) }
     ensures none { OnOk result (bytes.new.items ≡ []) }
@@ -103,8 +103,9 @@ fn put_waiting<K: Sink, E: Sink>(out: &mut Outputs<K, E>, bytes: &mut Vec<u8>) -
     Ok(())
 }
 
-// Puts the lines of the structures that are to come, at most `count`, and the last line. The first line is put at once, and
-// then at most two, four, eight and so on together, until they have 8 KiB.
+// Prints the lines of the structures that follow, at most `count`, and the last line. The first
+// line is printed at once, then two lines together, then four, eight and so on. Lines with 8 KiB
+// together do not wait for more.
 fn say_rest<K: Sink, E: Sink>(
     alloc: Global,
     out: &mut Outputs<K, E>,
@@ -151,7 +152,7 @@ fn say_rest<K: Sink, E: Sink>(
     say_more(alloc, out, last)
 }
 
-// The set of the token, none for `start`. There is no answer where the word is neither.
+// The set of the token, or no set for `start`. There is no answer if the word is neither.
 fn after_of(word: &str) -> Option<Option<UnitSet>>
     ensures start { IfSome result (λ after. IfNone after (word.now ≡ codes "start")) }
     ensures token { IfSome result (λ after. IfSome after (λ s. IsSet 128 s × (word.now ≡ token_of s))) }
@@ -199,7 +200,7 @@ fn say_listing<K: Sink, E: Sink>(
     }
 }
 
-/// Lists the structures of the file's problem that stand behind AFTER, at most `count` of them.
+/// Lists the structures of the file's problem that follow AFTER, at most `count` of them.
 pub fn list<F: Shelf, K: Sink, E: Sink>(
     alloc: Global,
     file: &str,

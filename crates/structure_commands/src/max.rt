@@ -42,7 +42,7 @@ fn materials_line(alloc: Global, problem: &Problem, set: MatSet) -> Result<Vec<u
     Ok(bytes)
 }
 
-// Puts the two lines of a set of units.
+// Prints the two lines of a set of units.
 fn say_structure<K: Sink, E: Sink>(
     alloc: Global,
     out: &mut Outputs<K, E>,
@@ -80,7 +80,7 @@ fn say_maximal<K: Sink, E: Sink>(
     }
 }
 
-/// Says the units and the materials of the maximal structure of the file's problem.
+/// Prints the units and the materials of the maximal structure of the file's problem.
 pub fn max<F: Shelf, K: Sink, E: Sink>(
     alloc: Global,
     file: &str,

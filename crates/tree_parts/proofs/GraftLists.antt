@@ -13,7 +13,7 @@ graft_pieces k [] r rs t h e = absurd (omega arith)
 graft_pieces zero (x ∷ xs) r rs t h e = ap (λ (y : TreeNode Leaf). grafted y r ∷ (rs ++ xs)) e
 graft_pieces (suc k) (x ∷ xs) r rs t h e = ap (λ (us : Tree). x ∷ us) (graft_pieces k xs r rs t (omega arith) e)
 
--- a node that stands somewhere is one of the list
+-- the place of a node in a tree is below the tree's length
 pub stands_below : (g : Shape) (ns : List Node) (ts : Tree) (k : ℕ) (n : Node) → Stands g ns ts k n (leaf untried) → k < length ts
 stands_below g [] ts k n s = absurd s
 stands_below g (m ∷ ms) [] k n s = absurd s
@@ -26,11 +26,11 @@ pub some_nodes : (ts : Tree) → IsTree ts → 0 < length ts
 some_nodes [] h = absurd h
 some_nodes (t ∷ ts) h = omega arith
 
--- what stands from a place on
+-- the nodes from a place on
 pub from_on : (ts : Tree) (i : ℕ) → take (length ts - i) (drop i ts) ≡ drop i ts
 from_on ts i = take_all (length ts - i) (drop i ts) (let long = length-drop i ts in let le : length (drop i ts) ≤ length ts - i = omega (arith, long) in le)
 
--- the pieces that are put one behind the other
+-- the pieces appended one after another
 pub pieces_joined : (k : ℕ) (ts part : Tree) (t r joined : TreeNode Leaf) (a b c d : Tree) → k < length ts → 0 < length part → t ≡ get_or ts k t → r ≡ get_or part 0 r
     → a ≡ take k ts → joined ≡ grafted t r → b ≡ a ++ joined ∷ [] → c ≡ b ++ drop 1 part → d ≡ c ++ drop (k + 1) ts → d ≡ graft_at k ts part
 pieces_joined k ts [] t r joined a b c d h some e f ea ej eb ec ed = absurd (omega arith)

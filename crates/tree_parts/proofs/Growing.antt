@@ -24,7 +24,7 @@ use Rattle.tree_parts.specs.declared.waiting.Waiting.{Waiting}
 use Rattle.tree_parts.specs.Waiting.{splices_of, IsOneMore}
 use Rattle.tree_parts.proofs.InTurn.{AreBack, one_back}
 
--- what is claimed by then: what the tree claims while no part waits, and then the cheapest network
+-- what is claimed so far: what the tree claims while no part waits, and then the cheapest network
 abbrev pub IsRunning : List Splice → Claim → Claim → Tree → Type 0
 IsRunning [] running both grown = both ≡ running
 IsRunning (s ∷ ss) running both grown = both ≡ settled running grown

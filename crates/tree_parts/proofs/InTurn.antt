@@ -1,4 +1,4 @@
--- Parts that are put back in turn, one more behind the others.
+-- Parts that are put back in turn, one more after the others.
 use Rattle.std.proofs.Common.{◌≡◌, ◌<◌, ◌+◌, ℕ, zero, suc, List, [], ◌∷◌, ◌++◌, length, take, get_or, refl, sym, ap, ◌∙◌, subst, add-one, arith, drop, ◌-◌, ◌≤◌, take-add, length-drop}
 use Rattle.std.proofs.Math.Seq.{take-suc, take-length}
 use Rattle.std.proofs.lemmas.List.{get_or-drop, take_all}
@@ -49,7 +49,7 @@ module _ (p : Problem) where
   all_back claim tree parts i both whole e are =
       subst (λ (ps : List Part). AreMerged p claim tree ps both whole) (ap (λ (k : ℕ). take k parts) e ∙ take-length parts) are.merged
 
-  -- ---- some of them behind others
+  -- ---- some of them after others
 
   merged-append : (claim : Claim) (tree : Tree) (front back : List Part) (mid both : Claim) (grown whole : Tree) → AreMerged p claim tree front mid grown → AreMerged p mid grown back both whole → AreMerged p claim tree (front ++ back) both whole
   merged-append claim tree [] back mid both grown whole a b =
@@ -60,7 +60,8 @@ module _ (p : Problem) where
   back_then claim tree parts i n mid both grown whole a b =
       subst (λ (ps : List Part). AreMerged p claim tree ps both whole) (sym (take-add i n parts)) (merged-append claim tree (take i parts) (take n (drop i parts)) mid both grown whole a.merged b)
 
-  -- the parts before this place are put back, and it is one of them or behind them all
+  -- the parts before this place are put back; it is the place of a part, or follows that of the
+  -- last
   pub record AreSoFar (claim : Claim) (tree : Tree) (parts : List Part) (i : ℕ) (both : Claim) (whole : Tree) : Type 0 where
     pub back : AreBack claim tree parts i both whole
     pub within : i ≤ length parts

@@ -43,7 +43,7 @@ one_laid all keep nodes nodes2 back back2 x pop less push h = record {
   enough = let a = length-append nodes2 (x ∷ []) in let b = ap (λ (us : Tree). length us) pop in omega (arith, a, b, less);
 }
 
--- the nodes that are left are still to come, the last first
+-- the nodes that are left follow, the last first
 pub record IsGiven (all nodes left : Tree) : Type 0 where
   pub is : nodes ++ reverse left ≡ all
 
@@ -70,7 +70,8 @@ none_left : (xs : Tree) → length xs ≡ 0 → xs ≡ []
 none_left [] e = refl
 none_left (x ∷ xs) e = absurd (omega arith)
 
--- The nodes behind the place are laid back, then those of the part behind its root, and then the joined node.
+-- The nodes after the place are laid back, then those of the part after its root, and then the
+-- joined node.
 pub part_is_in : (k : ℕ) (nodes back nodes1 back1 other rest back2 nodes2 rest2 back3 : Tree) (t r joined : TreeNode Leaf) → 0 < length other
     → nodes1 ++ reverse back1 ≡ nodes ++ reverse back → length nodes1 ≡ k + 1
     → rest ++ reverse back2 ≡ other ++ reverse back1 → length rest ≡ 1
@@ -157,7 +158,7 @@ one_more leaves part ws new w i among low high tree is = record {
       ∙ ap (λ (us : Tree). take i (splices_of ws) ++ record { place = w.place; part = us } ∷ drop i (splices_of ws)) tree;
 }
 
--- ---- where a part goes
+-- ---- the place of a part
 
 below_suc : (k : ℕ) (ws : List Waiting) (i : ℕ) (w : Waiting) → i < length ws → w ≡ get_or ws i w → w.place < k → AllBelow k (take i (splices_of ws)) → AllBelow k (take (suc i) (splices_of ws))
 below_suc k [] i w lt e less h = absurd (omega arith)

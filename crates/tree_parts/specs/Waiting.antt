@@ -1,4 +1,5 @@
--- Parts that wait for the places of their leaves in one tree, and how the list of them has one more.
+-- Parts that wait for the places of their leaves in one tree, and what it means that the list of
+-- them has one more.
 use Rattle.std.specs.Prelude.{◌≡◌, ◌<◌, ℕ, List, [], ◌∷◌, ◌++◌, length, map}
 use Rattle.part_rules.specs.OpenLeaves.{OpenAt, IsAmong}
 use Rattle.part_laws.specs.Splices.{Splice, AllBelow, AllAbove}
@@ -17,7 +18,8 @@ abbrev pub AreWithin : ℕ → List Splice → Type 0
 AreWithin n [] = Unit {0}
 AreWithin n (s ∷ ss) = (s.place < n) × (0 < length s.part) × AreWithin n ss
 
--- the part waits for an open leaf that has its node, between those before the leaf and those behind it
+-- the part waits for an open leaf that has its node, between the parts for leaves before it and
+-- those for leaves after it
 pub record IsOneMore (leaves : List OpenAt) (part : parts.Part) (old new : List Splice) : Type 0 where
   pub place : ℕ
   pub front : List Splice

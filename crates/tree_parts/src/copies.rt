@@ -73,7 +73,7 @@ pub fn grafted(alloc: Global, leaf: &TreeNode, root: &TreeNode) -> Result<TreeNo
     })
 }
 
-/// Puts copies of the nodes behind the others.
+/// Appends copies of the nodes.
 pub fn push_copies(
     alloc: Global,
     nodes: &[TreeNode],

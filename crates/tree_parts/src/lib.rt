@@ -1,11 +1,14 @@
-//! Parts of a branch tree, for a search that is run in parts.
+//! Open leaves are exact; a part merges exactly if tree and part pass and its leaf is there.
 //!
-//! [`open_leaves`] judges a tree that may have open leaves, and gives these in preorder, each with the node that its steps leave: where
-//! a search in parts goes on. [`is_sound`] tells from which nodes a search may begin. [`check_part`] judges what a run from such a
-//! node found, and [`merge`] puts it in the place of the open leaf; [`merge_all`] puts several back in turn.
+//! [`open_leaves`] judges a tree that may have open leaves. It gives these in preorder, each with
+//! the node that its steps leave, from which a search in parts goes on. [`is_sound`] decides
+//! whether a search may begin at a node. [`check_part`] judges what a run from such a node found,
+//! and [`merge`] puts it in the place of the open leaf. [`merge_all`] puts several parts back in
+//! turn.
 //!
-//! Modules: `sound`, `open`; `part`, what a run found; `copies` of nodes and networks; `merging`; `waiting`, parts that wait for their
-//! places, `splicing`, which puts them there in one pass, and `several`.
+//! Modules: `sound`, `open`; `part`, what a run found; `copies` of nodes and networks; `merging`;
+//! `waiting`, parts that wait for their places; `splicing`, which puts them there in one pass; and
+//! `several`.
 #![tactic(auto)]
 
 mod copies;

@@ -92,7 +92,7 @@ pub(crate) fn has_open(nodes: &[TreeNode]) -> bool
     false
 }
 
-/// The cheaper network, the first where none is cheaper.
+/// The cheaper of two networks, or the first if the second is not cheaper.
 pub(crate) fn cheaper_of(
     alloc: Global,
     own: Network,
@@ -173,8 +173,8 @@ fn put_back(
     Ok((both, Tree::from_nodes(nodes)))
 }
 
-// The open leaves of the tree, or why it is refused. One with too many nodes for their numbers wants
-// memory.
+// The open leaves of the tree, or why it is refused. For a tree with too many nodes to be numbered
+// the answer is `Memory`.
 pub(crate) fn leaves_of(
     alloc: Global,
     site: &Site<'_>,
@@ -195,7 +195,7 @@ pub(crate) fn leaves_of(
     }
 }
 
-// Judges the part. One with too many nodes for their numbers wants memory.
+// Judges the part. For a part with too many nodes to be numbered the answer is `Memory`.
 pub(crate) fn judge_part(alloc: Global, site: &Site<'_>, part: &Part) -> Result<(), MergeFault>
     requires { KnowsInside (shape_of site.now) (start_of part.now) }
     ensures partial { OnOk result (IsPartial site.now (start_of part.now) part.now.claim part.now.tree) }
@@ -211,9 +211,10 @@ pub(crate) fn judge_part(alloc: Global, site: &Site<'_>, part: &Part) -> Result<
     }
 }
 
-/// Puts the part in the place of the open leaf of the tree whose node is its own: one whole tree, which proves the cheaper claim but
-/// for its open leaves. A fault comes exactly where the tree, then the part, is refused, or no open leaf has the part's node, want of
-/// memory aside.
+/// Puts the part in the place of the open leaf of the tree whose node is its own. The result is one
+/// whole tree, which proves the cheaper claim but for its open leaves. Unless there is no memory, a
+/// fault comes if and only if the tree is refused, or then the part, or no open leaf has the part's
+/// node.
 pub fn merge(
     alloc: Global,
     site: &Site<'_>,

@@ -18,8 +18,9 @@ use std::alloc::Global;
 use tree_rules::Refusal;
 use unit_sets::{Node, UnitSet};
 
-/// The open leaves of the tree in preorder, each with the node that its steps leave. `Ok` comes exactly where the tree proves its
-/// claim but for them, want of memory aside; else the refusal names the first fault. Where nothing is claimed a bounded leaf is one.
+/// The open leaves of the tree in preorder, each with the node that its steps leave. Unless there
+/// is no memory, `Ok` comes if and only if the tree proves its claim but for them. Else the refusal
+/// names the first fault. If nothing is claimed, a bounded leaf is a fault.
 pub fn open_leaves(
     alloc: Global,
     site: &Site<'_>,
@@ -30,7 +31,7 @@ pub fn open_leaves(
     ensures partial { OnOk result (IsPartial site.now first_node (claim_of claim.now) tree.now) }
     ensures opens { IsPartial site.now first_node (claim_of claim.now) tree.now → IsOkOrMemory result }
     ensures leaves { IfOk result (λ v. leaves_at v.items ≡ open_leaves (shape_of site.now) (first_node ∷ []) tree.now 0) }
-    // A refusal names the first fault, and a first fault is named.
+    // A refusal names the first fault. A first fault is named, unless there is no memory.
     ensures refused { IfErr result (Refuses true site.now first_node (claim_of claim.now) tree.now) }
     ensures names_claim { NamesClaim true site.now (claim_of claim.now) result }
     ensures names_node { NamesNode true site.now first_node (claim_of claim.now) tree.now result }
@@ -42,13 +43,13 @@ pub fn open_leaves(
     check_from(alloc, site, &start, true, claim, tree)
 }
 
-/// Judges a part as `open_leaves` judges a tree, from where its run began.
+/// Judges a part as `open_leaves` judges a tree, but from the node at which its run began.
 pub fn check_part(alloc: Global, site: &Site<'_>, part: &Part) -> Result<(), Refusal>
     requires known { KnowsInside (shape_of site.now) (start_of part.now) }
     requires few { length part.now.tree < 2 ^ 32 }
     ensures partial { OnOk result (IsPartial site.now (start_of part.now) part.now.claim part.now.tree) }
     ensures passes { IsPartial site.now (start_of part.now) part.now.claim part.now.tree → IsOkOrMemory result }
-    // A refusal names the first fault, and a first fault is named.
+    // A refusal names the first fault. A first fault is named, unless there is no memory.
     ensures refused { IfErr result (Refuses true site.now (start_of part.now) part.now.claim part.now.tree) }
     ensures names_claim { NamesClaim true site.now part.now.claim result }
     ensures names_node { NamesNode true site.now (start_of part.now) part.now.claim part.now.tree result }

@@ -7,8 +7,8 @@ use branch_tree::{Claim, Tail, Tree};
 use std::marker::Model;
 use unit_sets::Node;
 
-/// What a run found from a node of its own: what it claims, its tree, and where it stopped. No unit is both taken in and left out at
-/// the node.
+/// What a run found from a node of its own: what it claims, its tree, and the tail, which says why
+/// it stopped. No unit is both taken in and left out at the node.
 #[derive(Drop)]
 pub struct Part {
     start: Node,
@@ -43,7 +43,7 @@ impl Part {
         }
     }
 
-    /// Where the run began.
+    /// The node at which the run began.
     pub fn start(&self) -> Node
         ensures inside { result.inside ≡ self.now.inside }
         ensures outside { result.outside ≡ self.now.outside }
@@ -65,14 +65,15 @@ impl Part {
         &self.tree
     }
 
-    /// Where it stopped.
+    /// Why it stopped, if it did.
     pub fn tail(&self) -> &Tail
         ensures { tail_of result.now ≡ self.now.tail }
     {
         &self.tail
     }
 
-    /// No unit is both taken in and left out where the run began. A call tells a proof so, and does nothing.
+    /// No unit is both taken in and left out at the node of the part. A call shows this to a proof,
+    /// and does nothing.
     pub fn is_apart(&self)
         ensures { IsApart self.now.inside self.now.outside }
     {

@@ -58,7 +58,7 @@ impl PartFault {
     }
 }
 
-// The cheaper network of two claims, the first where none is cheaper.
+// The cheaper network of two claims, or the first if the second is not cheaper.
 fn cheapest(alloc: Global, own: Claim, other: &Claim) -> Result<Claim, AllocError>
     ensures { IfOk result (λ claim. claim_of claim ≡ splices.cheapest (claim_of own) (claim_of other.now)) }
 {
@@ -71,7 +71,8 @@ fn cheapest(alloc: Global, own: Claim, other: &Claim) -> Result<Claim, AllocErro
     }
 }
 
-// What is claimed of the nodes: the network, or as their open leaves tell.
+// What is claimed of the nodes. It is the network; without one it depends on whether a leaf is
+// open.
 fn settle(claim: Claim, nodes: &[TreeNode]) -> Claim
     ensures { claim_of result ≡ splices.settled (claim_of claim) nodes.now }
 {
@@ -87,7 +88,7 @@ fn settle(claim: Claim, nodes: &[TreeNode]) -> Claim
     }
 }
 
-// Puts the parts that wait in their places. Want of memory is told of the first.
+// Puts the parts that wait in their places. If there is no memory, the fault names the first part.
 fn put_all(
     alloc: Global,
     claim: Claim,
@@ -114,8 +115,8 @@ fn put_all(
     })
 }
 
-// Judges the part, and lets a copy of it wait for an open leaf that has its node. It is left as it is
-// where there is none, or another waits for the leaf.
+// Judges the part, and lets a copy of it wait for an open leaf that has its node. If there is no
+// such leaf, or another part waits for it, the list stays as it is.
 fn take_next(
     alloc: Global,
     site: &Site<'_>,
@@ -138,8 +139,8 @@ fn take_next(
     }
 }
 
-// Puts back the first parts, as many as wait for leaves of the tree itself: the tree is judged once, each part is judged and waits for its
-// leaf, and then all take their places. At least one is put back.
+// Puts back the first parts, as many as wait for leaves of the tree itself, and at least one. The
+// tree is judged once. Each part is judged and waits for its leaf, and then all take their places.
 fn merge_some(
     alloc: Global,
     site: &Site<'_>,
@@ -186,9 +187,10 @@ fn merge_some(
     put_all(alloc, both, whole, waiting, parts.len())
 }
 
-/// Puts the parts back in turn, each into the tree that the ones before it gave. The first that is not put back is named, with why;
-/// want of memory may come at any of them. The tree is judged once, and again only where a part's leaf is one of an earlier part.
-/// Of no parts the claim and the tree are given back as they are, and are not judged.
+/// Puts the parts back in turn, each into the tree that the ones before it gave. The first that is
+/// not put back is named, with why; at any of them there may be no memory. The tree is judged once,
+/// and again only if a part's leaf is one of an earlier part. Without parts, the claim and the tree
+/// are given back as they are, and are not judged.
 pub fn merge_all(
     alloc: Global,
     site: &Site<'_>,

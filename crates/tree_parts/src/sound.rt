@@ -36,8 +36,9 @@ fn lead_to_products(graph: &Graph, set: UnitSet) -> bool
     set.within(graph.reaching(set))
 }
 
-/// Whether the node is sound: no unit is taken in and left out, those that are taken in are units of the problem, none of them makes a
-/// raw material, and each has a path to a product through them. It takes no memory.
+/// Whether the node is sound. No unit is both taken in and left out. Those taken in are units of
+/// the problem, none of them makes a raw material, and each has a path to a product through them.
+/// It takes no memory.
 pub fn is_sound(graph: &Graph, node: Node) -> bool
     ensures { IsTrue result ↔ IsSound (shape graph.now) (node_of node) }
 {

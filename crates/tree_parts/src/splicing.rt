@@ -9,7 +9,7 @@ use crate::waiting::Waiting;
 use branch_tree::TreeNode;
 use std::alloc::{AllocError, Global};
 
-// Moves the nodes behind the first `keep` onto the others, the last first.
+// Moves the nodes after the first `keep` from the end of the one list to the other, the last first.
 fn lay_back(
     nodes: &mut Vec<TreeNode>,
     back: &mut Vec<TreeNode>,
@@ -28,7 +28,7 @@ fn lay_back(
     Ok(())
 }
 
-// Moves all nodes that were laid back behind the others.
+// Moves all nodes that were laid back to the end of the list again.
 fn give_back(nodes: &mut Vec<TreeNode>, back: Vec<TreeNode>) -> Result<(), AllocError>
     ensures { OnOk result (nodes.new.items ≡ nodes.old.items ++ reverse back.items) }
 {
@@ -39,7 +39,7 @@ fn give_back(nodes: &mut Vec<TreeNode>, back: Vec<TreeNode>) -> Result<(), Alloc
     Ok(())
 }
 
-// Puts the part in the place of its leaf. The nodes behind it are laid back.
+// Puts the part in the place of its leaf. The nodes after the leaf are laid back.
 fn put_in(
     alloc: Global,
     nodes: &mut Vec<TreeNode>,
@@ -65,7 +65,8 @@ fn put_in(
     Ok(())
 }
 
-/// The nodes of the tree with all parts in the places of their leaves. Each node is moved twice at most.
+/// The nodes of the tree with all parts in the places of their leaves. Each node is moved at most
+/// twice.
 pub fn splice(
     alloc: Global,
     tree: Vec<TreeNode>,

@@ -20,7 +20,8 @@ pub struct Waiting {
     pub nodes: Vec<TreeNode>,
 }
 
-/// Where a part for the leaf goes among those that wait: behind those before it. There is none where one waits for the leaf.
+/// The place of a part for the leaf among those that wait, which is after those for earlier leaves.
+/// There is no place if a part already waits for the leaf.
 fn slot(waiting: &[Waiting], place: u32) -> Option<usize>
     requires rising { AreRising (splices_of waiting.now) }
     ensures within { IfSome result (λ i. i ≤ length waiting.now) }
@@ -39,8 +40,8 @@ fn slot(waiting: &[Waiting], place: u32) -> Option<usize>
     Some(waiting.len())
 }
 
-/// Lets a copy of the part wait for an open leaf that has its node. It is left as it is where there is none, or another waits for the
-/// leaf.
+/// Lets a copy of the part wait for an open leaf that has its node. If there is no such leaf, or
+/// another part waits for it, the list stays as it is.
 pub fn put_by(
     alloc: Global,
     leaves: &[OpenLeaf],

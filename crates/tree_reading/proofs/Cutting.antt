@@ -1,4 +1,4 @@
--- A text is cut line by line, and a line token by token.
+-- A text is split into lines, and a line into tokens, one by one.
 use Rattle.std.proofs.Common.{sym, ◌≡◌, ◌<◌, ◌≤◌, ◌+◌, ℕ, true, false, List, [], ◌∷◌, length, count_by, take, drop, refl, ap, ◌∙◌, arith}
 use Rattle.std.specs.List.{slice_split, position_or_len}
 use Rattle.std.proofs.lemmas.Grind.{common_steps}
@@ -6,7 +6,7 @@ use Rattle.std.proofs.lemmas.List.Splits.{length-slice_split}
 use Rattle.text_lines.proofs.Cutting.{split-at, split-none, parts_some}
 use Rattle.tree_text_rules.specs.Line.{lines_of, lines_from, is_feed, is_space}
 
--- a part behind which others come
+-- a piece after which others follow
 pub more_pieces : (piece : List ℕ) (pieces : List (List ℕ)) → 0 < length pieces → lines_from (piece ∷ pieces) ≡ record { text = piece; ended = true } ∷ lines_from pieces
 more_pieces piece [] some = absurd (omega arith)
 more_pieces piece (next ∷ pieces) some = refl
@@ -21,7 +21,7 @@ last_line : (rest : List ℕ) → 0 < length rest → lines_from (rest ∷ []) �
 last_line [] some = absurd (omega arith)
 last_line (c ∷ cs) some = refl
 
--- the last one, where none ends it
+-- the last line, if no line feed ends it
 pub line_open : (rest : List ℕ) (at : ℕ) → 0 < length rest → at ≡ position_or_len is_feed rest → length rest ≤ at → lines_of rest ≡ record { text = take at rest; ended = false } ∷ lines_of (drop at rest)
 line_open rest at some e le =
     let all : take at rest ≡ rest = grind (arith, common_steps) in

@@ -25,7 +25,7 @@ module _ {A : Type 0} (read : Token → Option A) (kind : TreeKind) (same : less
   first_fails k None (Err l) only e = ap (λ (x : TreeKind). Err x) (ap (lesser kind) only ∙ same) ∙ (let q : kind ≡ k = cc in ap (λ (x : TreeKind). Err x) q)
   first_fails k (Some a) rest only e = absurd cc
 
-  -- the first fault is told
+  -- the first fault is the one that is given
   pub fails_at : (k : TreeKind) (front : List A) (token : Token) (tokens all : List Token) (whole : Result (List A) TreeKind)
       → told kind (read token) ≡ Err k → all ≡ token ∷ tokens → joined (Ok front) (each (λ t. told kind (read t)) all) ≡ whole → whole ≡ Err k
   fails_at k front token tokens all whole found cut before =

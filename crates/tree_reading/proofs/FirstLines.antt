@@ -1,4 +1,4 @@
--- What is read of the first line, and then of the lines behind it.
+-- What is read of the first line, and then of the lines after it.
 use Rattle.std.proofs.Common.{◌≡◌, ℕ, suc, List, [], ◌∷◌, Result, Ok, Err, refl, sym, ap, ◌∙◌, subst}
 use Rattle.tree_text_rules.specs.Line.{Line}
 use Rattle.tree_text_rules.specs.Read.{Fault, Taken, first_line, on_line, then_read}
@@ -28,7 +28,7 @@ behind_on : {A B : Type 0} (number : ℕ) (r : Result A TreeKind) (behind : List
 behind_on number (Ok a) behind read = refl
 behind_on number (Err kind) behind read = refl
 
--- the first line, and then the lines behind it
+-- the first line, and then the lines after it
 first_then : {A B : Type 0} (judge : Line → Result A TreeKind) (number : ℕ) (lines : List Line) (read : A → List Line → Result B Fault)
     → first_line judge number lines read ≡ then_read (line_taken judge number lines) (λ a number lines. read a lines)
 first_then judge number [] read = refl
@@ -48,7 +48,7 @@ first_tells {A} {B} judge number lines read fault h =
     subst (λ (r : Result B Fault). Tells r fault) (sym (first_then judge number lines read))
     (then_tells (line_taken judge number lines) (λ a number lines. read a lines) fault h)
 
--- the first line, and then what is read from the number behind it on
+-- the first line, and then what is read from the next number on
 pub first_next : {A B : Type 0} (judge : Line → Result A TreeKind) (number : ℕ) (lines : List Line) (next : A → ℕ → List Line → Result B Fault) (t : Taken A)
     → line_taken judge number lines ≡ Ok t → first_line judge number lines (λ a lines. next a (suc number) lines) ≡ next t.what t.number t.behind
 first_next judge number lines next t e =

@@ -20,7 +20,7 @@ one_more (Err j) (Ok a) (Err k) = refl
 one_more (Err j) (Err k) (Ok bs) = refl
 one_more {A} (Err j) (Err k) (Err l) = ap (λ (kind : TreeKind). Err kind) (lesser_assoc j k l)
 
--- past a token
+-- one token further
 pub each_on : {A : Type 0} (read : Token → Result A TreeKind) (front next : Result (List A) TreeKind) (token : Token) (tokens all : List Token) (whole : Result (List A) TreeKind)
     → next ≡ joined front (mapped (λ a. a ∷ []) (read token)) → all ≡ token ∷ tokens → joined front (each read all) ≡ whole → joined next (each read tokens) ≡ whole
 each_on {A} read front next token tokens all whole e cut before =

@@ -27,7 +27,7 @@ Reading = Result (Taken Tree) Fault
 
 -- ---- one node
 
--- the end of a node behind its steps, and then what stands behind the node
+-- the end of a node after its steps, and then what follows the node
 abbrev pub after_steps : Problem → ℕ → Head → ℕ → List Line → Reading
 after_steps p count head number lines =
     first_line (end_line_read p) number lines (λ end lines. with_node (with_end head end) (nodes_taken p None (trees.children end + count) (suc number) lines))
@@ -74,7 +74,7 @@ steps_told p option number lines count fault h =
     let head : Head = record { option = option; steps = [] } in
     subst (λ (r : Reading). Tells r fault) (sym (nodes_by_steps p head count number lines)) (then_tells (steps_taken p head number lines) (after_steps p count) fault h)
 
--- ---- nodes that were read, and what is still read behind them
+-- ---- nodes that were read, and what is still read after them
 
 abbrev pub with_front : Tree → Reading → Reading
 with_front front (Ok t) = Ok (record { what = front ++ t.what; number = t.number; behind = t.behind })
@@ -88,13 +88,13 @@ regroup : (front : Tree) (t : TreeNode) (r : Reading) → with_front front (with
 regroup front t (Ok r) = ap (λ (ts : Tree). Ok (record { what = ts; number = r.number; behind = r.behind })) (sym (append_assoc front (t ∷ []) r.what))
 regroup front t (Err f) = refl
 
--- The line of a node with this option was read behind these nodes: what is still read leads to the whole, and this node and so
--- many subtrees behind it make one tree of the nodes.
+-- The line of a node with this option was read after these nodes. What is still read leads to the
+-- whole. This node and `count` subtrees after it make one tree of the nodes.
 pub record IsBegun (p : Problem) (whole : Reading) (front : Tree) (option : List ℕ) (count number : ℕ) (lines : List Line) : Type 0 where
   pub leads : with_front front (begun p option count number lines) ≡ whole
   pub shape : (t : TreeNode) (ts : Tree) → t.option ≡ option → trees.IsForest (suc count) (t ∷ ts) → trees.IsTree (front ++ t ∷ ts)
 
--- So many subtrees are still to come behind these nodes.
+-- After these nodes `count` subtrees are left.
 pub record IsOpen (p : Problem) (whole : Reading) (front : Tree) (count number : ℕ) (lines : List Line) : Type 0 where
   pub leads : with_front front (nodes_taken p None count number lines) ≡ whole
   pub shape : (ts : Tree) → trees.IsForest count ts → trees.IsTree (front ++ ts)

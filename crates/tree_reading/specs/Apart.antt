@@ -1,4 +1,4 @@
--- A line that is taken apart into its first word and the tokens behind it.
+-- A line in its parts: its first word, and the tokens after it.
 use Rattle.std.specs.Prelude.{◌≡◌, Bool, Option, Some, None, Result, Err, if◌then◌else◌}
 use Rattle.problem_rules.specs.Problem.{Problem}
 use Rattle.tree_rules.specs.Known.{AreUnits}
@@ -19,11 +19,11 @@ pub record AreParts (parts : LineParts) (line : rules.Line) : Type 0 where
   pub word : parts.word ≡ word_of line
   pub fields : tokens_in parts.fields ≡ fields_of line
 
--- what is read of a line, where it has its form
+-- what is read of a line, if it has its form
 abbrev pub formed_by : {A : Type 0} → Bool → Result A TreeKind → Result A TreeKind
 formed_by formed read = if formed then read else Err BadLine
 
--- the same where there may be nothing to read
+-- the same, if there may be nothing to read
 abbrev pub formed_if_read : {A : Type 0} → Bool → Option (Result A TreeKind) → Option (Result A TreeKind)
 formed_if_read formed None = None
 formed_if_read formed (Some read) = Some (formed_by formed read)

@@ -1,5 +1,6 @@
--- What a reader answers by what the grammar reads: the value that the lines stand for, of which more is known, or their first
--- fault. A view tells which value of the rules a value of the code is.
+-- What a reader answers, by what the grammar reads: the value that the lines stand for, with what
+-- is known of it, or their first fault. A view says which value of the rules a value of the code
+-- is.
 use Rattle.std.specs.Prelude.{◌≡◌, ◌+◌, ℕ, List, [], Some, None, Result, Ok, Err}
 use Rattle.problem_rules.specs.Problem.{Problem}
 use Rattle.tree_rules.specs.Tree as trees
@@ -20,7 +21,7 @@ abbrev pub Gives : {A B : Type 0} → (A → B) → (B → Type 0) → Result B 
 Gives view Known reading (Ok a) = (reading ≡ Ok (view a)) × Known (view a)
 Gives view Known reading (Err fault) = Tells reading fault
 
--- from a cut on, with the cut behind what was read
+-- from a place on, with the place after what was read
 pub record IsRead {A B : Type 0} (view : A → B) (Known : B → Type 0) (read : ℕ → List Line → Result (Taken B) Fault) (bytes : List ℕ) (cut : Cut) (found : A × Cut) : Type 0 where
   pub reads : read cut.line (lines_at bytes cut) ≡ Ok (taken (view found.0) bytes found.1)
   pub behind : IsBehind bytes cut found.1
@@ -30,11 +31,13 @@ abbrev pub GivesAt : {A B : Type 0} → (A → B) → (B → Type 0) → (ℕ �
 GivesAt view Known read bytes cut (Ok found) = IsRead view Known read bytes cut found
 GivesAt view Known read bytes cut (Err fault) = Tells (read cut.line (lines_at bytes cut)) fault
 
--- what is read of a tree behind the line of a node with this option, with so many subtrees behind it
+-- what is read of a tree after the line of a node with this option, with `count` subtrees after the
+-- node
 abbrev pub begun : Problem → List ℕ → ℕ → ℕ → List Line → Result (Taken Tree) Fault
 begun p option count number lines = nodes_taken p (Some (record { option = option; steps = [] })) count number lines
 
--- The node stands first in what is read, and its children and the subtrees behind it follow; the problem knows it.
+-- The node is the first in what is read; its children and the subtrees after it follow. The problem
+-- knows the node.
 pub record IsNode (p : Problem) (option bytes : List ℕ) (cut : Cut) (found : trees.TreeNode Leaf × Cut) : Type 0 where
   pub reads : (count : ℕ) → begun p option count cut.line (lines_at bytes cut) ≡ with_node found.0 (nodes_taken p None (trees.children found.0.end + count) found.1.line (lines_at bytes found.1))
   pub behind : IsBehind bytes cut found.1

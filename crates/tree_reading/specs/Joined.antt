@@ -1,4 +1,5 @@
--- A list of values that is read token by token: what was read, and what is read of the tokens behind.
+-- A list of values that is read token by token: what was read, and what is read of the tokens that
+-- follow.
 use Rattle.std.specs.Prelude.{List, ◌++◌, Option, Some, None, Result, Ok, Err}
 use Rattle.tree_text_rules.specs.Token.{both, mapped}
 use Rattle.tree_text_rules.specs.declared.TreeKind.{TreeKind}

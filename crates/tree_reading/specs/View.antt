@@ -8,7 +8,7 @@ use Rattle.tree_reading.specs.declared.line.Line.{Line}
 abbrev pub line_of : Line → rules.Line
 line_of line = record { text = line.text.now; ended = line.ended }
 
--- the tokens of what is left of a line, and none where nothing is left
+-- the tokens of what is left of a line, or none if nothing is left
 abbrev pub tokens_in : Option (Bor (List ℕ)) → List rules.Token
 tokens_in None = []
 tokens_in (Some rest) = slice_split rules.is_space rest.now

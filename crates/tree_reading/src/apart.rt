@@ -1,4 +1,4 @@
-//! A line that is taken apart.
+//! A line in its parts.
 ghost use Rattle.std.specs.Prelude.{◌≡◌, ◌∷◌, ◌<◌, [], IfOk, IfErr, length};
 ghost use Rattle.tree_reading.specs.Apart.{AreParts};
 ghost use Rattle.tree_reading.specs.View.{line_of, tokens_in};
@@ -7,7 +7,8 @@ use crate::line::{Line, first_token, have_bytes, next_token};
 use crate::word::word_named;
 use tree_text_rules::{TreeKind, Word};
 
-/// Whether a line has ended and each of its tokens has bytes, the word that it begins with, and what is left behind that.
+/// Whether a line has ended and each of its tokens has bytes, the word that it begins with, and
+/// what follows that word.
 #[derive(Clone, Copy)]
 pub struct LineParts<'a> {
     pub formed: bool,
@@ -27,7 +28,8 @@ pub fn parts_of<'a>(line: &Line<'a>) -> LineParts<'a>
     }
 }
 
-/// The first token that is left, and what is left behind it; `BadLine` exactly where there is no token.
+/// The first token that is left, and what follows it. It is `BadLine` if and only if there is no
+/// token.
 pub fn some_token(fields: Option<&[u8]>) -> Result<(&[u8], Option<&[u8]>), TreeKind>
     ensures ok { IfOk result (λ found. tokens_in fields.entry ≡ found.0.now ∷ tokens_in found.1) }
     ensures fault { IfErr result (λ kind. (kind ≡ TreeKind.BadLine) × (tokens_in fields.entry ≡ [])) }
@@ -35,7 +37,7 @@ pub fn some_token(fields: Option<&[u8]>) -> Result<(&[u8], Option<&[u8]>), TreeK
     next_token(fields).ok_or(TreeKind::BadLine)
 }
 
-/// The value; `BadLine` exactly where a token is left.
+/// The value. It is `BadLine` if and only if a token is left.
 pub fn alone<A: Drop>(value: A, fields: Option<&[u8]>) -> Result<A, TreeKind>
     ensures ok { IfOk result (λ found. (found ≡ value) × (tokens_in fields.entry ≡ [])) }
     ensures fault { IfErr result (λ kind. (kind ≡ TreeKind.BadLine) × (0 < length (tokens_in fields.entry))) }
@@ -46,7 +48,7 @@ pub fn alone<A: Drop>(value: A, fields: Option<&[u8]>) -> Result<A, TreeKind>
     }
 }
 
-/// The one token that is left; `BadLine` exactly where there are more or fewer.
+/// The one token that is left. It is `BadLine` if and only if there are more or fewer.
 pub fn only(fields: Option<&[u8]>) -> Result<&[u8], TreeKind>
     ensures ok { IfOk result (λ token. tokens_in fields.entry ≡ token.now ∷ []) }
     ensures fault { IfErr result (λ kind. (kind ≡ TreeKind.BadLine) × (length (tokens_in fields.entry) ≡ 1 → ⊥)) }
@@ -55,7 +57,7 @@ pub fn only(fields: Option<&[u8]>) -> Result<&[u8], TreeKind>
     alone(token, behind)
 }
 
-/// The two tokens that are left; `BadLine` exactly where there are more or fewer.
+/// The two tokens that are left. It is `BadLine` if and only if there are more or fewer.
 pub fn pair(fields: Option<&[u8]>) -> Result<(&[u8], &[u8]), TreeKind>
     ensures ok { IfOk result (λ found. tokens_in fields.entry ≡ found.0.now ∷ found.1.now ∷ []) }
     ensures fault { IfErr result (λ kind. (kind ≡ TreeKind.BadLine) × (length (tokens_in fields.entry) ≡ 2 → ⊥)) }

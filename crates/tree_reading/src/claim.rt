@@ -37,8 +37,8 @@ fn read_sizes(
     Ok((Network::of(units, sizes, d, cost), behind))
 }
 
-/// The network whose first line is at the cut, and the cut behind its three lines. `At` comes exactly at the first fault of
-/// these lines, `Memory` is want of memory.
+/// The network whose first line is at this place, and the place after its three lines. `At` comes
+/// with the first fault of these lines, and only then; `Memory` says that there was no memory.
 pub fn read_network(
     alloc: Global,
     problem: &Problem,
@@ -57,7 +57,7 @@ pub fn read_network(
     read_sizes(alloc, units, bytes, first)
 }
 
-/// The claim whose first line is at the cut, and the cut behind it.
+/// The claim whose first line is at this place, and the place after it.
 pub fn read_claim(
     alloc: Global,
     problem: &Problem,

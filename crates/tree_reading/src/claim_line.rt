@@ -61,7 +61,7 @@ pub fn network_line(problem: &Problem, line: &LineParts) -> Result<UnitSet, Tree
     }
 }
 
-/// What sizes and cost are over, and as many sizes as units.
+/// The divisor of sizes and cost, and as many sizes as units.
 pub fn sizes_line(
     alloc: Global,
     count: u32,

@@ -15,7 +15,7 @@ pub struct Cut {
     pub line: u32,
 }
 
-/// The line at a cut, and the cut behind it; none exactly where no line is left.
+/// The line at this place, and the place after it. It is `None` if and only if no line is left.
 pub fn line_at(bytes: &[u8], cut: Cut) -> Option<(Line<'_>, Cut)>
     requires cut { IsCut bytes.now cut }
     requires few { length bytes.now < 2 ^ 32 - 1 }
@@ -37,7 +37,7 @@ pub fn line_at(bytes: &[u8], cut: Cut) -> Option<(Line<'_>, Cut)>
     Some((line, behind))
 }
 
-/// The line at a cut, and the cut behind it; a bad line where none is left.
+/// The line at this place, and the place after it. If no line is left, it is a bad line.
 pub fn next_line(bytes: &[u8], cut: Cut) -> Result<(Line<'_>, Cut), TreeFault>
     requires cut { IsCut bytes.now cut }
     requires few { length bytes.now < 2 ^ 32 - 1 }

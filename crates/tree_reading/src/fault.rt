@@ -6,10 +6,10 @@ use crate::cut::Cut;
 use text_lines::fault;
 use tree_text_rules::TreeKind;
 
-/// The first fault of a text, or want of memory and nothing else.
+/// The first fault of a text, or out of memory, which says nothing of the text.
 pub type TreeFault = fault::TextFault<TreeKind>;
 
-/// The fault of this kind of the line at a cut.
+/// The fault of this kind of the line at this place.
 pub fn kind_at(cut: Cut, kind: TreeKind) -> TreeFault
     ensures { result ≡ kind_at cut.line kind }
 {
@@ -19,7 +19,7 @@ pub fn kind_at(cut: Cut, kind: TreeKind) -> TreeFault
     }
 }
 
-/// What was read of the line at a cut, or its fault.
+/// What was read of the line at this place, or its fault.
 pub fn at_line<A: Drop>(cut: Cut, read: Result<A, TreeKind>) -> Result<A, TreeFault>
     ensures ok { IfOk result (λ found. read ≡ Ok found) }
     ensures fault { IfErr result (IsOfLine cut.line read) }

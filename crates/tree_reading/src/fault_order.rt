@@ -1,4 +1,4 @@
-//! Which of several faults is told.
+//! Which of several faults is given.
 ghost use Rattle.std.specs.Prelude.{◌≡◌, Ok, IfOk};
 ghost use Rattle.tree_text_rules.specs.Token.{kind_number, lesser, both};
 

@@ -19,7 +19,7 @@ use pns_problem::Problem;
 use std::alloc::Global;
 use unit_sets::{Step, UnitSet};
 
-/// The steps from a cut on, and the cut before the first line that is no step.
+/// The steps from this place on, and the place before the first line that is no step.
 pub fn read_steps(
     alloc: Global,
     problem: &Problem,
@@ -46,7 +46,7 @@ pub fn read_steps(
     Ok((steps, at))
 }
 
-/// The option of the node whose line is at the cut, and the cut behind it.
+/// The option of the node whose line is at this place, and the place after it.
 pub fn read_option(problem: &Problem, bytes: &[u8], cut: Cut) -> Result<(UnitSet, Cut), TreeFault>
     requires cut { IsCut bytes.now cut }
     requires few { length bytes.now < 2 ^ 32 - 1 }
@@ -57,9 +57,10 @@ pub fn read_option(problem: &Problem, bytes: &[u8], cut: Cut) -> Result<(UnitSet
     Ok((option, behind))
 }
 
-/// The option and the steps of the node whose line is at the cut, and the cut behind them. The steps end before the first line
-/// whose first word is none of `raw`, `rival`, `starve`, `loose` and `sole`. Any option is taken. `At` comes exactly at the first
-/// fault of these lines, `Memory` is want of memory.
+/// The option and the steps of the node whose line is at this place, and the place after them. The
+/// steps end before the first line whose first word is none of `raw`, `rival`, `starve`, `loose`
+/// and `sole`. Any option is taken. `At` comes with the first fault of these lines, and only then;
+/// `Memory` says that there was no memory.
 pub fn read_head(
     alloc: Global,
     problem: &Problem,

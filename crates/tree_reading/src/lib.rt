@@ -1,15 +1,16 @@
-//! The readers of a branch tree's text: `read_tree` reads a whole text, and `read_network`, `read_head`, `read_end`, `read_tail`
-//! and `read_rest` a part of one from a [`Cut`] on. Each gives the value that the text stands for, or its first fault.
+//! A text gives its claim, tree and tail, or exactly its first fault.
 //!
-//! The text is read once from front to end and stays borrowed; only what is read takes memory, and nothing is reserved by a
-//! promised number of children. A line is a borrowed slice, and its tokens are cut as they are needed.
+//! `read_tree` reads a whole text. `read_network`, `read_head`, `read_end`, `read_tail` and
+//! `read_rest` read a part of one, from a [`Cut`], a place in it, on. The text is read once from
+//! front to end and stays borrowed. Only what is read takes memory; a promised number of children
+//! reserves none. Texts that have other lines besides those of a tree read their tokens by the same
+//! calls.
 //!
-//! Modules of one line and what it stands for by the place where it comes: `line` (lines and tokens), `apart` (a line's first word and the
-//! tokens behind it), `word`, `number`, `name`, `column` (one token), `list`, `unit_list`, `column_list` (all that are left),
-//! `place`, and the lines: `claim_line`, `node_line`, `steps`, `ends`, `tail_line`. `fault_order` tells the least of several
-//! faults. Texts that have other lines beside those of a tree read their tokens by the same calls.
-//!
-//! Modules of a text: `cut` (a place in it), `fault`, `claim`, `head`, `node`, `nodes` (the tree), `tail`, `text`.
+//! Modules of one line: `line`, `apart` (its parts), `word`, `number`, `name`, `column` (one
+//! token), `list`, `unit_list`, `column_list` (all that are left), `place`, and the lines:
+//! `claim_line`, `node_line`, `steps`, `ends`, `tail_line`. `fault_order` gives the least of
+//! several faults. Modules of a text: `cut`, `fault`, `claim`, `head`, `node`, `nodes` (the tree),
+//! `tail`, `text`.
 #![tactic(auto)]
 
 mod apart;

@@ -30,7 +30,7 @@ pub fn first_line(rest: &[u8]) -> (Line<'_>, usize)
     }
 }
 
-/// The first token of a text, and what is left behind the space that ends it.
+/// The first token of a text, and what follows the space that ends it.
 #[tactic(auto, using(crate::proofs::Cutting::token_ended, crate::proofs::Cutting::token_last, std::proofs::lemmas::Grind::common_steps))]
 pub fn first_token(text: &[u8]) -> (&[u8], Option<&[u8]>)
     ensures cut { slice_split is_space text.now ≡ result.0.now ∷ tokens_in result.1 }
@@ -44,7 +44,8 @@ pub fn first_token(text: &[u8]) -> (&[u8], Option<&[u8]>)
     }
 }
 
-/// The first token of what is left of a line, and what is left behind it; none exactly where there is no token.
+/// The first token of what is left of a line, and what follows it. It is `None` if and only if
+/// there is no token.
 pub fn next_token(rest: Option<&[u8]>) -> Option<(&[u8], Option<&[u8]>)>
     ensures some { IfSome result (λ found. tokens_in rest.entry ≡ found.0.now ∷ tokens_in found.1) }
     ensures none { IfNone result (tokens_in rest.entry ≡ []) }

@@ -2,5 +2,5 @@
 use text_lines::fault;
 use tree_text_rules::TreeKind;
 
-/// The fault of a line, or want of memory.
+/// The fault of a line, or out of memory.
 pub type LineFault = fault::LineFault<TreeKind>;

@@ -33,7 +33,7 @@ pub fn material_of(problem: &Problem, token: &[u8]) -> Result<u32, TreeKind>
     }
 }
 
-/// The number of the unit of this name, where no other token is left.
+/// The number of the unit whose name is the one token that is left.
 #[tactic(auto, using(crate::proofs::Counted::not_one))]
 pub fn one_unit(problem: &Problem, fields: Option<&[u8]>) -> Result<u32, TreeKind>
     ensures value { result ≡ one (rules.unit_of problem.now) (tokens_in fields.entry) }
@@ -42,7 +42,7 @@ pub fn one_unit(problem: &Problem, fields: Option<&[u8]>) -> Result<u32, TreeKin
     unit_of(problem, only(fields)?)
 }
 
-/// The number of the material of this name, where no other token is left.
+/// The number of the material whose name is the one token that is left.
 #[tactic(auto, using(crate::proofs::Counted::not_one))]
 pub fn one_material(problem: &Problem, fields: Option<&[u8]>) -> Result<u32, TreeKind>
     ensures value { result ≡ one (rules.material_of problem.now) (tokens_in fields.entry) }
@@ -51,7 +51,7 @@ pub fn one_material(problem: &Problem, fields: Option<&[u8]>) -> Result<u32, Tre
     material_of(problem, only(fields)?)
 }
 
-/// The number of the exclusion of this name. A problem has few, so they are looked through.
+/// The number of the exclusion of this name. A problem has few, so they are searched one by one.
 pub fn exclusion_of(problem: &Problem, token: &[u8]) -> Result<u32, TreeKind>
     ensures value { result ≡ rules.exclusion_of problem.now token.now }
     ensures below { IfOk result (λ k. k < length problem.now.exclusions) }

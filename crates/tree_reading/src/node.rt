@@ -19,8 +19,8 @@ use pns_problem::Problem;
 use std::alloc::Global;
 use unit_sets::UnitSet;
 
-/// The end whose line is at the cut, and the cut behind it. `At` comes exactly at the fault of this line, `Memory` is want of
-/// memory.
+/// The end whose line is at this place, and the place after it. `At` comes with the fault of this
+/// line, and only then; `Memory` says that there was no memory.
 pub fn read_end(
     alloc: Global,
     problem: &Problem,
@@ -40,7 +40,7 @@ pub fn read_end(
     Ok((end, behind))
 }
 
-/// The steps and the end of a node with this option, from the line behind its own on.
+/// The steps and the end of a node with this option, from the line after its own on.
 pub fn read_node(
     alloc: Global,
     problem: &Problem,

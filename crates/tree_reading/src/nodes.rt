@@ -19,7 +19,7 @@ use pns_problem::Problem;
 use std::alloc::Global;
 use unit_sets::UnitSet;
 
-// How many subtrees are to come behind a node, where so many were to come before.
+// How many subtrees are left after a node, if `pending` were left before its children.
 fn more_subtrees(pending: u64, node: &TreeNode) -> u64
     requires { pending < 2 ^ 64 - 2 ^ 32 }
     ensures sum { result ≡ trees.children node.now.end + pending }
@@ -28,7 +28,7 @@ fn more_subtrees(pending: u64, node: &TreeNode) -> u64
     node.end.children() as u64 + pending
 }
 
-/// The nodes of a tree, from the line behind the root's on, and the cut behind them.
+/// The nodes of a tree, from the line after the root's on, and the place after them.
 pub fn read_nodes(
     alloc: Global,
     problem: &Problem,
@@ -59,7 +59,7 @@ pub fn read_nodes(
     }
 }
 
-/// The tree whose root's line is at the cut, and the cut behind it.
+/// The tree whose root's line is at this place, and the place after it.
 pub fn read_whole(
     alloc: Global,
     problem: &Problem,

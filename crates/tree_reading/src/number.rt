@@ -33,7 +33,7 @@ pub fn number_of(token: &[u8]) -> Result<i128, TreeKind>
     whole_number(token).ok_or(TreeKind::BadNumber)
 }
 
-/// What sizes and cost are over, at least 1.
+/// The divisor of sizes and cost, at least 1.
 pub fn denominator_of(token: &[u8]) -> Result<i128, TreeKind>
     ensures value { result ≡ rules.denominator_of token.now }
     ensures range { IfOk result InRange }
@@ -53,7 +53,7 @@ pub fn count_of(token: &[u8]) -> Result<u32, TreeKind>
     Ok(number as u32)
 }
 
-/// The number of a node or of a step, where no other token is left.
+/// The number of a node or of a step, which is the one token that is left.
 #[tactic(auto, using(crate::proofs::Counted::not_one))]
 pub fn one_count(fields: Option<&[u8]>) -> Result<u32, TreeKind>
     ensures { result ≡ one rules.count_of (tokens_in fields.entry) }

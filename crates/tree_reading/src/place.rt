@@ -1,4 +1,4 @@
-//! Places where a number is out of range.
+//! Places at which a number is out of range.
 ghost use Rattle.std.specs.Prelude.{◌≡◌, IfOk};
 ghost use Rattle.flow_rules.specs.declared.place.Place.TheVariants as places;
 ghost use Rattle.tree_rules.specs.Known.{KnowsPlace};

@@ -38,7 +38,7 @@ fn step_of(problem: &Problem, line: &LineParts) -> Result<Step, TreeKind>
     }
 }
 
-/// The step that a line says; none where its first word is another.
+/// The step that a line says, or none if its first word is another.
 pub fn step_line(problem: &Problem, line: &LineParts) -> Option<Result<Step, TreeKind>>
     ensures value { formed_if_read line.now.formed (reads.step_by problem.now line.now.word (tokens_in line.now.fields)) ≡ option_map (rules.mapped step_of) result }
     ensures known { IfSome result (λ read. IfOk read (λ step. KnowsStep problem.now (step_of step))) }

@@ -17,7 +17,7 @@ use pns_problem::Problem;
 use std::alloc::Global;
 use tree_text_rules::TreeKind;
 
-// The tail, where nothing is left at the cut.
+// The tail, if nothing is left at this place.
 fn read_nothing(tail: Tail, bytes: &[u8], cut: Cut) -> Result<Tail, TreeFault>
     requires cut { IsCut bytes.now cut }
     requires few { length bytes.now < 2 ^ 32 - 1 }
@@ -29,7 +29,7 @@ fn read_nothing(tail: Tail, bytes: &[u8], cut: Cut) -> Result<Tail, TreeFault>
     }
 }
 
-// The tail, where the last line is at the cut and nothing is left behind it.
+// The tail, if the last line is at this place and nothing follows it.
 fn read_close(tail: Tail, bytes: &[u8], cut: Cut) -> Result<Tail, TreeFault>
     requires cut { IsCut bytes.now cut }
     requires few { length bytes.now < 2 ^ 32 - 1 }
@@ -40,7 +40,7 @@ fn read_close(tail: Tail, bytes: &[u8], cut: Cut) -> Result<Tail, TreeFault>
     read_nothing(tail, bytes, behind)
 }
 
-// The tail of a search that met a number out of range at this node, behind its first line.
+// The tail of a search that met a number out of range at this node, from its second line on.
 fn read_past(
     alloc: Global,
     problem: &Problem,
@@ -65,8 +65,8 @@ fn read_past(
     read_close(tail, bytes, second)
 }
 
-/// The tail whose first line is at the cut, to the end of the bytes. `At` comes exactly at the first fault of what is left,
-/// `Memory` is want of memory.
+/// The tail whose first line is at this place, to the end of the bytes. `At` comes with the first
+/// fault of what is left, and only then; `Memory` says that there was no memory.
 pub fn read_tail(
     alloc: Global,
     problem: &Problem,

@@ -56,7 +56,7 @@ pub fn nonbasic_line(
     }
 }
 
-/// Where a number is out of range.
+/// The place at which a number is out of range.
 pub fn place_line(problem: &Problem, line: &LineParts) -> Result<Place, TreeKind>
     ensures value { result ≡ reads.behind_nodes line.now.word (formed_by line.now.formed (reads.place_by problem.now line.now.word (tokens_in line.now.fields))) }
     ensures known { IfOk result (KnowsPlace problem.now) }

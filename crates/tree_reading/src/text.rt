@@ -18,8 +18,9 @@ use pns_problem::Problem;
 use std::alloc::Global;
 use tree_text_rules::TreeKind;
 
-/// The claim, the tree and the tail from the cut on, to the end of the bytes: a whole text but for its first line. `At` comes
-/// exactly at the first fault of what is left, `Memory` is want of memory. Linear in the bytes.
+/// The claim, the tree and the tail from this place on, to the end of the bytes: a whole text but
+/// for its first line. `At` comes with the first fault of what is left, and only then; `Memory`
+/// says that there was no memory. The time is linear in the bytes.
 pub fn read_rest(
     alloc: Global,
     problem: &Problem,
@@ -39,8 +40,9 @@ pub fn read_rest(
     Ok((claim, tree, tail))
 }
 
-/// The claim, the tree and the tail that a text stands for. `At` comes exactly where the text is not in the grammar, with the
-/// least line that has a fault, counted from 1, and its kind; `Memory` is want of memory. Linear in the bytes.
+/// The claim, the tree and the tail that a text stands for. Unless there is no memory (`Memory`),
+/// `At` comes if and only if the text is not in the grammar. It has the least line that has a
+/// fault, counted from 1, and its kind. The time is linear in the bytes.
 pub fn read_tree(
     alloc: Global,
     problem: &Problem,

@@ -1,4 +1,4 @@
-//! Sets of units, which stand in file order.
+//! Sets of units, which are in file order.
 ghost use Rattle.std.specs.Prelude.{◌≡◌, ◌&&◌, Ok, Err, IfOk, IfErr, nat_le};
 ghost use Rattle.tree_rules.specs.Known.{AreUnits};
 ghost use Rattle.tree_text_rules.specs.Token as rules;
@@ -10,7 +10,8 @@ use pns_problem::Problem;
 use tree_text_rules::TreeKind;
 use unit_sets::UnitSet;
 
-// Whether units rise with one more, where they do without it or not, and `least` is the least number above them.
+// Whether units rise with one more: they rise without it (`rises`), and `least` is the least number
+// above them.
 fn goes_on(rises: bool, least: u32, unit: u32) -> bool
     ensures { result ≡ (rises && nat_le least unit) }
 {

@@ -31,7 +31,7 @@ const WORDS: [(&[u8], Word); 23] = [
     (b"end", Word::End),
 ];
 
-/// The word that a token is; none exactly where it is no first word of a line.
+/// The word that a token is. It is `None` if and only if the token is no first word of a line.
 #[tactic(auto, unfolding(tree_text_rules::specs::Line::word_named))]
 pub fn word_named(token: &[u8]) -> Option<Word>
     ensures { result ≡ word_named token.now }

@@ -7,7 +7,7 @@ use Rattle.tree_text.specs.Printing.{appended}
 use Rattle.tree_text.specs.Fields.{field_tokens, tokens_of}
 use Rattle.tree_text.specs.declared.line.Field.{Field}
 
--- behind a word, joined by spaces
+-- after a word, joined by spaces
 pub line_appended : (word : List ℕ) (fields : List (List ℕ)) → appended word fields ≡ joined 32 (word ∷ fields)
 line_appended word [] = refl
 line_appended word (field ∷ fields) = line_appended (word ++ 32 ∷ field) fields ∙ one_less word field fields

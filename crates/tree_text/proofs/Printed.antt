@@ -14,7 +14,7 @@ use Rattle.tree_text.specs.declared.fault.PrintFault.{PrintFault}
 use Rattle.tree_text.specs.declared.fault.PrintFault.TheVariants.{WriteFault, Memory}
 use Rattle.tree_text.specs.Prints.{Prints, Puts}
 
--- lines that are out, and then more of them
+-- lines that are printed, and then more of them
 both_out : (some behind : List (List Token)) (old mid new : Option (List ℕ)) → Appends old mid (text_of some) → Appends mid new (text_of behind) → Appends old new (text_of (some ++ behind))
 both_out some behind old mid new first second = subst (Appends old new) (sym (flat_map-append line_text some behind)) (Appends-trans old mid new (text_of some) (text_of behind) first second)
 
@@ -56,7 +56,7 @@ two_printed some behind old mid new (Err Memory) le first second =
     let w = second.outcome in
     record { outcome = (some ++ w.0, w.1, ap (λ (ls : List (List Token)). some ++ ls) w.2 ∙ sym (append_assoc some w.0 w.1), both_out some w.0 old.written mid.written new.written first.outcome w.3) }
 
--- what is out are all lines but the rest
+-- all lines but the rest are printed
 pub record ArePrinted (lines rest : List (List Token)) (old new : SinkState) : Type 0 where
   pub front : List (List Token)
   pub cut : lines ≡ front ++ rest
@@ -83,7 +83,7 @@ module _ (lines rest some behind : List (List Token)) (old mid new : SinkState) 
 pub none_put : (state : SinkState) (done : Unit {0}) → Puts [] state state (Ok done)
 none_put state done = record { prints = record { outcome = Appends-nil state.written }; later = omega arith }
 
--- the first lines, and then those behind them
+-- the first lines, and then those that follow
 pub both_put : {lines some behind : List (List Token)} {old mid new : SinkState} {done : Unit {0}} {r : Result (Unit {0}) PrintFault}
     → Puts some old mid (Ok done) → Puts behind mid new r → lines ≡ some ++ behind → Puts lines old new r
 both_put {lines} {some} {behind} {old} {mid} {new} {done} {r} first second is = record {
@@ -98,7 +98,7 @@ first_failed {lines} {some} behind {old} {new} {fault} {r} first told is =
     let e = err_from_is_err_and r told in
     rw (e.1, e.2) (record { prints = printed_as _ _ old new _ (sym is) (part_failed some behind old new fault first.prints); later = first.later })
 
--- with the lines that are left, all lines are put since the old state
+-- with the lines that are left, all lines are printed since the old state
 abbrev pub Finishes : List (List Token) → List (List Token) → SinkState → SinkState → Type 0
 Finishes left lines old now = (last : SinkState) (r : Result (Unit {0}) PrintFault) → Puts left now last r → Puts lines old last r
 

@@ -1,7 +1,7 @@
--- How a line is put together: each field behind a space.
+-- How a line is made: each field follows a space.
 use Rattle.std.specs.Prelude.{ℕ, List, [], ◌∷◌, ◌++◌}
 
--- what stands when the fields were appended
+-- the text after the fields were appended
 abbrev pub appended : List ℕ → List (List ℕ) → List ℕ
 appended text [] = text
 appended text (field ∷ fields) = appended (text ++ 32 ∷ field) fields

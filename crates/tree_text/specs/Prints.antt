@@ -1,5 +1,6 @@
--- What is out after lines were printed: all of them; after a fault of the sink, whose count then rose, a front of their text;
--- after want of memory the first of them, each whole.
+-- What is printed by a call that prints lines. It is all of them. After a fault of the sink, whose
+-- count then rose, it is a front of their text. If there is no memory, it is the first of them,
+-- each whole.
 use Rattle.std.specs.Prelude.{◌≡◌, ◌≤◌, ◌++◌, List, Result, Ok, Err}
 use Rattle.std.specs.Io.KnownBytes.{Appends}
 use Rattle.text_rules.specs.Outside.{HasRisen, AppendsFront}
@@ -9,7 +10,7 @@ use Rattle.tree_text_rules.specs.Spelling.{text_of}
 use Rattle.tree_text.specs.declared.fault.PrintFault.{PrintFault}
 use Rattle.tree_text.specs.declared.fault.PrintFault.TheVariants.{WriteFault, Memory}
 
--- first lines of these are out
+-- first lines of these are printed
 abbrev pub FirstLines : List (List Token) → SinkState → SinkState → Type 0
 FirstLines lines old new =
     (front : List (List Token)) × (rest : List (List Token)) × (lines ≡ front ++ rest) × Appends old.written new.written (text_of front)

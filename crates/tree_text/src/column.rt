@@ -1,4 +1,4 @@
-//! Columns and places behind the first word of a line.
+//! Columns and places after the first word of a line.
 ghost use Rattle.std.specs.Prelude.{◌≡◌, ◌<◌, ◌++◌, [], ◌∷◌, OnOk, codes, decimal, map, string_bytes};
 ghost use Rattle.problem_rules.specs.Each.{Each};
 ghost use Rattle.tree_rules.specs.Known.{KnowsColumn, KnowsRow, KnowsPlace};

@@ -4,10 +4,10 @@ use thiserror::Error;
 /// Why a text was not printed whole.
 #[derive(Debug, Drop, Error)]
 pub enum PrintFault {
-    /// The sink failed. What is out is a front of the text.
+    /// The sink failed. A front of the text is printed.
     #[error("a write failed")]
     WriteFault,
-    /// Memory was refused. What is out is whole lines of the text.
+    /// There was no memory. First lines of the text are printed, each whole.
     #[error("out of memory")]
     Memory,
 }

@@ -1,4 +1,4 @@
-//! Names and numbers behind the first word of a line, each behind a space.
+//! Names and numbers after the first word of a line, each after a space.
 ghost use Rattle.std.specs.Prelude.{◌≡◌, ◌<◌, ◌≤◌, [], ◌∷◌, OnOk, decimal, map, length, string_bytes};
 ghost use Rattle.std.specs.Fmt.{signed_decimal};
 ghost use Rattle.tree_text_rules.specs.Spelling.{unit_name, material_name, exclusion_name};
@@ -18,7 +18,7 @@ pub fn begin(line: &mut String, word: &str) -> Result<(), AllocError>
     Ok(())
 }
 
-/// A field as it stands.
+/// A field, unchanged.
 pub fn push_field(line: &mut String, field: &str) -> Result<(), AllocError>
     ensures { OnOk result (string_bytes line.new ≡ appended (string_bytes line.old) (field.now ∷ [])) }
 {
@@ -53,7 +53,7 @@ pub fn push_number(line: &mut String, number: i128) -> Result<(), AllocError>
     Ok(())
 }
 
-/// Whole numbers, each behind a space.
+/// Whole numbers, each after a space.
 pub fn push_numbers(line: &mut String, numbers: &[i128]) -> Result<(), AllocError>
     ensures { OnOk result (string_bytes line.new ≡ appended (string_bytes line.old) (map signed_decimal numbers.now)) }
 {

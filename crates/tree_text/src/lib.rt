@@ -1,9 +1,13 @@
-//! The text PNS_tree_v1 of branch trees in code. [`print_tree`] writes the one text of a claim, a tree and a tail to a sink, and
-//! the printers of parts write their lines of it: one put a line, so that want of memory leaves whole lines. Texts that have other
-//! lines beside those of a tree make them by the same calls: [`begin`], the fields behind it, and [`put_line`].
+//! The text PNS_tree_v1 of branch trees in code.
 //!
-//! Each call answers in the words of `tree_text_rules`. Modules: `field` appends names and numbers to a line, `column` columns
-//! and places, `put` hands lines to the sink, `line` puts one of a word and fields, `part` those of each part, and `print` has the calls.
+//! [`print_tree`] writes the one text of a claim, a tree and a tail to a sink. The printers of
+//! parts write their lines of it. Each line is handed over at once, so after an error of memory
+//! whole lines are printed. Texts that have other lines besides those of a tree make them by the
+//! same calls: [`begin`], the fields that follow, and [`put_line`].
+//!
+//! The definitions are those of `tree_text_rules`. Modules: `field` appends names and numbers to a
+//! line, `column` columns and places; `put` hands lines to the sink, `line` one of a word and
+//! fields, `part` those of each part; `print` has the calls.
 #![tactic(auto)]
 
 mod column;

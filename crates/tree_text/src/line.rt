@@ -1,4 +1,4 @@
-//! Lines of a word and fields, each put when it is made.
+//! Lines of a word and fields, each handed to the sink when it is made.
 ghost use Rattle.std.specs.Prelude.{◌≡◌, ◌∷◌, [], OnOk, string_bytes};
 ghost use Rattle.problem_rules.specs.Each.{Each};
 ghost use Rattle.text_rules.specs.Canonical.{joined};
@@ -19,7 +19,7 @@ use pns_problem::Problem;
 use std::alloc::AllocError;
 use unit_sets::UnitSet;
 
-/// What stands behind the word of a line: a name or a number, or several.
+/// What follows the word of a line: a name or a number, or several.
 #[derive(Clone, Copy)]
 pub(crate) enum Field<'a> {
     Unit(u32),
@@ -70,7 +70,7 @@ fn make(
     Ok(())
 }
 
-/// Puts the line of the word and the fields.
+/// Hands the line of the word and the fields to the sink.
 pub(crate) fn put<K: Sink>(
     line: &mut String,
     problem: &Problem,

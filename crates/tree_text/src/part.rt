@@ -1,4 +1,4 @@
-//! The lines of each part, made in one buffer and put one after another.
+//! The lines of each part, made in one buffer and handed over one after another.
 ghost use Rattle.std.specs.Prelude.{◌≡◌, ◌∷◌, [], map};
 ghost use Rattle.problem_rules.specs.Each.{Each};
 ghost use Rattle.pgraph.specs.View.{step_of};
@@ -120,7 +120,7 @@ pub(crate) fn put_network<'a, K: Sink>(
     requires { AreUnits problem.now network.now.units }
     ensures { Puts (network_lines problem.now network.now) (K.state out.old) (K.state out.new) result }
 {
-    // An array without a reference is told the lifetime of those that hold one.
+    // An array without a reference needs to be given the lifetime of those that have one.
     let units: [Field<'a>; 1] = [Field::Units(network.units())];
     put(line, problem, "network", &units, out)?;
     let sizes = [Field::Number(network.d()), Field::Numbers(network.sizes())];

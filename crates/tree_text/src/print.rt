@@ -17,8 +17,9 @@ use pns_problem::Problem;
 use std::alloc::Global;
 use unit_sets::{Step, UnitSet};
 
-/// Prints a claim, a tree and a tail, whole: a text of `tree_text_rules`. `WriteFault` comes only where the sink's count of
-/// faults rose; what is out is a front of the text, and after want of memory whole lines of it.
+/// Prints a claim, a tree and a tail, whole: a text of `tree_text_rules`. `WriteFault` comes only
+/// if the sink's count of faults rose; a front of the text is then printed. If there is no memory,
+/// first lines of it are printed, each whole.
 pub fn print_tree<K: Sink>(
     alloc: Global,
     problem: &Problem,

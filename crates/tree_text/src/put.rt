@@ -1,4 +1,4 @@
-//! Lines handed to the sink, one put a line.
+//! Lines handed to the sink one by one.
 ghost use Rattle.std.specs.Prelude.{◌≡◌, ◌≤◌, ◌∷◌, [], List, OnOk, string_bytes};
 ghost use Rattle.text_rules.specs.Canonical.{joined};
 ghost use Rattle.tree_text_rules.specs.Line.{Token};
@@ -8,7 +8,8 @@ use crate::fault::PrintFault;
 use pns_io::Sink;
 use std::alloc::AllocError;
 
-/// Puts the line that was made, with its line feed. A line that could not be made is told as want of memory.
+/// Hands over the line that was made, with its line feed. A line that could not be made is a fault
+/// of memory.
 pub fn put_line<K: Sink>(
     out: &mut K,
     line: &mut String,

@@ -29,7 +29,7 @@ cost_text z = word_text words.Cost ∷ signed_decimal z ∷ []
 
 -- ---- sizes and cost of units that are known
 
--- what is read behind the sizes, and behind the cost
+-- what is read after the sizes, and after the cost
 abbrev cost_then : List ℕ → ℕ → ℤ × List ℤ → ℤ → List Line → Result (Taken claims.Network) Fault
 cost_then units number c cost lines = Ok (record { what = record { units = units; sizes = c.1; d = c.0; cost = cost }; number = suc (suc number); behind = lines })
 
@@ -140,7 +140,7 @@ module _ (p : Problem) (formed : IsWellFormed p) where
       let a = first_back (opening_read p) (opening_line p formed) (FitsOpening p formed) (opening_lines p formed) number lines _ taken e in
       claim_behind_back a.what number lines a.rest taken a.lines_are a.fits a.reads
 
-  -- the number of the line behind a claim
+  -- the number of the line after a claim
   abbrev pub behind_claim : claims.Claim → ℕ → ℕ
   behind_claim (claims.network w) number = suc (suc (suc number))
   behind_claim claims.infeasible number = suc number

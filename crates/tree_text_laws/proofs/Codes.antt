@@ -1,5 +1,5 @@
--- Values and their texts: of one token, of the tokens behind a line's first word, and of a line. A reading gives a value for
--- its text alone, and gives each value that fits.
+-- Values and their texts: of one token, of the tokens after a line's first word, and of a line. A
+-- reading gives a value for its text alone, and gives each value that fits.
 use Rattle.std.proofs.Common.{◌≡◌, Bool, true, false, ℕ, nat_lt, List, [], ◌∷◌, map, Option, Some, None, Result, Ok, Err, refl, sym, ap, ap₂, ◌∙◌, subst, ltb-true, lt-ltb, if◌then◌else◌}
 use Rattle.std.proofs.lemmas.Bool.{and_parts, and_from}
 use Rattle.number_sets.specs.Sets.{IsBelowAll, IsRising}
@@ -58,7 +58,7 @@ formed_ok line r a e = at (is_formed line) e where
 pub formed_again : {A : Type 0} (line : Line) (r : Result A TreeKind) → is_formed line ≡ true → formed line r ≡ r
 formed_again line r is = ap (λ (b : Bool). if b then r else Err BadLine) is
 
--- ---- the tokens behind a first word
+-- ---- the tokens after a first word
 
 pub record AreFields {A : Type 0} (read : List Token → Result A TreeKind) (spell : A → List Token) (Fits : A → Type 0) : Type 0 where
   pub back : (tokens : List Token) (a : A) → read tokens ≡ Ok a → (tokens ≡ spell a) × Fits a
@@ -139,7 +139,7 @@ alone_ok a b (token ∷ tokens) e = absurd cc
 
 -- ---- a line
 
--- what is read by a line's word and the tokens behind it
+-- what is read by a line's word and the tokens after it
 pub record IsBy {A : Type 0} (by : Option Word → List Token → Result A TreeKind) (first : A → Word) (fields : A → List Token) (Fits : A → Type 0) : Type 0 where
   pub back : (word : Option Word) (tokens : List Token) (a : A) → by word tokens ≡ Ok a → (word ≡ Some (first a)) × (tokens ≡ fields a) × Fits a
   pub again : (a : A) → Fits a → by (Some (first a)) (fields a) ≡ Ok a

@@ -22,7 +22,7 @@ use Rattle.tree_text_laws.specs.LineLaws.{Any}
 use Rattle.tree_text_laws.proofs.Codes.{done, done_is, mapped_ok}
 use Rattle.tree_text_laws.proofs.Names.{unit_code, material_code}
 
--- a test that holds, or what comes behind it
+-- the choice if the test is true, or else what follows
 pub choice_ok : {A : Type 0} (b : Bool) (r s : Result A TreeKind) (a : A) (P : A → Type 0) → (b ≡ true → r ≡ Ok a → P a) → (s ≡ Ok a → P a) → (if b then r else s) ≡ Ok a → P a
 choice_ok true r s a P here later e = here refl e
 choice_ok false r s a P here later e = later e

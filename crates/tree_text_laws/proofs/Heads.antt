@@ -22,7 +22,7 @@ use Rattle.tree_text_laws.proofs.NodeLines.{step_back, step_again, end_lines, op
 use Rattle.tree_text_laws.proofs.Parts.{good, good_is, on_line_ok, first_back, first_again}
 
 module _ (p : Problem) (formed : IsWellFormed p) where
-  -- steps behind those of a head, and what stands behind them
+  -- steps after those of a head, and what follows them
   record TookSteps (head : Head) (number : ℕ) (lines : List Line) (taken : Taken Head) : Type 0 where
     steps : List nodes.Step
     what_is : taken.what ≡ record { option = head.option; steps = head.steps ++ steps }
@@ -51,7 +51,7 @@ module _ (p : Problem) (formed : IsWellFormed p) where
     stops = stops;
   }
 
-  -- what is read of a line behind a head
+  -- what is read of a line after a head
   abbrev steps_on : Head → ℕ → Line → List Line → Option (Result nodes.Step TreeKind) → Result (Taken Head) Fault
   steps_on head number line lines o = elim o [
     | None ↦ Ok (record { what = head; number = number; behind = line ∷ lines })

@@ -25,7 +25,7 @@ use Rattle.tree_text_laws.proofs.Names.{unit_code, material_code, exclusion_code
 use Rattle.tree_text_laws.specs.Codes.{line_of, IsToken, IsLineCode}
 use Rattle.tree_text_laws.proofs.Said.{says_word, word_is_token}
 
--- ---- what is read of the tokens behind a word is put into a value
+-- ---- what is read of the tokens after a word is put into a value
 
 pub mapped_back : {A B : Type 0} (f : A → B) (read : List Token → Result A TreeKind) (spell : A → List Token) (Fits : A → Type 0) (code : AreFields read spell Fits) (P : B → Type 0)
     → (tokens : List Token) → ((a : A) → tokens ≡ spell a → Fits a → P (f a)) → (b : B) → mapped f (read tokens) ≡ Ok b → P b

@@ -51,13 +51,13 @@ module _ (p : Problem) (formed : IsWellFormed p) where
   abbrev Fit : TreeNode → Type 0
   Fit t = KnowsNode p t × CountsEnd t.end
 
-  -- lines that are those of count subtrees, and what stands behind them
+  -- lines that are those of `count` subtrees, and what follows them
   record Took (count : ℕ) (lines : List Line) (r : Taken Tree) : Type 0 where
     lines_are : lines ≡ nodes_then p r.what r.behind
     whole : trees.IsForest count r.what
     fit : Each Fit r.what
 
-  -- the same behind a node's first lines
+  -- the same after a node's first lines
   record TookMore (h : Head) (count : ℕ) (lines : List Line) (r : Taken Tree) : Type 0 where
     steps : List nodes.Step
     end : End
@@ -73,7 +73,7 @@ module _ (p : Problem) (formed : IsWellFormed p) where
   Tooks None count lines r = Took count lines r
   Tooks (Some h) count lines r = TookMore h count lines r
 
-  -- behind a node's line
+  -- after a node's line
   took_node : (count : ℕ) (line : Line) (lines : List Line) (us : List ℕ) (r : Taken Tree) → line ≡ line_of (option_line p us) → AreUnits p us → TookMore (record { option = us; steps = [] }) count lines r → Took (suc count) (line ∷ lines) r
   took_node count line lines us r e set t =
       let node : TreeNode = record { option = us; steps = t.steps; end = t.end } in
@@ -112,7 +112,7 @@ module _ (p : Problem) (formed : IsWellFormed p) where
         fit = t.fit;
       }
 
-  -- what is read of a line behind a head, and goes on with the lines behind it
+  -- what is read of a line after a head, and goes on with the lines after it
   abbrev goes_on : Head → ℕ → ℕ → Line → List Line → Option (Result nodes.Step TreeKind) → Result (Taken Tree) Fault
   goes_on h count number line lines o = elim o [
     | Some read ↦ on_line number read (λ step. nodes_taken p (Some (with_step h step)) count (suc number) lines)
@@ -149,7 +149,7 @@ module _ (p : Problem) (formed : IsWellFormed p) where
 
   -- ---- what fits is read
 
-  -- the number of the line behind steps, and behind nodes
+  -- the number of the line after steps, and after nodes
   abbrev pub behind_steps : ℕ → List nodes.Step → ℕ
   behind_steps number [] = number
   behind_steps number (s ∷ ss) = behind_steps (suc number) ss

@@ -1,4 +1,4 @@
--- A reading of several lines goes on behind a line that it can read, and no other.
+-- A reading of several lines goes on after a line that it can read, and no other.
 use Rattle.std.proofs.Common.{◌≡◌, ℕ, List, [], ◌∷◌, Result, Ok, Err, refl, ap}
 use Rattle.tree_text_rules.specs.Line.{Token, Line}
 use Rattle.tree_text_rules.specs.Read.{Fault, Taken, on_line, first_line, then_read}
@@ -19,7 +19,7 @@ pub then_ok : {A B : Type 0} (r : Result (Taken A) Fault) (read : A → ℕ → 
 then_ok (Ok taken) read b e = (taken, refl, e)
 then_ok (Err fault) read b e = absurd cc
 
--- lines that begin with that of a value, behind which the reading goes on
+-- lines that begin with that of a value, after which the reading goes on
 pub record Begins {A B : Type 0} (spell : A → List Token) (Fits : A → Type 0) (lines : List Line) (read : A → List Line → Result B Fault) (b : B) : Type 0 where
   pub what : A
   pub rest : List Line

@@ -1,4 +1,5 @@
--- Texts are cut where they were joined, and joined where they were cut.
+-- A text is split at the places at which it was joined, and joined at the places at which it was
+-- split.
 use Rattle.std.proofs.Common.{◌≡◌, ◌==◌, Bool, true, false, cond, ℕ, List, [], ◌∷◌, ◌++◌, map, flat_map, refl, sym, ap, ap₂, ◌∙◌, append_assoc, append-nil, eqb-true, if◌then◌else◌}
 use Rattle.std.specs.List.{list_any, slice_split, onto_first}
 use Rattle.problem_rules.specs.Each.{Each}
@@ -25,7 +26,7 @@ joined_split_at p mark (x ∷ xs) = at (p x) (slice_split p xs) where
   at false [] = refl
   at false (piece ∷ pieces) = refl
 
--- a text that is cut at a byte is joined by it
+-- a text that is split at a byte is joined by it
 pub joined_split : (k : ℕ) (bytes : List ℕ) → joined k (slice_split (λ c. c == k) bytes) ≡ bytes
 joined_split k [] = refl
 joined_split k (c ∷ cs) = at (c == k) refl (joined_split k cs) where

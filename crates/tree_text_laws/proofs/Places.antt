@@ -1,4 +1,4 @@
--- Places where a number is out of range, both ways.
+-- Places at which a number is out of range, both ways.
 use Rattle.std.proofs.Common.{◌≡◌, true, List, [], ◌∷◌, codes, decimal, Option, Result, Ok, refl, ◌∙◌, ap, ap₂, subst}
 use Rattle.std.specs.Str.{bytes_eq}
 use Rattle.problem_rules.specs.Each.{Each}

@@ -85,7 +85,7 @@ word_again words.Nonbasic = refl
 word_again words.Place = refl
 word_again words.End = refl
 
--- a line that has its form, its word and the tokens behind it
+-- a line that has its form, its word and the tokens after it
 pub record Says (line : Line) (word : Word) (fields : List Token) : Type 0 where
   pub formed : is_formed line ≡ true
   pub word_is : word_of line ≡ Some word
@@ -128,6 +128,6 @@ first_back : (tokens : List Token) (word : Word) → first_word tokens ≡ Some 
 first_back [] word e = absurd cc
 first_back (token ∷ tokens) word e = ap (λ (t : Token). t ∷ tokens) (word_back token word e)
 
--- a line with its form is that of its word and the tokens behind it
+-- a line with its form is that of its word and the tokens after it
 pub line_back : (line : Line) (word : Word) → is_formed line ≡ true → word_of line ≡ Some word → line ≡ line_of (word_text word ∷ fields_of line)
 line_back line word formed named = line_from line (word_text word ∷ fields_of line) formed (first_back (tokens_of line) word named)

@@ -22,7 +22,7 @@ use Rattle.tree_text_laws.specs.Codes.{line_of, IsToken, IsLineCode}
 use Rattle.tree_text_laws.proofs.Places.{place_back, place_again, place_tokens}
 use Rattle.tree_text_laws.proofs.Said.{says_word}
 
--- ---- where a node's line would be one too many
+-- ---- a place at which a node's line would be one too many
 
 behind_ok : {A : Type 0} (word : Option Word) (r : Result A TreeKind) (a : A) → behind_nodes word r ≡ Ok a → r ≡ Ok a
 behind_ok (Some words.Node) r a e = absurd cc
@@ -112,7 +112,7 @@ close_back word tokens u e = absurd cc
 pub close_line : IsLineCode close_read (λ u. word_text words.End ∷ []) (λ u. Unit {0})
 close_line = tail_by close_by (λ u. words.End) (λ u. []) (λ u. Unit {0}) (record { back = close_back; again = λ u fits. refl; tokens = λ u fits. tt }) (λ u e. cc)
 
--- ---- where a number is out of range
+-- ---- the place at which a number is out of range
 
 module _ (p : Problem) (good : IsWellFormed p) where
   nonbasic_fields : AreFields (each (column_of p)) (map (column_text p)) (Each (KnowsColumn p))

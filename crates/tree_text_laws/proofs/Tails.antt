@@ -43,7 +43,7 @@ module _ (p : Problem) (formed : IsWellFormed p) where
   abbrev Spells : List Line → tails.Tail → Type 0
   Spells lines tail = (lines ≡ map line_of (tail_lines p tail)) × FitsTail p tail
 
-  -- ---- where a number is out of range
+  -- ---- the place at which a number is out of range
 
   abbrev nonbasic_text : List Column → List Token
   nonbasic_text cs = word_text words.Nonbasic ∷ map (column_text p) cs
@@ -73,7 +73,7 @@ module _ (p : Problem) (formed : IsWellFormed p) where
         fits = b.fits;
       }
 
-  -- ---- what stands behind a tail's first line
+  -- ---- what follows a tail's first line
 
   behind_back : (o : TailOpening) (number : ℕ) (lines rest : List Line) (tail : tails.Tail) → lines ≡ line_of (tail_line o) ∷ rest → FitsTailOpening o → tail_behind p o number rest ≡ Ok tail → Spells lines tail
   behind_back whole number lines rest tail is fits e =

@@ -1,4 +1,4 @@
--- What is taken of a text, with the number of the line behind it.
+-- What is taken of a text, with the number of the line after it.
 use Rattle.std.proofs.Common.{◌≡◌, ◌+◌, ℕ, suc, List, [], ◌∷◌, ◌++◌, length, map, Result, Ok, sym, ◌∙◌, ap, arith, length-append}
 use Rattle.std.proofs.lemmas.List.{length-map}
 use Rattle.problem_rules.specs.Problem.{Problem}
@@ -19,7 +19,8 @@ use Rattle.tree_text_laws.proofs.Parts.{good, good_is}
 use Rattle.tree_text_laws.proofs.Tails.{tail_back, tail_again}
 use Rattle.tree_text_laws.proofs.WholeText.{rest_back, rest_again}
 
--- A reading that takes the lines of each value that fits, and those of no other, goes on at the number behind them.
+-- A reading that takes the lines of each value that fits, and those of no other, goes on at the
+-- number after them.
 module _ {A : Type 0} (read : ℕ → List Line → Result (Taken A) Fault) (spell : A → List (List Token)) (Fit : A → Type 0)
     (takes : (a : A) (number : ℕ) (behind : List Line) → Fit a → read number (lines_said (spell a) ++ behind) ≡ Ok (record { what = a; number = number + length (spell a); behind = behind }))
     (back : (number : ℕ) (lines : List Line) (taken : Taken A) → read number lines ≡ Ok taken → (lines ≡ lines_said (spell taken.what) ++ taken.behind) × Fit taken.what) where
@@ -38,7 +39,7 @@ module _ {A : Type 0} (read : ℕ → List Line → Result (Taken A) Fault) (spe
     fits = λ number lines taken e. (back number lines taken e).1;
   }
 
--- another number of the line behind
+-- another number of the line that follows
 numbered : {A : Type 0} (a : A) (behind : List Line) (n m : ℕ) → n ≡ m → good (let t : Taken A = record { what = a; number = n; behind = behind } in t) ≡ good (let t : Taken A = record { what = a; number = m; behind = behind } in t)
 numbered a behind n m e = ap (λ (k : ℕ). good (let t : Taken _ = record { what = a; number = k; behind = behind } in t)) e
 

@@ -45,13 +45,13 @@ module _ (p : Problem) (formed : IsWellFormed p) where
   abbrev all_lines : Certificate → List (List Token)
   all_lines c = rest_lines p c.claim c.tree c.tail
 
-  -- the lines of the three parts one behind the other
+  -- the lines of the three parts one after another
   parts_joined : (claim : claims.Claim) (tree : Tree) (tail : tails.Tail) → map line_of (rest_lines p claim tree tail) ≡ map line_of (claim_lines p claim) ++ (map line_of (tree_lines p tree) ++ map line_of (tail_lines p tail))
   parts_joined claim tree tail =
       map-append line_of (claim_lines p claim) (tree_lines p tree ++ tail_lines p tail)
       ∙ ap (λ (ls : List Line). map line_of (claim_lines p claim) ++ ls) (map-append line_of (tree_lines p tree) (tail_lines p tail))
 
-  -- what is read behind a claim, and behind a tree
+  -- what is read after a claim, and after a tree
   abbrev tail_then : claims.Claim → Tree → ℕ → List Line → Result Certificate Fault
   tail_then claim tree number lines = with_tail claim tree (tail_taken p number lines)
 

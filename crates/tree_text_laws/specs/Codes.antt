@@ -1,5 +1,5 @@
--- Values and their one spelling, as a token or as a line: a reading gives a value for its spelling alone, and gives each value
--- that fits.
+-- Values and their one spelling, as a token or as a line. A reading gives a value for its spelling
+-- alone, and gives each value that fits.
 use Rattle.std.specs.Prelude.{◌≡◌, true, false, List, Result, Ok}
 use Rattle.std.specs.List.{list_any}
 use Rattle.problem_rules.specs.Each.{Each}
@@ -7,13 +7,13 @@ use Rattle.text_rules.specs.Canonical.{joined}
 use Rattle.tree_text_rules.specs.Line.{Token, Line, is_feed, is_space, has_bytes}
 use Rattle.tree_text_rules.specs.declared.TreeKind.{TreeKind}
 
--- a text that can stand as a token: bytes, and no space or line feed among them
+-- a text that can be a token: bytes, and no space or line feed among them
 pub record IsToken (text : Token) : Type 0 where
   pub some : has_bytes text ≡ true
   pub space : list_any is_space text ≡ false
   pub feed : list_any is_feed text ≡ false
 
--- the line of tokens: parted by a space, and ended
+-- the line of tokens: separated by a space, and ended
 abbrev pub line_of : List Token → Line
 line_of tokens = record { text = joined 32 tokens; ended = true }
 

@@ -1,5 +1,5 @@
--- What a text can hold: claims, trees and tails that a problem knows, the networks of which are sized with numbers in range,
--- and counts that a line can hold.
+-- What a text can have: claims, trees and tails that a problem knows, with networks that are sized,
+-- numbers in range, and counts that a line can have.
 use Rattle.problem_rules.specs.Each.{Each}
 use Rattle.problem_rules.specs.Problem.{Problem}
 use Rattle.tree_rules.specs.Tree as trees

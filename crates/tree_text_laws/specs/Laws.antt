@@ -1,4 +1,4 @@
--- The laws of the text of branch trees, each of which a public function of this crate has as its contract.
+-- The laws of the text of branch trees. Each is the contract of a public function of this crate.
 use Rattle.std.specs.Prelude.{◌≡◌, ◌+◌, ℕ, List, [], ◌∷◌, ◌++◌, length, Ok}
 use Rattle.problem_rules.specs.Problem.{Problem}
 use Rattle.problem_rules.specs.Validity.{IsValid}
@@ -11,7 +11,8 @@ use Rattle.tree_text_laws.specs.Lines.{lines_said, TakesJust, ReadsJust, BeginsN
 
 -- ---- whole texts
 
--- The text of a claim, a tree and a tail that fit a valid problem has no fault, and stands for them.
+-- The text of a claim, a tree and a tail that fit a valid problem has no fault, and stands for
+-- them.
 abbrev pub SpelledTextsRead : Type 0
 SpelledTextsRead = (p : Problem) → IsValid p → (c : Certificate) → Fits p c → read_text p (tree_text p c.claim c.tree c.tail) ≡ Ok c
 
@@ -48,7 +49,7 @@ TailsAreRead = (p : Problem) → IsValid p → ReadsJust (tail_taken p) (tail_li
 abbrev pub RestsAreRead : Type 0
 RestsAreRead = (p : Problem) → IsValid p → ReadsJust (rest_taken p) (λ c. rest_lines p c.claim c.tree c.tail) (Fits p)
 
--- ---- a node's line and its steps, behind which no step stands
+-- ---- a node's line and its steps, after which no step follows
 
 abbrev pub SpelledHeadsRead : Type 0
 SpelledHeadsRead =

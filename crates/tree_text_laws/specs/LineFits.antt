@@ -1,5 +1,5 @@
--- What a line can hold: numbers in range, counts up to 2^32 - 1, as many options as 2^128 - 1, and ends and places that a
--- problem knows with such counts.
+-- What a line can have: numbers in range, counts up to 2^32 - 1, up to 2^128 - 1 options, and ends
+-- and places that a problem knows with such counts.
 use Rattle.std.specs.Prelude.{◌≡◌, ℕ, ℤ, pos, ◌≤◌, ◌≤ℤ◌, ◌^◌, ◌-◌, List, length}
 use Rattle.integer_laws.specs.Range.{InRange}
 use Rattle.problem_rules.specs.Each.{Each}
@@ -22,11 +22,11 @@ IsSomeCount n = (1 ≤ n) × IsCount n
 abbrev pub IsOptionCount : ℕ → Type 0
 IsOptionCount n = n ≤ 2 ^ 128 - 1
 
--- what sizes and cost are over
+-- the divisor of sizes and cost
 abbrev pub IsDenominator : ℤ → Type 0
 IsDenominator z = InRange z × (pos 1 ≤ℤ z)
 
--- what sizes are over, and as many sizes
+-- the divisor of sizes, and this many sizes
 abbrev pub FitsSizes : ℕ → ℤ × List ℤ → Type 0
 FitsSizes count c = (IsDenominator c.0 × Each InRange c.1) × (length c.1 ≡ count)
 

@@ -1,4 +1,4 @@
--- The laws of tokens and lines, each of which a public function of this crate has as its contract.
+-- The laws of tokens and lines. Each is the contract of a public function of this crate.
 use Rattle.std.specs.Prelude.{◌≡◌, ℕ, List, [], ◌∷◌, map, decimal, Some, Ok}
 use Rattle.std.specs.Fmt.{signed_decimal}
 use Rattle.integer_laws.specs.Range.{InRange}
@@ -77,7 +77,7 @@ pub record ReadsNetworkLines (p : Problem) : Type 0 where
 abbrev pub NetworkLinesAreRead : Type 0
 NetworkLinesAreRead = (p : Problem) → IsValid p → ReadsNetworkLines p
 
--- the lines of a tail behind its first
+-- the lines of a tail after its first
 pub record ReadsTailLines (p : Problem) : Type 0 where
   pub nonbasic : IsLineCode (nonbasic_read p) (λ cs. word_text words.Nonbasic ∷ map (column_text p) cs) (Each (KnowsColumn p))
   pub place : IsLineCode (place_read p) (λ place. word_text words.Place ∷ place_fields p place) (FitsPlace p)

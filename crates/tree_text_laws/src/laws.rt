@@ -1,4 +1,4 @@
-//! The laws. Each function does nothing when it runs; a call tells a proof its law.
+//! The laws. Each function does nothing when it runs; a call gives a proof its law.
 ghost use Rattle.tree_text_laws.specs.Laws.{SpelledTextsRead, ReadTextsAreSpelled, TextsTell};
 ghost use Rattle.tree_text_laws.specs.Laws.{NetworksAreTaken, ClaimsAreTaken, EndsAreTaken, TreesAreTaken};
 ghost use Rattle.tree_text_laws.specs.Laws.{TailsAreRead, RestsAreRead, SpelledHeadsRead, ReadHeadsAreSpelled};
@@ -61,21 +61,21 @@ pub fn tails_are_read()
     valid_is_well_formed();
 }
 
-/// So are a claim, a tree and a tail, one behind the other.
+/// A claim, a tree and a tail are read from their lines, one after another, and from no others.
 pub fn rests_are_read()
     ensures { RestsAreRead }
 {
     valid_is_well_formed();
 }
 
-/// A node's line and its steps are read back, where no step stands behind them.
+/// A node's line and its steps are read back, if no step follows them.
 pub fn spelled_heads_read()
     ensures { SpelledHeadsRead }
 {
     valid_is_well_formed();
 }
 
-/// What is read as a node's line and steps is the lines of these, and no step stands behind them.
+/// What is read as a node's line and steps is the lines of these, and no step follows them.
 pub fn read_heads_are_spelled()
     ensures { ReadHeadsAreSpelled }
 {

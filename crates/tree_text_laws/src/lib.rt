@@ -1,12 +1,15 @@
-//! The laws of the text of branch trees, over its definitions alone: the text of a claim, a tree and a tail reads as them, and
-//! what a text stands for has no other text. The same holds of the parts: networks, claims, a node's line with its steps, ends,
-//! trees, tails, and all lines but the first.
+//! A text has one reading, a tree one spelling, which reads back.
 //!
-//! Of the lines: a text has one list of lines and those have one text; and each number, name, column and place, and each line of a node, a
-//! network and a tail, is read from its one spelling.
+//! These are the laws of the text of branch trees, over its definitions alone. The text of a claim,
+//! a tree and a tail reads back as them, and what a text stands for has no other text. The same
+//! holds of the parts: networks, claims, a node's line with its steps, ends, trees, tails, and all
+//! lines but the first. A text has one list of lines, and these have one text. Each number, name,
+//! column and place, and each line of a node, a network and a tail, is read from its one spelling.
 //!
-//! `specs/` states them: `Fits` (what a text can hold), `Lines` (readings that take the lines of a value and no others) and
-//! `Laws`; `Codes` (values and their one spelling), `LineFits` (what a line can hold) and `LineLaws`. Each is the contract of a function of [`laws`] or [`line_laws`] that does nothing: a caller's proof has the law behind the call.
+//! `specs/` states the laws: `Fits` (what a text can have), `Lines` (readings that take the lines
+//! of a value and no others) and `Laws`; `Codes` (values and their one spelling), `LineFits` (what
+//! a line can have) and `LineLaws`. Each is the contract of a function of [`laws`] or [`line_laws`]
+//! that does nothing; a call gives a proof its law.
 #![tactic(auto)]
 
 pub mod laws;

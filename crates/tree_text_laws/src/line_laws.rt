@@ -1,4 +1,4 @@
-//! The laws. Each function does nothing when it runs; a call tells a proof its law.
+//! The laws. Each function does nothing when it runs; a call gives a proof its law.
 ghost use Rattle.tree_text_laws.specs.LineLaws.{TextsHaveLines, LinesHaveOneText, NumbersAreRead, NamesAreRead};
 ghost use Rattle.tree_text_laws.specs.LineLaws.{ColumnsAreRead, NodeLinesAreRead, NetworkLinesAreRead, TailLinesAreRead};
 
@@ -9,7 +9,7 @@ pub fn texts_have_lines()
     ensures { TextsHaveLines }
 {}
 
-/// No other text has them.
+/// A text whose lines are those of tokens is the text of these tokens.
 pub fn lines_have_one_text()
     ensures { LinesHaveOneText }
 {}
@@ -19,35 +19,36 @@ pub fn numbers_are_read()
     ensures { NumbersAreRead }
 {}
 
-/// Units, materials and exclusions of a valid problem are read from their names, and from no other text.
+/// Units, materials and exclusions of a valid problem are read from their names, and from no other
+/// text.
 pub fn names_are_read()
     ensures { NamesAreRead }
 {
     valid_is_well_formed();
 }
 
-/// So are columns, rows, and which number of an entry or of a flow.
+/// Columns, rows, and which number of an entry or of a flow, are read from their one text each.
 pub fn columns_are_read()
     ensures { ColumnsAreRead }
 {
     valid_is_well_formed();
 }
 
-/// A node's line, each of its steps, and its end are read from their one line.
+/// A node's line, each of its steps, and its end are each read from their one line.
 pub fn node_lines_are_read()
     ensures { NodeLinesAreRead }
 {
     valid_is_well_formed();
 }
 
-/// So are the three lines of a network.
+/// Each of the three lines of a network is read from its one spelling.
 pub fn network_lines_are_read()
     ensures { NetworkLinesAreRead }
 {
     valid_is_well_formed();
 }
 
-/// So are the lines of a tail behind its first.
+/// Each line of a tail after its first is read from its one spelling.
 pub fn tail_lines_are_read()
     ensures { TailLinesAreRead }
 {

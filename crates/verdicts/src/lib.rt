@@ -1,7 +1,8 @@
-//! What a branch tree proves of its claim: all of it, all but what open leaves leave, or nothing.
+//! What a branch tree proves of its claim. It may be all of it, all but its open leaves, or
+//! nothing.
 //!
-//! `Verdict` of `report_rules` says when a verdict is that of a claim and its tree. [`verdict_of`] gives it where the claim passes:
-//! `Proved` exactly where the tree is accepted.
+//! `Verdict` of `report_rules` says when a verdict is the one of a claim and its tree. If the claim
+//! passes, [`verdict_of`] gives this verdict. It is `Proved` if and only if the tree is accepted.
 //!
 //! Modules: `verdict`.
 #![tactic(auto)]

@@ -1,4 +1,4 @@
-//! A claim with its tree.
+//! The verdict on a claim with its tree.
 ghost use Rattle.std.specs.Prelude.{◌≡◌, ◌<◌, ◌^◌, length, IfOk, IfErr, true};
 ghost use Rattle.tree_rules.specs.Claim.{ClaimPasses};
 ghost use Rattle.tree_rules.specs.Accepted.{first_node, IsAccepted};
@@ -17,7 +17,7 @@ use unit_sets::{Node, UnitSet};
 /// Why there is no verdict.
 #[derive(Clone, Copy, Debug, PartialEq, Eq)]
 pub enum Unjudged {
-    /// There was no memory for the walk.
+    /// There was no memory for the walk through the tree.
     Memory,
     /// The claim fails.
     Claim(Why),
@@ -48,8 +48,8 @@ fn partial_verdict(
     }
 }
 
-/// What the tree proves of the claim, which is judged first; leaves may be open, and nothing claimed. A tree that is not accepted is
-/// judged once more, as one with open leaves.
+/// What the tree proves of the claim. The claim is judged first. A claim of nothing and open leaves
+/// are permitted. A tree that is not accepted is judged once more, as a tree with open leaves.
 pub fn verdict_of(
     alloc: Global,
     site: &Site<'_>,

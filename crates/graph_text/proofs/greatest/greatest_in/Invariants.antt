@@ -3,7 +3,7 @@ use Rattle.number_sets.specs.Sets.{has, IsWithin}
 use Rattle.report_rules.specs.Drawn.{most_from}
 use Rattle.graph_text.proofs.greatest.greatest_in.Given as goal
 
--- the units to come finish the number
+-- the number so far and the units that are left give the whole number
 abbrev pub invariant-loop-u : goal.invariant-loop-u
 invariant-loop-u l = record {
   within : IsWithin (has l.u-iterator) (has l.fn.network.units);

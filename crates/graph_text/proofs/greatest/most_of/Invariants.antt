@@ -2,6 +2,6 @@ use Rattle.std.proofs.Common.{◌≡◌, drop}
 use Rattle.report_rules.specs.Drawn.{most_of}
 use Rattle.graph_text.proofs.greatest.most_of.Given as goal
 
--- the terms to come finish the number
+-- the number so far and the terms that are left give the whole number
 abbrev pub invariant-terms : goal.invariant-terms
 invariant-terms l = most_of l.fn.problem l.fn.network l.fn.u l.most (drop l.term-index l.terms) ≡ most_of l.fn.problem l.fn.network l.fn.u l.fn.least l.terms

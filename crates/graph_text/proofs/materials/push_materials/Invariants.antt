@@ -5,7 +5,7 @@ use Rattle.report_rules.specs.Graph.{material_line}
 use Rattle.graph_text.specs.Kept.{picture_of}
 use Rattle.graph_text.proofs.materials.push_materials.Given as goal
 
--- the lines to come finish the text
+-- the text so far and the lines that are left give the whole text
 abbrev pub invariant-loop-j : goal.invariant-loop-j
 invariant-loop-j l = record {
   within : IsWithin (has l.j-iterator) (has l.fn.materials);

@@ -6,7 +6,7 @@ use Rattle.report_rules.specs.Graph.{unit_lines}
 use Rattle.graph_text.specs.Kept.{picture_of}
 use Rattle.graph_text.proofs.units.push_units.Given as goal
 
--- the lines to come finish the text
+-- the text so far and the lines that are left give the whole text
 abbrev pub invariant-loop-u : goal.invariant-loop-u
 invariant-loop-u l = record {
   within : IsWithin (has l.u-iterator) (has l.fn.units);

@@ -4,7 +4,7 @@ use Rattle.flow_rules.specs.Net.{net_of, materials_of}
 use Rattle.json_rules.specs.Facts.{material_json}
 use Rattle.json_text.proofs.materials.material_values.Given as goal
 
--- the values to come finish the list
+-- the list so far and the values that are left give the whole list
 abbrev pub invariant-loop-j : goal.invariant-loop-j
 invariant-loop-j l = record {
   within : IsWithin (has l.j-iterator) (has (materials_of (net_of l.fn.site) (has l.fn.network.units)));

@@ -3,7 +3,7 @@ use Rattle.number_sets.specs.Sets.{has, IsWithin}
 use Rattle.json_rules.specs.Facts.{unit_json}
 use Rattle.json_text.proofs.units.unit_values.Given as goal
 
--- the values to come finish the list
+-- the list so far and the values that are left give the whole list
 abbrev pub invariant-loop-u : goal.invariant-loop-u
 invariant-loop-u l = record {
   within : IsWithin (has l.u-iterator) (has l.fn.network.units);

@@ -5,7 +5,7 @@ use Rattle.studio_rules.specs.Keeps.{Keeps}
 use Rattle.part_commands.proofs.PartFiles.{GiveBefore}
 use Rattle.part_commands.proofs.part_file.parts_of.Given as goal
 
--- the files before this one give the parts, and nothing is said
+-- the files before this one give the parts, and nothing is printed
 abbrev pub invariant-reading : goal.invariant-reading
 invariant-reading g l = record {
   given : GiveBefore (g.F.Shelf.state l.fn.shelf).held l.problem (map string_bytes l.names) l.name-index l.parts.items;

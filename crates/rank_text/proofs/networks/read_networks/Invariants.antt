@@ -6,7 +6,7 @@ use Rattle.rank_rules.specs.Read.{networks_taken}
 use Rattle.rank_text.proofs.Together.{with_networks}
 use Rattle.rank_text.proofs.networks.read_networks.Given as goal
 
--- what is to come finishes the list
+-- the networks so far and those that are left give the whole list
 abbrev pub invariant-reading : goal.invariant-reading
 invariant-reading l = record {
   leads : with_networks l.networks.items (networks_taken l.problem l.left l.at.line (lines_at l.bytes l.at)) ≡ networks_taken l.problem l.count l.fn.cut.line (lines_at l.bytes l.fn.cut);

@@ -5,7 +5,7 @@ use Rattle.rank_rules.specs.Opened.{opened, marks_taken, so_far}
 use Rattle.rank_text.proofs.OpenBytes.{bytes_of, opened_from}
 use Rattle.rank_text.proofs.opening.open_lines.Given as goal
 
--- what is to come finishes the text and the marks
+-- the text and the marks so far, and the lines that are left, give the whole of them
 abbrev pub invariant-opening : goal.invariant-opening
 invariant-opening l = record {
   reached : IsReached l.bytes l.fn.cut l.at;

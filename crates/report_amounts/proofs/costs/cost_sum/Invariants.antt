@@ -5,7 +5,7 @@ use Rattle.report_rules.specs.Number.{sum_from}
 use Rattle.report_rules.specs.Amounts.{cost, part_of, cost_sum}
 use Rattle.report_amounts.proofs.costs.cost_sum.Given as goal
 
--- the materials to come finish the sum
+-- the sum so far and the materials that are left give the whole sum
 abbrev pub invariant-loop-j : goal.invariant-loop-j
 invariant-loop-j l = record {
   within : IsWithin (has l.j-iterator) (has (materials_of (net_of l.fn.site) (has l.fn.network.units)));

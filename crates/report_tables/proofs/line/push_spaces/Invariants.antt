@@ -2,7 +2,7 @@ use Rattle.std.proofs.Common.{◌≡◌, ◌++◌, string_bytes}
 use Rattle.report_rules.specs.Aligned.{spaces}
 use Rattle.report_tables.proofs.line.push_spaces.Given as goal
 
--- the spaces to come finish the text
+-- the text so far and the spaces that are left give the whole text
 abbrev pub invariant-spaces : goal.invariant-spaces
 invariant-spaces l = string_bytes l.text ++ spaces l.left ≡ string_bytes l.fn.text ++ spaces l.count
 

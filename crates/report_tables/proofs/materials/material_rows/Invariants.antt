@@ -4,7 +4,7 @@ use Rattle.flow_rules.specs.Net.{net_of, materials_of}
 use Rattle.report_rules.specs.Report.{material_row}
 use Rattle.report_tables.proofs.materials.material_rows.Given as goal
 
--- the rows to come finish the table
+-- the table so far and the rows that are left give the whole table
 abbrev pub invariant-loop-j : goal.invariant-loop-j
 invariant-loop-j l = record {
   within : IsWithin (has l.j-iterator) (has (materials_of (net_of l.fn.site) (has l.fn.network.units)));

@@ -3,7 +3,7 @@ use Rattle.number_sets.specs.Sets.{has, IsWithin}
 use Rattle.report_rules.specs.Report.{unit_row}
 use Rattle.report_tables.proofs.units.unit_rows.Given as goal
 
--- the rows to come finish the table
+-- the table so far and the rows that are left give the whole table
 abbrev pub invariant-loop-u : goal.invariant-loop-u
 invariant-loop-u l = record {
   within : IsWithin (has l.u-iterator) (has l.fn.network.units);

@@ -3,7 +3,7 @@ use Rattle.number_sets.specs.Sets.{has}
 use Rattle.studio_rules.specs.Axioms.{units_named}
 use Rattle.structure_commands.proofs.axioms.units_named.Given as goal
 
--- the names to come finish the set
+-- the set so far and the names that are left give the whole set
 abbrev pub invariant-finding : goal.invariant-finding
 invariant-finding l = record {
   named : (u : ℕ) → (has l.set u || units_named l.problem (drop l.k l.units) u) ≡ units_named l.problem l.units u;

@@ -6,7 +6,7 @@ use Rattle.tree_text_rules.specs.Read.{steps_taken}
 use Rattle.tree_reading.specs.Place.{IsReached, lines_at}
 use Rattle.tree_reading.proofs.head.read_steps.Given as goal
 
--- what is to come finishes the steps
+-- the steps so far and the lines that are left give all steps
 abbrev pub invariant-steps : goal.invariant-steps
 invariant-steps l = record {
   whole : steps_taken l.fn.problem (record { option = l.fn.option; steps = map step_of l.steps.items }) l.at.line (lines_at l.fn.bytes l.at)

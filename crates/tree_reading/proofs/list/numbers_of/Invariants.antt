@@ -5,7 +5,7 @@ use Rattle.tree_reading.specs.Joined.{joined}
 use Rattle.tree_reading.specs.View.{tokens_in, size_in}
 use Rattle.tree_reading.proofs.list.numbers_of.Given as goal
 
--- what was read, with what is to come
+-- what was read, and what the rest gives
 abbrev pub invariant-reading : goal.invariant-reading
 invariant-reading l = record {
   whole : joined (Ok l.numbers.items) (rules.each rules.number_of (tokens_in l.rest)) ≡ rules.each rules.number_of (tokens_in l.fn.fields);

@@ -5,7 +5,8 @@ use Rattle.tree_reading.specs.Place.{IsReached, lines_at}
 use Rattle.tree_reading.proofs.NodeByNode.{IsBegun}
 use Rattle.tree_reading.proofs.nodes.read_nodes.Given as goal
 
--- what is to come finishes the tree; each line adds less than 2^32 subtrees
+-- the nodes so far and the lines that are left give the whole tree; each line adds less than 2^32
+-- subtrees
 abbrev pub invariant-nodes : goal.invariant-nodes
 invariant-nodes l = record {
   whole : IsBegun l.fn.problem (begun l.fn.problem [] zero l.fn.cut.line (lines_at l.fn.bytes l.fn.cut)) l.nodes.items l.option l.pending l.at.line (lines_at l.fn.bytes l.at);

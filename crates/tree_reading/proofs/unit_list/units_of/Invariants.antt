@@ -6,7 +6,7 @@ use Rattle.tree_reading.specs.View.{tokens_in, size_in}
 use Rattle.tree_reading.proofs.RisingUnits.{IsFront}
 use Rattle.tree_reading.proofs.unit_list.units_of.Given as goal
 
--- what was read, with what is to come
+-- what was read, and what the rest gives
 abbrev pub invariant-reading : goal.invariant-reading
 invariant-reading l = record {
   read : List ℕ;

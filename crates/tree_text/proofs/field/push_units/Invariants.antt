@@ -4,7 +4,7 @@ use Rattle.tree_text_rules.specs.Spelling.{unit_name}
 use Rattle.tree_text.specs.Printing.{appended}
 use Rattle.tree_text.proofs.field.push_units.Given as goal
 
--- the names that are left finish the line
+-- the names so far and those that are left give the whole line
 abbrev pub invariant-loop-unit : goal.invariant-loop-unit
 invariant-loop-unit l = record {
   known : AreUnits l.problem l.unit-iterator;

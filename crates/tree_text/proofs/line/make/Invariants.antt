@@ -5,7 +5,7 @@ use Rattle.tree_text.specs.Printing.{appended}
 use Rattle.tree_text.specs.Fields.{KnowsField, tokens_of}
 use Rattle.tree_text.proofs.line.make.Given as goal
 
--- the fields that are left finish the line
+-- the fields so far and those that are left give the whole line
 abbrev pub invariant-printing : goal.invariant-printing
 invariant-printing l = record {
   known : Each (KnowsField l.problem) (drop l.field-index l.fields);
