@@ -15,7 +15,7 @@ Applies a script of edits to a plant. FILE stays as it is.
 Prints the plant after the edits, in canonical form: defaults are written out,
 measurement units and remarks are not kept.
 Ends with
-  0   The text is out, whole.
+  0   The whole text was printed.
   11  script line L KIND: line L of SCRIPT has a fault; pns help KIND explains
       it. Mend the line.
   2, 3, 6, 7, 8, 12, 20: see pns help status
@@ -36,7 +36,7 @@ Writes the script that leads from the edited plant back to FILE.
   SCRIPT  an edit script, PNS_edits_v1
 Prints an edit script, without remarks.
 Ends with
-  0   The text is out, whole.
+  0   The whole text was printed.
   11  script line L KIND: line L of SCRIPT has a fault; pns help KIND explains
       it. Mend the line.
   2, 3, 6, 7, 8, 12, 20: see pns help status
@@ -54,12 +54,12 @@ pub fn migrate_page() -> &'static [u8]
 {
     b"pns migrate FILE YEARS
 Writes the script that turns the yearly costs of the units into investments over
-a payout period. Least networks stay the same.
+a payout period. Networks of least cost stay the same.
   FILE   the plant, PNS_problem_v1
   YEARS  the payout period, 1 to 100
 Prints an edit script, without remarks; pns edit FILE SCRIPT applies it.
 Ends with
-  0   The text is out, whole.
+  0   The whole text was printed.
   16  has payout: FILE has a payout period or an investment already. out of
       range UNIT: years times a cost of this unit is beyond 10^9; take fewer
       years.
@@ -80,7 +80,7 @@ Makes a plant out of a number, to try the program with.
   UNITS   how many units, 1 to 128
 Prints a plant, PNS_problem_v1.
 Ends with
-  0   The text is out, whole.
+  0   The whole text was printed.
   2, 7, 8, 20: see pns help status
 Example
   pns make 0 12 > made.pns

@@ -18,7 +18,7 @@ A FILE is a plant. Answers go to standard output, faults to standard error.
   solve FILE [BUDGET]            a network of least cost and its proof: a TREE
   show FILE [BUDGET]             the same for people: what is proved, in tables
   check FILE TREE                does the tree prove what it claims?
-  report FILE TREE               the claimed network; for programs: table, json
+  report FILE TREE               the network of TREE; for programs: table, json
   graph FILE, graph FILE TREE    the plant, and the network in it, for Graphviz
   rank FILE N [BUDGET]           the N best networks, a RANK; see rankcheck
   stable FILE TREE KIND NAME [BUDGET]   how far a price or a cost may move

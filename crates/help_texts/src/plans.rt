@@ -16,7 +16,7 @@ and check read.
 Prints a plant, PNS_problem_v1, without remarks. Unit b0 builds the first unit,
 u0.1 runs it in period 1, and so on.
 Ends with
-  0   The text is out, whole.
+  0   The whole text was printed.
   19  plan line L KIND: line L of PLAN has a fault. Mend the line.
   2, 3, 6, 7, 8, 12, 20: see pns help status
 Example
@@ -34,15 +34,15 @@ pub fn periods_page() -> &'static [u8]
 Finds the units to build once and to run in several periods, at least cost.
   FILE    the plant, PNS_problem_v1
   PLAN    a plan text, PNS_plan_v1
-  BUDGET  the most nodes, 1 to 1000000; 10k is 10000; 1M where it is left out
+  BUDGET  the most nodes, 1 to 1000000; 10k is 10000; 1M if it is left out
 Prints built NAMES, capacities D C C, cost N (N / D / G / 10^18), and for each
 period its units and sizes (X / D / 10^6); or infeasible.
 Standard error shows how far it is, unless PNS_QUIET is set.
 Ends with
-  0   The text is out, whole.
-  4   a tree text of the expanded plant: a number on the way left the range of
-      128 bits; the plant need not be wrong. Write rates and costs with fewer
-      digits, or bounds and capacities nearer to what can come, and call again.
+  0   The whole text was printed.
+  4   a tree text of the expanded plant: a number overflowed 128 bits; the plant
+      need not be wrong. Write rates and costs with fewer digits, or tighter
+      bounds and capacities, and call again.
   5   a tree text of the expanded plant: BUDGET was reached. It can be split and
       searched in parts. Call again with a greater BUDGET.
   19  plan line L KIND: line L of PLAN has a fault. Mend the line.

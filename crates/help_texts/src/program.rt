@@ -10,12 +10,12 @@ pub fn help_page() -> &'static [u8]
 {
     b"pns help
 pns help TOPIC
-Tells the commands, or one topic. --help and -h are help, and behind the first
-word of a command its page, whatever follows.
+Lists the commands, or explains one topic. --help and -h do the same; after the
+first word of a command they print its page, whatever follows.
   TOPIC  the first word of a command, plant, status, or the KIND of a fault
 Prints a text of one screen.
 Ends with
-  0   The text is out, whole.
+  0   The whole text was printed.
   2, 7, 8, 20: see pns help status
 Example
   pns help solve
@@ -28,10 +28,10 @@ pub fn version_page() -> &'static [u8]
     ensures { result.now ≡ text_of version_page }
 {
     b"pns version
-Tells which program this is. --version and -V are version.
+Shows which program this is. --version and -V do the same.
 Prints pns and its version; the formats that it reads and prints.
 Ends with
-  0   The text is out, whole.
+  0   The whole text was printed.
   2, 7, 8, 20: see pns help status
 Example
   pns version
@@ -46,26 +46,26 @@ pub fn status_page() -> &'static [u8]
     ensures { result.now ≡ text_of status_page }
 {
     b"The status is what the shell shows with: echo $?
-An answer goes to standard output, and why there is none to standard error.
+Answers go to standard output, the reasons for no answer to standard error.
 
-  0   the text of the command is out, whole.
-  2   usage: the words have no form of pns help, or a number is beyond its
-      limit. Nothing was read. Compare with pns help COMMAND.
+  0   the whole text of the command was printed.
+  2   usage: the words fit no form of pns help, or a number is beyond its limit.
+      Nothing was read. Compare with pns help COMMAND.
   3   problem line L KIND: line L of FILE has a fault of this kind, the first
-      one. pns help KIND explains it. Mend the line, call again. A line behind
-      the last one: no material is a product.
+      one. pns help KIND explains it. Mend the line, call again. If L is after
+      the last line, no material is a product.
   6   read fault NAME: this file cannot be read. Look at its path and its
       rights.
-  7   nothing more: the output took no more, and what is out is only the front
-      of the text. Make room and call again.
+  7   nothing more: the output took no more, so only the front of the text was
+      printed. Make room and call again.
   8   memory: there was not enough. Standard output has only the front of the
       text. Free some, or take a smaller plant or budget.
   12  too long NAME: the file has more bytes than its limit, 268,435,456 for a
       TREE, RANK or PART and 4,194,304 for the others.
   20  nothing: a word is not UTF-8.
 
-Of the other statuses each command tells its own: pns help COMMAND. 1 refuses
-what was handed in, 4 and 5 are searches that did not end, 9, 10, 11, 13, 14 and
-16 to 19 name a word or a line that does not fit.
+pns help COMMAND explains the other statuses: 1 refuses what was given, 4 and 5
+are searches that did not finish, 9, 10, 11, 13, 14 and 16 to 19 name a word or
+a line that does not fit.
 "
 }

@@ -9,20 +9,19 @@ pub fn rank_page() -> &'static [u8]
     ensures { result.now ≡ text_of rank_page }
 {
     b"pns rank FILE N [BUDGET]
-Finds the N allowed structures of least cost, each at its own least cost, and a
-tree that proves it.
+Finds the N best networks, each the cheapest with its units, and a tree that
+proves it.
   FILE    the plant, PNS_problem_v1
   N       how many networks, 1 to 1000
-  BUDGET  the most nodes, 1 to 1000000; 10k is 10000; 1M where it is left out
+  BUDGET  the most nodes, 1 to 1000000; 10k is 10000; 1M if it is left out
 Prints a rank text: count N, networks K, three lines for each network from the
-cheapest on, then the tree. K is less than N only where there are no more.
+cheapest on, then the tree. K is less than N only if there are no more.
 Standard error shows how far it is, unless PNS_QUIET is set.
 Ends with
-  0   The text is out, whole.
-  4   a rank text that ends with past, nonbasic and place lines: a number on the
-      way left the range of 128 bits; the plant need not be wrong. Write rates
-      and costs with fewer digits, or bounds and capacities nearer to what can
-      come, and call again.
+  0   The whole text was printed.
+  4   a rank text that ends with past, nonbasic and place lines: a number
+      overflowed 128 bits; the plant need not be wrong. Write rates and costs
+      with fewer digits, or tighter bounds and capacities, and call again.
   5   a rank text that ends with a line spent: BUDGET was reached. The text has
       the networks found so far. Call again with a greater BUDGET.
   2, 3, 6, 7, 8, 12, 20: see pns help status
@@ -37,17 +36,17 @@ pub fn rankcheck_page() -> &'static [u8]
     ensures { result.now ≡ text_of rankcheck_page }
 {
     b"pns rankcheck FILE RANK
-Judges whether a rank text proves its ranking.
+Checks whether a rank text proves its ranking.
   FILE  the plant, PNS_problem_v1
   RANK  a rank text, as rank prints it
 Prints accepted.
 Ends with
-  0   The text is out, whole.
+  0   The whole text was printed.
   1   refused network K WHY, or refused node N WHY: the text does not prove its
       ranking on this plant. Was the rank printed with status 0, and for this
       FILE?
   10  tree line L KIND: line L of RANK has a fault; pns help KIND explains it.
-      Have the text printed anew.
+      Print the text again.
   2, 3, 6, 7, 8, 12, 20: see pns help status
 Example
   pns rankcheck a.pns ranked

@@ -9,20 +9,20 @@ pub fn table_page() -> &'static [u8]
     ensures { result.now ≡ text_of table_page }
 {
     b"pns table FILE TREE
-Prints the claimed network as CSV for a spreadsheet. Nothing is proved by this.
+Prints the network of the claim as CSV for a spreadsheet. This proves nothing.
   FILE  the plant, PNS_problem_v1
   TREE  a tree text, as solve prints it
 Prints unit,size_e6,fix_e6 and a line for each unit; an empty line;
 material,kind,flow_e12 and a line for each material. Sizes are in millionths,
 flows in 10^-12, fractions as N/D.
 Ends with
-  0   The text is out, whole.
+  0   The whole text was printed.
   1   refused claim WHY: the claim has no network (unknown), or its network
-      breaks an axiom (axiom) or an exclusion (exclusion), its sizes are no
-      flows (flows) or its cost is another (cost), or a number is too large
+      breaks an axiom (axiom) or an exclusion (exclusion), or its sizes break a
+      bound (flows), or its cost is wrong (cost), or a number is too large
       (sum). Is FILE the plant that TREE was made for?
   10  tree line L KIND: line L of TREE has a fault; pns help KIND explains it.
-      Have the text printed anew.
+      Print the text again.
   2, 3, 6, 7, 8, 12, 20: see pns help status
 Example
   pns table a.pns tree
@@ -43,23 +43,23 @@ pub fn report_page() -> &'static [u8]
     ensures { result.now ≡ text_of report_page }
 {
     b"pns report FILE TREE
-Tells what the tree proves, and shows the claimed network to people: units,
+Says what the tree proves, and shows the network of its claim to people: units,
 materials and money in one year.
   FILE  the plant, PNS_problem_v1
   TREE  a tree text, as solve prints it
 Prints a line that begins with PROVED (check accepts the tree), NOT FINISHED
 (nodes are open) or NOT PROVED (node N fails, and why); then a table of units,
-one of materials and one of sums. Costs are above 0, incomes below; numbers have
-6 digits where they have more. limit tells where an amount is at a bound: max,
-min, fixed (both), idle (built, but of size 0), or UNBOUNDED?, at 1000000000.
+one of materials and one of sums. Costs are above 0, incomes below; numbers with
+more than 6 digits show 6. limit names the bound that an amount is at: max, min,
+fixed (both), idle (built, but of size 0), or UNBOUNDED?, at 1000000000.
 Ends with
-  0   The text is out, whole. Line 1 says what is proved.
-  1   refused claim WHY: the claimed network breaks an axiom (axiom) or an
-      exclusion (exclusion), its sizes are no flows (flows) or its cost is
-      another (cost), or a number is too large (sum). Is FILE the plant that
-      TREE was made for?
+  0   The whole text was printed. Line 1 says what is proved.
+  1   refused claim WHY: the network of the claim breaks an axiom (axiom) or an
+      exclusion (exclusion), or its sizes break a bound (flows), or its cost is
+      wrong (cost), or a number is too large (sum). Is FILE the plant that TREE
+      was made for?
   10  tree line L KIND: line L of TREE has a fault; pns help KIND explains it.
-      Have the text printed anew.
+      Print the text again.
   2, 3, 6, 7, 8, 12, 20: see pns help status
 Example
   pns report a.pns tree
@@ -72,19 +72,19 @@ pub fn json_page() -> &'static [u8]
     ensures { result.now ≡ text_of json_page }
 {
     b"pns json FILE TREE
-Tells what pns report tells as one JSON object, for programs.
+Says what pns report says, as one JSON object for programs.
   FILE  the plant, PNS_problem_v1
   TREE  a tree text, as solve prints it
 Prints the keys verdict (proved, not finished or not proved, then with the node
-that fails and why) and claim; and where a network is claimed counts,
-payout_period, units, materials, money, paid_once and left_out. Each number
-stands twice: value has 17 digits, exact is a fraction; both are null where it
-has no room in 128 bits. A line has one unit or one material.
+that fails and why) and claim; if the claim has a network, also counts,
+payout_period, units, materials, money, paid_once and left_out. Each number is
+there twice: value has 17 digits, exact is a fraction; both are null if it
+overflows 128 bits. A line has one unit or one material.
 Ends with
-  0   The text is out, whole. The verdict says what is proved.
+  0   The whole text was printed. The verdict says what is proved.
   1   refused claim WHY: as of pns report
   10  tree line L KIND: line L of TREE has a fault; pns help KIND explains it.
-      Have the text printed anew.
+      Print the text again.
   2, 3, 6, 7, 8, 12, 20: see pns help status
 Example
   pns json a.pns tree
@@ -98,24 +98,24 @@ pub fn graph_page() -> &'static [u8]
 {
     b"pns graph FILE
 pns graph FILE TREE
-Prints the maximal structure as a graph for Graphviz, and with TREE the claimed
-network in it. The program itself draws nothing.
+Prints the maximal structure as a graph for Graphviz, with TREE also the network
+of its claim. The program itself draws nothing.
   FILE  the plant, PNS_problem_v1
   TREE  a tree text, as solve prints it
 Prints DOT text. Raw materials are houses, products have a double line, units
 are boxes. Arcs show rates that are not 1. With TREE they show flows, and are
-wider where there is more; a unit shows its size and its costs, a material what
-is bought or left over of it, its price and the money. What is at a limit is
+wider for more flow; a unit shows its size and its costs, a material what is
+bought or left over of it, its price and the money. What is at a limit is
 orange, what is left out grey; a unit of size 0 has a broken line. A raw
 material with more than four users is drawn at each of them, and so is another
 with more than four users in the network. A pointer on a part shows its numbers
-in FILE. Numbers have six digits where they have more; their whole part is never
-cut.
+in FILE. Numbers with more than six digits show six, but always their whole
+part.
 Ends with
-  0   The text is out, whole.
+  0   The whole text was printed.
   1   refused claim WHY, with TREE only: as in pns help report.
   10  tree line L KIND: line L of TREE has a fault; pns help KIND explains it.
-      Have the text printed anew. With TREE only.
+      Print the text again. With TREE only.
   2, 3, 6, 7, 8, 12, 20: see pns help status
 Example
   pns graph a.pns tree | dot -Tsvg > a.svg
@@ -128,29 +128,29 @@ pub fn stable_page() -> &'static [u8]
     ensures { result.now ≡ text_of stable_page }
 {
     b"pns stable FILE TREE KIND NAME [BUDGET]
-Finds how far one price or cost may move while the claimed network stays one of
-least cost.
+Finds how far one price or cost may move while the network of the claim still
+costs least.
   FILE    the plant, PNS_problem_v1
   TREE    a tree text, as solve prints it
   KIND    price, fix or proportional
   NAME    a material for price, a unit for fix and proportional
-  BUDGET  the most nodes, 1 to 1000000; 10k is 10000; 1M where it is left out
+  BUDGET  the most nodes, 1 to 1000000; 10k is 10000; 1M if it is left out
 Prints from V, then below and a network that is cheaper under V, or below limit;
 to V, then above in the same way. V is in millionths.
 Standard error shows how far it is, unless PNS_QUIET is set.
 Ends with
-  0   The text is out, whole.
+  0   The whole text was printed.
   1   refused claim WHY: the claim has no network (unknown), or its network
-      breaks an axiom (axiom) or an exclusion (exclusion), its sizes are no
-      flows (flows) or its cost is another (cost), or a number is too large
+      breaks an axiom (axiom) or an exclusion (exclusion), or its sizes break a
+      bound (flows), or its cost is wrong (cost), or a number is too large
       (sum). Is FILE the plant that TREE was made for?
-  4   at V, then a tree text or a place line: a number on the way left the range
-      of 128 bits; the plant need not be wrong. Write rates and costs with fewer
-      digits, or bounds and capacities nearer to what can come, and call again.
+  4   at V, then a tree text or a place line: a number overflowed 128 bits; the
+      plant need not be wrong. Write rates and costs with fewer digits, or
+      tighter bounds and capacities, and call again.
   5   at V, then a tree text: BUDGET was reached. Call with a greater BUDGET.
   10  tree line L KIND: line L of TREE has a fault; pns help KIND explains it.
-      Have the text printed anew.
-  13  not best, then a cheaper network: solve anew.
+      Print the text again.
+  13  not best, then a cheaper network: solve again.
   14  unknown name: NAME is no material (price) or no unit (fix, proportional).
   2, 3, 6, 7, 8, 12, 20: see pns help status
 Example

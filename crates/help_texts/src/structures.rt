@@ -13,9 +13,9 @@ Finds the maximal structure: all units that some network can have. Units that
 are missing here can never be built.
   FILE  the plant, PNS_problem_v1
 Prints units and their names, materials and their names, in file order; or none
-where no set of units meets the axioms.
+if no set of units meets the axioms.
 Ends with
-  0   The text is out, whole.
+  0   The whole text was printed.
   2, 3, 6, 7, 8, 12, 20: see pns help status
 Example
   pns max a.pns
@@ -30,15 +30,15 @@ pub fn axioms_page() -> &'static [u8]
     ensures { result.now ≡ text_of axioms_page }
 {
     b"pns axioms FILE UNITS
-Judges one choice of units by the axioms S1 to S5. Exclusions are not asked.
+Checks whether some units meet the axioms S1 to S5. It ignores exclusions.
   FILE   the plant, PNS_problem_v1
-  UNITS  names parted by commas without spaces, or - for no units
+  UNITS  names separated by commas without spaces, or - for no units
 Prints meets.
 Ends with
-  0   The text is out, whole.
+  0   The whole text was printed.
   1   breaks AXIOM NAME: the first broken axiom. S1: no unit has the product.
-      S2: the raw material is made, or another material is made by none. S3: no
-      such unit. S4: no way from the unit to a product. Change UNITS.
+      S2: a unit makes the raw material, or no unit makes the other material.
+      S3: no such unit. S4: no way from the unit to a product. Change UNITS.
   2, 3, 6, 7, 8, 12, 20: see pns help status
 Example
   pns axioms a.pns U1,U2
@@ -52,16 +52,15 @@ pub fn list_page() -> &'static [u8]
     ensures { result.now ≡ text_of list_page }
 {
     b"pns list FILE [AFTER COUNT]
-Lists the structures that meet the axioms and the exclusions, in a fixed order.
-To go on, call again with the last token.
+Lists the sets of units that meet the axioms and the exclusions, in a fixed
+order. To go on, call again with the last token.
   FILE   the plant, PNS_problem_v1
-  AFTER  start, or the token of the structure to go on behind; start where it is
-         left out
-  COUNT  the most lines to print, 1 to 1000000000; 1000 where it is left out
-Prints a line TOKEN NAMES for each structure; then end, or more TOKEN where
-others follow.
+  AFTER  start, or the token after which to go on; start if it is left out
+  COUNT  the most lines to print, 1 to 1000000000; 1000 if it is left out
+Prints a line TOKEN NAMES for each structure; then end, or more TOKEN if others
+follow.
 Ends with
-  0   The text is out, whole.
+  0   The whole text was printed.
   9   bad token: AFTER is neither start nor the token of a structure of this
       plant.
   2, 3, 6, 7, 8, 12, 20: see pns help status

@@ -104,7 +104,7 @@ fn add_names_slip(notes: &mut Notes, word: &str) {
     let Some(slip) = names_slip(word) else {
         return;
     };
-    let alone = Piece::Own("UNITS is - or names parted by commas alone: ");
+    let alone = Piece::Own("UNITS is - or names separated by commas alone: ");
     let whole = Piece::Foreign(word.as_bytes());
     match slip {
         NamesSlip::EmptyPart => notes.add(&[alone, whole, Piece::Own(" has an empty part")]),
@@ -115,7 +115,7 @@ fn add_names_slip(notes: &mut Notes, word: &str) {
         }
         NamesSlip::Double(name) => {
             let name = Piece::Foreign(name.as_bytes());
-            notes.add(&[name, Piece::Own(" stands twice")]);
+            notes.add(&[name, Piece::Own(" is listed twice")]);
         }
     }
 }
@@ -152,7 +152,7 @@ fn add_slip(alloc: Global, notes: &mut Notes, slip: Slip<'_>) {
             ]);
         }
         Slip::SecondInput => {
-            notes.add(&[Piece::Own("- stands twice: standard input is read only once")]);
+            notes.add(&[Piece::Own("- is given twice: standard input is read only once")]);
         }
         Slip::Misfit(slot, word) => add_misfit(alloc, notes, slot, word),
     }

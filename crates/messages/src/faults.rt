@@ -165,7 +165,7 @@ fn add_line(notes: &mut Notes, text: &[u8], number: u32) {
         None => notes.add(&[
             Piece::Own("line "),
             Piece::Number(place),
-            Piece::Own(" is behind the last one"),
+            Piece::Own(" is after the last line"),
         ]),
     }
 }

@@ -17,8 +17,6 @@ mod form;
 mod nearest;
 mod notes;
 mod reasons;
-#[cfg(test)]
-mod tests;
 
 pub use call_words::usage;
 pub use faults::{Format, Source, fault};

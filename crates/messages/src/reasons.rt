@@ -102,7 +102,7 @@ pub fn no_leaf(alloc: Global) -> Notes {
     note(
         alloc,
         &[Piece::Own(
-            "no open leaf of TREE is the node of the part: is it of this tree, and not in it yet?",
+            "no open leaf of TREE is the node of the part: is it of this tree, and not merged yet?",
         )],
     )
 }
@@ -129,13 +129,13 @@ fn sentence_of(why: Why) -> &'static str {
     match why {
         Why::Unknown =>
             "the text claims no network: its search found none; search with a greater budget",
-        Why::Axiom => "the units of the claimed network break an axiom: see pns help axioms",
-        Why::Exclusion => "an exclusion has two units of the claimed network",
-        Why::Flows => "the claimed sizes break a bound of a material, or of the size of a unit",
-        Why::Cost => "the claimed cost is not that of the claimed sizes",
-        Why::Step => "a step to this node is not possible where it stands",
-        Why::Options => "the children of this node are not all options that it has, in order",
-        Why::Open => "this leaf is open: the search stopped before it was done",
+        Why::Axiom => "the network of the claim breaks an axiom: see pns help axioms",
+        Why::Exclusion => "an exclusion has two units of the network of the claim",
+        Why::Flows => "the sizes of the claim break a bound of a material or of the size of a unit",
+        Why::Cost => "the cost of the claim is not that of its sizes",
+        Why::Step => "a step to this node is not possible at its place",
+        Why::Options => "the children of this node are not all its options, in order",
+        Why::Open => "this leaf is open: the search stopped before it was finished",
         Why::Dead => "the material of this leaf is not needed, or a unit can still make it",
         Why::Clash => "the exclusion of this leaf has no two units that are taken in",
         Why::Refuted => "the multipliers of this leaf do not prove that nothing meets the bounds",
@@ -159,7 +159,7 @@ pub fn refused(alloc: Global, why: Why) -> Notes {
 pub fn no_network(alloc: Global) -> Notes {
     note(
         alloc,
-        &[Piece::Own("the tree says that no network meets the bounds: see report")],
+        &[Piece::Own("the tree says that no network meets the bounds: see pns report")],
     )
 }
 
@@ -199,9 +199,7 @@ pub fn not_finished(alloc: Global, stop: Stop, cost: Option<&str>) -> Notes {
             "call again with a greater budget, up to 1M",
         )]),
         Stop::Past { .. } => {
-            notes.add(&[Piece::Own(
-                "write rates and costs with fewer digits, or bounds nearer to what can come",
-            )]);
+            notes.add(&[Piece::Own("write rates and costs with fewer digits, or tighter bounds")]);
         }
     }
     notes

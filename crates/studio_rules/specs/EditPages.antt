@@ -10,7 +10,7 @@ edit_page =
     codes "Prints the plant after the edits, in canonical form: defaults are written out," ∷
     codes "measurement units and remarks are not kept." ∷
     codes "Ends with" ∷
-    codes "  0   The text is out, whole." ∷
+    codes "  0   The whole text was printed." ∷
     codes "  11  script line L KIND: line L of SCRIPT has a fault; pns help KIND explains" ∷
     codes "      it. Mend the line." ∷
     codes "  2, 3, 6, 7, 8, 12, 20: see pns help status" ∷
@@ -27,7 +27,7 @@ undo_page =
     codes "  SCRIPT  an edit script, PNS_edits_v1" ∷
     codes "Prints an edit script, without remarks." ∷
     codes "Ends with" ∷
-    codes "  0   The text is out, whole." ∷
+    codes "  0   The whole text was printed." ∷
     codes "  11  script line L KIND: line L of SCRIPT has a fault; pns help KIND explains" ∷
     codes "      it. Mend the line." ∷
     codes "  2, 3, 6, 7, 8, 12, 20: see pns help status" ∷
@@ -41,12 +41,12 @@ unfoldable pub migrate_page : List (List ℕ)
 migrate_page =
     codes "pns migrate FILE YEARS" ∷
     codes "Writes the script that turns the yearly costs of the units into investments over" ∷
-    codes "a payout period. Least networks stay the same." ∷
+    codes "a payout period. Networks of least cost stay the same." ∷
     codes "  FILE   the plant, PNS_problem_v1" ∷
     codes "  YEARS  the payout period, 1 to 100" ∷
     codes "Prints an edit script, without remarks; pns edit FILE SCRIPT applies it." ∷
     codes "Ends with" ∷
-    codes "  0   The text is out, whole." ∷
+    codes "  0   The whole text was printed." ∷
     codes "  16  has payout: FILE has a payout period or an investment already. out of" ∷
     codes "      range UNIT: years times a cost of this unit is beyond 10^9; take fewer" ∷
     codes "      years." ∷
@@ -63,7 +63,7 @@ make_page =
     codes "  UNITS   how many units, 1 to 128" ∷
     codes "Prints a plant, PNS_problem_v1." ∷
     codes "Ends with" ∷
-    codes "  0   The text is out, whole." ∷
+    codes "  0   The whole text was printed." ∷
     codes "  2, 7, 8, 20: see pns help status" ∷
     codes "Example" ∷
     codes "  pns make 0 12 > made.pns" ∷

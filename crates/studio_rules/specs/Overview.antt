@@ -20,7 +20,7 @@ overview =
     codes "  solve FILE [BUDGET]            a network of least cost and its proof: a TREE" ∷
     codes "  show FILE [BUDGET]             the same for people: what is proved, in tables" ∷
     codes "  check FILE TREE                does the tree prove what it claims?" ∷
-    codes "  report FILE TREE               the claimed network; for programs: table, json" ∷
+    codes "  report FILE TREE               the network of TREE; for programs: table, json" ∷
     codes "  graph FILE, graph FILE TREE    the plant, and the network in it, for Graphviz" ∷
     codes "  rank FILE N [BUDGET]           the N best networks, a RANK; see rankcheck" ∷
     codes "  stable FILE TREE KIND NAME [BUDGET]   how far a price or a cost may move" ∷

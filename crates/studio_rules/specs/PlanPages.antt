@@ -11,7 +11,7 @@ expand_page =
     codes "Prints a plant, PNS_problem_v1, without remarks. Unit b0 builds the first unit," ∷
     codes "u0.1 runs it in period 1, and so on." ∷
     codes "Ends with" ∷
-    codes "  0   The text is out, whole." ∷
+    codes "  0   The whole text was printed." ∷
     codes "  19  plan line L KIND: line L of PLAN has a fault. Mend the line." ∷
     codes "  2, 3, 6, 7, 8, 12, 20: see pns help status" ∷
     codes "Example" ∷
@@ -25,15 +25,15 @@ periods_page =
     codes "Finds the units to build once and to run in several periods, at least cost." ∷
     codes "  FILE    the plant, PNS_problem_v1" ∷
     codes "  PLAN    a plan text, PNS_plan_v1" ∷
-    codes "  BUDGET  the most nodes, 1 to 1000000; 10k is 10000; 1M where it is left out" ∷
+    codes "  BUDGET  the most nodes, 1 to 1000000; 10k is 10000; 1M if it is left out" ∷
     codes "Prints built NAMES, capacities D C C, cost N (N / D / G / 10^18), and for each" ∷
     codes "period its units and sizes (X / D / 10^6); or infeasible." ∷
     codes "Standard error shows how far it is, unless PNS_QUIET is set." ∷
     codes "Ends with" ∷
-    codes "  0   The text is out, whole." ∷
-    codes "  4   a tree text of the expanded plant: a number on the way left the range of" ∷
-    codes "      128 bits; the plant need not be wrong. Write rates and costs with fewer" ∷
-    codes "      digits, or bounds and capacities nearer to what can come, and call again." ∷
+    codes "  0   The whole text was printed." ∷
+    codes "  4   a tree text of the expanded plant: a number overflowed 128 bits; the plant" ∷
+    codes "      need not be wrong. Write rates and costs with fewer digits, or tighter" ∷
+    codes "      bounds and capacities, and call again." ∷
     codes "  5   a tree text of the expanded plant: BUDGET was reached. It can be split and" ∷
     codes "      searched in parts. Call again with a greater BUDGET." ∷
     codes "  19  plan line L KIND: line L of PLAN has a fault. Mend the line." ∷

@@ -19,43 +19,43 @@ table_example =
 unfoldable pub table_page : List (List ℕ)
 table_page =
     codes "pns table FILE TREE" ∷
-    codes "Prints the claimed network as CSV for a spreadsheet. Nothing is proved by this." ∷
+    codes "Prints the network of the claim as CSV for a spreadsheet. This proves nothing." ∷
     codes "  FILE  the plant, PNS_problem_v1" ∷
     codes "  TREE  a tree text, as solve prints it" ∷
     codes "Prints unit,size_e6,fix_e6 and a line for each unit; an empty line;" ∷
     codes "material,kind,flow_e12 and a line for each material. Sizes are in millionths," ∷
     codes "flows in 10^-12, fractions as N/D." ∷
     codes "Ends with" ∷
-    codes "  0   The text is out, whole." ∷
+    codes "  0   The whole text was printed." ∷
     codes "  1   refused claim WHY: the claim has no network (unknown), or its network" ∷
-    codes "      breaks an axiom (axiom) or an exclusion (exclusion), its sizes are no" ∷
-    codes "      flows (flows) or its cost is another (cost), or a number is too large" ∷
+    codes "      breaks an axiom (axiom) or an exclusion (exclusion), or its sizes break a" ∷
+    codes "      bound (flows), or its cost is wrong (cost), or a number is too large" ∷
     codes "      (sum). Is FILE the plant that TREE was made for?" ∷
     codes "  10  tree line L KIND: line L of TREE has a fault; pns help KIND explains it." ∷
-    codes "      Have the text printed anew." ∷
+    codes "      Print the text again." ∷
     codes "  2, 3, 6, 7, 8, 12, 20: see pns help status" ∷
     table_example
 
 unfoldable pub report_page : List (List ℕ)
 report_page =
     codes "pns report FILE TREE" ∷
-    codes "Tells what the tree proves, and shows the claimed network to people: units," ∷
+    codes "Says what the tree proves, and shows the network of its claim to people: units," ∷
     codes "materials and money in one year." ∷
     codes "  FILE  the plant, PNS_problem_v1" ∷
     codes "  TREE  a tree text, as solve prints it" ∷
     codes "Prints a line that begins with PROVED (check accepts the tree), NOT FINISHED" ∷
     codes "(nodes are open) or NOT PROVED (node N fails, and why); then a table of units," ∷
-    codes "one of materials and one of sums. Costs are above 0, incomes below; numbers have" ∷
-    codes "6 digits where they have more. limit tells where an amount is at a bound: max," ∷
-    codes "min, fixed (both), idle (built, but of size 0), or UNBOUNDED?, at 1000000000." ∷
+    codes "one of materials and one of sums. Costs are above 0, incomes below; numbers with" ∷
+    codes "more than 6 digits show 6. limit names the bound that an amount is at: max, min," ∷
+    codes "fixed (both), idle (built, but of size 0), or UNBOUNDED?, at 1000000000." ∷
     codes "Ends with" ∷
-    codes "  0   The text is out, whole. Line 1 says what is proved." ∷
-    codes "  1   refused claim WHY: the claimed network breaks an axiom (axiom) or an" ∷
-    codes "      exclusion (exclusion), its sizes are no flows (flows) or its cost is" ∷
-    codes "      another (cost), or a number is too large (sum). Is FILE the plant that" ∷
-    codes "      TREE was made for?" ∷
+    codes "  0   The whole text was printed. Line 1 says what is proved." ∷
+    codes "  1   refused claim WHY: the network of the claim breaks an axiom (axiom) or an" ∷
+    codes "      exclusion (exclusion), or its sizes break a bound (flows), or its cost is" ∷
+    codes "      wrong (cost), or a number is too large (sum). Is FILE the plant that TREE" ∷
+    codes "      was made for?" ∷
     codes "  10  tree line L KIND: line L of TREE has a fault; pns help KIND explains it." ∷
-    codes "      Have the text printed anew." ∷
+    codes "      Print the text again." ∷
     codes "  2, 3, 6, 7, 8, 12, 20: see pns help status" ∷
     codes "Example" ∷
     codes "  pns report a.pns tree" ∷
@@ -64,19 +64,19 @@ report_page =
 unfoldable pub json_page : List (List ℕ)
 json_page =
     codes "pns json FILE TREE" ∷
-    codes "Tells what pns report tells as one JSON object, for programs." ∷
+    codes "Says what pns report says, as one JSON object for programs." ∷
     codes "  FILE  the plant, PNS_problem_v1" ∷
     codes "  TREE  a tree text, as solve prints it" ∷
     codes "Prints the keys verdict (proved, not finished or not proved, then with the node" ∷
-    codes "that fails and why) and claim; and where a network is claimed counts," ∷
-    codes "payout_period, units, materials, money, paid_once and left_out. Each number" ∷
-    codes "stands twice: value has 17 digits, exact is a fraction; both are null where it" ∷
-    codes "has no room in 128 bits. A line has one unit or one material." ∷
+    codes "that fails and why) and claim; if the claim has a network, also counts," ∷
+    codes "payout_period, units, materials, money, paid_once and left_out. Each number is" ∷
+    codes "there twice: value has 17 digits, exact is a fraction; both are null if it" ∷
+    codes "overflows 128 bits. A line has one unit or one material." ∷
     codes "Ends with" ∷
-    codes "  0   The text is out, whole. The verdict says what is proved." ∷
+    codes "  0   The whole text was printed. The verdict says what is proved." ∷
     codes "  1   refused claim WHY: as of pns report" ∷
     codes "  10  tree line L KIND: line L of TREE has a fault; pns help KIND explains it." ∷
-    codes "      Have the text printed anew." ∷
+    codes "      Print the text again." ∷
     codes "  2, 3, 6, 7, 8, 12, 20: see pns help status" ∷
     codes "Example" ∷
     codes "  pns json a.pns tree" ∷
@@ -86,24 +86,24 @@ unfoldable pub graph_page : List (List ℕ)
 graph_page =
     codes "pns graph FILE" ∷
     codes "pns graph FILE TREE" ∷
-    codes "Prints the maximal structure as a graph for Graphviz, and with TREE the claimed" ∷
-    codes "network in it. The program itself draws nothing." ∷
+    codes "Prints the maximal structure as a graph for Graphviz, with TREE also the network" ∷
+    codes "of its claim. The program itself draws nothing." ∷
     codes "  FILE  the plant, PNS_problem_v1" ∷
     codes "  TREE  a tree text, as solve prints it" ∷
     codes "Prints DOT text. Raw materials are houses, products have a double line, units" ∷
     codes "are boxes. Arcs show rates that are not 1. With TREE they show flows, and are" ∷
-    codes "wider where there is more; a unit shows its size and its costs, a material what" ∷
-    codes "is bought or left over of it, its price and the money. What is at a limit is" ∷
+    codes "wider for more flow; a unit shows its size and its costs, a material what is" ∷
+    codes "bought or left over of it, its price and the money. What is at a limit is" ∷
     codes "orange, what is left out grey; a unit of size 0 has a broken line. A raw" ∷
     codes "material with more than four users is drawn at each of them, and so is another" ∷
     codes "with more than four users in the network. A pointer on a part shows its numbers" ∷
-    codes "in FILE. Numbers have six digits where they have more; their whole part is never" ∷
-    codes "cut." ∷
+    codes "in FILE. Numbers with more than six digits show six, but always their whole" ∷
+    codes "part." ∷
     codes "Ends with" ∷
-    codes "  0   The text is out, whole." ∷
+    codes "  0   The whole text was printed." ∷
     codes "  1   refused claim WHY, with TREE only: as in pns help report." ∷
     codes "  10  tree line L KIND: line L of TREE has a fault; pns help KIND explains it." ∷
-    codes "      Have the text printed anew. With TREE only." ∷
+    codes "      Print the text again. With TREE only." ∷
     codes "  2, 3, 6, 7, 8, 12, 20: see pns help status" ∷
     codes "Example" ∷
     codes "  pns graph a.pns tree | dot -Tsvg > a.svg" ∷
@@ -113,18 +113,18 @@ graph_page =
 abbrev pub stable_ends : List (List ℕ)
 stable_ends =
     codes "Ends with" ∷
-    codes "  0   The text is out, whole." ∷
+    codes "  0   The whole text was printed." ∷
     codes "  1   refused claim WHY: the claim has no network (unknown), or its network" ∷
-    codes "      breaks an axiom (axiom) or an exclusion (exclusion), its sizes are no" ∷
-    codes "      flows (flows) or its cost is another (cost), or a number is too large" ∷
+    codes "      breaks an axiom (axiom) or an exclusion (exclusion), or its sizes break a" ∷
+    codes "      bound (flows), or its cost is wrong (cost), or a number is too large" ∷
     codes "      (sum). Is FILE the plant that TREE was made for?" ∷
-    codes "  4   at V, then a tree text or a place line: a number on the way left the range" ∷
-    codes "      of 128 bits; the plant need not be wrong. Write rates and costs with fewer" ∷
-    codes "      digits, or bounds and capacities nearer to what can come, and call again." ∷
+    codes "  4   at V, then a tree text or a place line: a number overflowed 128 bits; the" ∷
+    codes "      plant need not be wrong. Write rates and costs with fewer digits, or" ∷
+    codes "      tighter bounds and capacities, and call again." ∷
     codes "  5   at V, then a tree text: BUDGET was reached. Call with a greater BUDGET." ∷
     codes "  10  tree line L KIND: line L of TREE has a fault; pns help KIND explains it." ∷
-    codes "      Have the text printed anew." ∷
-    codes "  13  not best, then a cheaper network: solve anew." ∷
+    codes "      Print the text again." ∷
+    codes "  13  not best, then a cheaper network: solve again." ∷
     codes "  14  unknown name: NAME is no material (price) or no unit (fix, proportional)." ∷
     codes "  2, 3, 6, 7, 8, 12, 20: see pns help status" ∷
     codes "Example" ∷
@@ -138,13 +138,13 @@ stable_ends =
 unfoldable pub stable_page : List (List ℕ)
 stable_page =
     codes "pns stable FILE TREE KIND NAME [BUDGET]" ∷
-    codes "Finds how far one price or cost may move while the claimed network stays one of" ∷
-    codes "least cost." ∷
+    codes "Finds how far one price or cost may move while the network of the claim still" ∷
+    codes "costs least." ∷
     codes "  FILE    the plant, PNS_problem_v1" ∷
     codes "  TREE    a tree text, as solve prints it" ∷
     codes "  KIND    price, fix or proportional" ∷
     codes "  NAME    a material for price, a unit for fix and proportional" ∷
-    codes "  BUDGET  the most nodes, 1 to 1000000; 10k is 10000; 1M where it is left out" ∷
+    codes "  BUDGET  the most nodes, 1 to 1000000; 10k is 10000; 1M if it is left out" ∷
     codes "Prints from V, then below and a network that is cheaper under V, or below limit;" ∷
     codes "to V, then above in the same way. V is in millionths." ∷
     codes "Standard error shows how far it is, unless PNS_QUIET is set." ∷

@@ -4,22 +4,21 @@ use Rattle.std.specs.Prelude.{ℕ, List, [], ◌∷◌, codes}
 unfoldable pub solve_page : List (List ℕ)
 solve_page =
     codes "pns solve FILE [BUDGET]" ∷
-    codes "Finds an allowed network of least cost in one year and a tree that proves it." ∷
+    codes "Finds a network of least cost in one year and a tree that proves it." ∷
     codes "Keep the text: check, report, graph, table and stable read it." ∷
     codes "  FILE    the plant, PNS_problem_v1" ∷
-    codes "  BUDGET  the most nodes, 1 to 1000000; 10k is 10000; 1M where it is left out" ∷
+    codes "  BUDGET  the most nodes, 1 to 1000000; 10k is 10000; 1M if it is left out" ∷
     codes "Prints a tree text. Lines 2 to 4 are the network; sizes and cost as in pns help" ∷
-    codes "flows. Or infeasible: no allowed network meets the bounds." ∷
+    codes "flows. Or infeasible: no network meets the bounds." ∷
     codes "Standard error shows how far it is, unless PNS_QUIET is set." ∷
     codes "Ends with" ∷
-    codes "  0   The text is out, whole." ∷
-    codes "  4   a tree text that ends with past, nonbasic and place lines: a number on the" ∷
-    codes "      way left the range of 128 bits; the plant need not be wrong. Write rates" ∷
-    codes "      and costs with fewer digits, or bounds and capacities nearer to what can" ∷
-    codes "      come, and call again." ∷
+    codes "  0   The whole text was printed." ∷
+    codes "  4   a tree text that ends with past, nonbasic and place lines: a number" ∷
+    codes "      overflowed 128 bits; the plant need not be wrong. Write rates and costs" ∷
+    codes "      with fewer digits, or tighter bounds and capacities, and call again." ∷
     codes "  5   a tree text that ends with a line spent: BUDGET was reached. The text" ∷
-    codes "      claims the cheapest network found so far, or unknown, and proves it but" ∷
-    codes "      for its open leaves. Call again with a greater BUDGET." ∷
+    codes "      claims the cheapest network found so far, or unknown; only its open leaves" ∷
+    codes "      are not proved yet. Call again with a greater BUDGET." ∷
     codes "  2, 3, 6, 7, 8, 12, 20: see pns help status" ∷
     codes "Example" ∷
     codes "  pns solve a.pns 100 > tree" ∷
@@ -28,18 +27,18 @@ solve_page =
 unfoldable pub show_page : List (List ℕ)
 show_page =
     codes "pns show FILE [BUDGET]" ∷
-    codes "Finds an allowed network of least cost in one year and shows it to people: pns" ∷
-    codes "solve and pns report in one. No tree is kept; for a proof to keep take solve." ∷
+    codes "Finds a network of least cost in one year and shows it to people: pns solve and" ∷
+    codes "pns report in one. It keeps no tree; for a proof to keep use solve." ∷
     codes "  FILE    the plant, PNS_problem_v1" ∷
-    codes "  BUDGET  the most nodes, 1 to 1000000; 10k is 10000; 1M where it is left out" ∷
+    codes "  BUDGET  the most nodes, 1 to 1000000; 10k is 10000; 1M if it is left out" ∷
     codes "Prints what pns report prints of the tree of pns solve: a line that begins with" ∷
     codes "PROVED or NOT FINISHED, and then the network in tables, if there is one." ∷
     codes "Standard error shows how far it is, unless PNS_QUIET is set." ∷
     codes "Ends with" ∷
     codes "  0   PROVED: no network costs less, or no network meets the bounds." ∷
-    codes "  4   NOT FINISHED: a number on the way left the range of 128 bits; the plant" ∷
-    codes "      need not be wrong. Write rates and costs with fewer digits, or bounds and" ∷
-    codes "      capacities nearer to what can come, and call again." ∷
+    codes "  4   NOT FINISHED: a number overflowed 128 bits; the plant need not be wrong." ∷
+    codes "      Write rates and costs with fewer digits, or tighter bounds and capacities," ∷
+    codes "      and call again." ∷
     codes "  5   NOT FINISHED: BUDGET was reached. The network is the cheapest one found so" ∷
     codes "      far. Call again with a greater BUDGET." ∷
     codes "  2, 3, 6, 7, 8, 12, 20: see pns help status" ∷
@@ -65,18 +64,17 @@ trial_page =
     codes "Makes the plant of pns make NUMBER UNITS, solves it and sums up." ∷
     codes "  NUMBER  a number, 0 to 18446744073709551615; the same one makes the same plant" ∷
     codes "  UNITS   how many units, 1 to 128" ∷
-    codes "  BUDGET  the most nodes, 1 to 1000000; 10k is 10000; 1M where it is left out" ∷
+    codes "  BUDGET  the most nodes, 1 to 1000000; 10k is 10000; 1M if it is left out" ∷
     codes "Prints units, maximal (units of the maximal structure), network NAMES, cost N D" ∷
     codes "(N / D / 10^18), nodes." ∷
     codes "Standard error shows how far it is, unless PNS_QUIET is set." ∷
     codes "Ends with" ∷
-    codes "  0   The text is out, whole." ∷
-    codes "  4   a tree text that ends with past, nonbasic and place lines: a number on the" ∷
-    codes "      way left the range of 128 bits; the plant need not be wrong. Write rates" ∷
-    codes "      and costs with fewer digits, or bounds and capacities nearer to what can" ∷
-    codes "      come, and call again." ∷
+    codes "  0   The whole text was printed." ∷
+    codes "  4   a tree text that ends with past, nonbasic and place lines: a number" ∷
+    codes "      overflowed 128 bits; the plant need not be wrong. Write rates and costs" ∷
+    codes "      with fewer digits, or tighter bounds and capacities, and call again." ∷
     codes "  5   a tree text that ends with a line spent: BUDGET was reached. The text" ∷
-    codes "      claims the cheapest network found so far, or unknown, and proves it but" ∷
-    codes "      for its open leaves. Call again with a greater BUDGET." ∷
+    codes "      claims the cheapest network found so far, or unknown; only its open leaves" ∷
+    codes "      are not proved yet. Call again with a greater BUDGET." ∷
     codes "  2, 7, 8, 20: see pns help status" ∷
     trial_example

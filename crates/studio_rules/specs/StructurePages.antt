@@ -8,9 +8,9 @@ max_page =
     codes "are missing here can never be built." ∷
     codes "  FILE  the plant, PNS_problem_v1" ∷
     codes "Prints units and their names, materials and their names, in file order; or none" ∷
-    codes "where no set of units meets the axioms." ∷
+    codes "if no set of units meets the axioms." ∷
     codes "Ends with" ∷
-    codes "  0   The text is out, whole." ∷
+    codes "  0   The whole text was printed." ∷
     codes "  2, 3, 6, 7, 8, 12, 20: see pns help status" ∷
     codes "Example" ∷
     codes "  pns max a.pns" ∷
@@ -21,15 +21,15 @@ max_page =
 unfoldable pub axioms_page : List (List ℕ)
 axioms_page =
     codes "pns axioms FILE UNITS" ∷
-    codes "Judges one choice of units by the axioms S1 to S5. Exclusions are not asked." ∷
+    codes "Checks whether some units meet the axioms S1 to S5. It ignores exclusions." ∷
     codes "  FILE   the plant, PNS_problem_v1" ∷
-    codes "  UNITS  names parted by commas without spaces, or - for no units" ∷
+    codes "  UNITS  names separated by commas without spaces, or - for no units" ∷
     codes "Prints meets." ∷
     codes "Ends with" ∷
-    codes "  0   The text is out, whole." ∷
+    codes "  0   The whole text was printed." ∷
     codes "  1   breaks AXIOM NAME: the first broken axiom. S1: no unit has the product." ∷
-    codes "      S2: the raw material is made, or another material is made by none. S3: no" ∷
-    codes "      such unit. S4: no way from the unit to a product. Change UNITS." ∷
+    codes "      S2: a unit makes the raw material, or no unit makes the other material." ∷
+    codes "      S3: no such unit. S4: no way from the unit to a product. Change UNITS." ∷
     codes "  2, 3, 6, 7, 8, 12, 20: see pns help status" ∷
     codes "Example" ∷
     codes "  pns axioms a.pns U1,U2" ∷
@@ -39,16 +39,15 @@ axioms_page =
 unfoldable pub list_page : List (List ℕ)
 list_page =
     codes "pns list FILE [AFTER COUNT]" ∷
-    codes "Lists the structures that meet the axioms and the exclusions, in a fixed order." ∷
-    codes "To go on, call again with the last token." ∷
+    codes "Lists the sets of units that meet the axioms and the exclusions, in a fixed" ∷
+    codes "order. To go on, call again with the last token." ∷
     codes "  FILE   the plant, PNS_problem_v1" ∷
-    codes "  AFTER  start, or the token of the structure to go on behind; start where it is" ∷
-    codes "         left out" ∷
-    codes "  COUNT  the most lines to print, 1 to 1000000000; 1000 where it is left out" ∷
-    codes "Prints a line TOKEN NAMES for each structure; then end, or more TOKEN where" ∷
-    codes "others follow." ∷
+    codes "  AFTER  start, or the token after which to go on; start if it is left out" ∷
+    codes "  COUNT  the most lines to print, 1 to 1000000000; 1000 if it is left out" ∷
+    codes "Prints a line TOKEN NAMES for each structure; then end, or more TOKEN if others" ∷
+    codes "follow." ∷
     codes "Ends with" ∷
-    codes "  0   The text is out, whole." ∷
+    codes "  0   The whole text was printed." ∷
     codes "  9   bad token: AFTER is neither start nor the token of a structure of this" ∷
     codes "      plant." ∷
     codes "  2, 3, 6, 7, 8, 12, 20: see pns help status" ∷

@@ -5,7 +5,7 @@
 pub const TOPIC_PAGES: [(&[u8], &[u8]); 45] = [
     (
         b"plant",
-        b"A plant is a text of sections, whose lines are names with what is said of them:
+        b"A plant is a text of sections. Each line has a name and what belongs to it:
 
   file_type=PNS_problem_v1
   materials:
@@ -25,25 +25,25 @@ A material is raw_material, intermediate or product. Its bounds are on what is
 left over, or bought. Keys of units too: capacity_lower_bound, and with
 payout_period=YEARS under defaults: investment_fix_cost and
 investment_proportional_cost. What is left out is intermediate, 0, or
-1000000000 for an upper bound. Names have letters, digits, _ - and . alone;
-numbers up to 6 places behind a point. A unit of size z uses and makes z times
+1000000000 for an upper bound. Names have only letters, digits, _, - and .;
+numbers up to 6 places after the point. A unit of size z uses and makes z times
 its rates. A line that begins with # is a remark, but line 1 cannot be one.
 ",
     ),
     (
         b"FileType",
-        b"FileType: line 1 is not the one that tells the format. It is, and nothing else:
+        b"FileType: line 1 does not name the format of this text. It has to be exactly:
   file_type=PNS_problem_v1  of a FILE     file_type=PNS_tree_v1  of a TREE
   file_type=PNS_edits_v1    of a SCRIPT   file_type=PNS_rank_v1  of a RANK
   file_type=PNS_plan_v1     of a PLAN     file_type=PNS_part_v1  of a PART
-Are two files exchanged?
+Were two files exchanged?
   Fault  pns check tree a.pns
   Cure   pns check a.pns tree
 ",
     ),
     (
         b"UnknownSection",
-        b"UnknownSection: a name and a colon with nothing behind it, and no section of a
+        b"UnknownSection: a name and a colon with nothing after it, and no section of a
 plant has this header. The headers are measurement_units: defaults: materials:
 operating_units: material_to_operating_unit_flow_rates: mutual_exclusions:
   Fault  units:
@@ -52,35 +52,34 @@ operating_units: material_to_operating_unit_flow_rates: mutual_exclusions:
     ),
     (
         b"DoubleSection",
-        b"DoubleSection: a header that came before. Each section of a plant stands once,
-with all its lines behind it.
+        b"DoubleSection: a header that came before. A plant has each section once, with
+all its lines after the header.
   Fault  materials:  and further down once more  materials:
-  Cure   the lines of both behind the first header
+  Cure   the lines of both after the first header
 ",
     ),
     (
         b"BadLine",
-        b"BadLine: a line that has not the form of its place.
+        b"BadLine: a line that does not have the form of its place.
 A plant has NAME: ITEM, ITEM with items KEY=VALUE, in defaults KEY=VALUE, in
-rates NAME: SIDE => SIDE with blanks round + and => and one number a term.
+rates NAME: SIDE => SIDE with blanks around + and => and one number a term.
   Fault  U1: A -> P
   Cure   U1: A => P
-A script or a plan has one of its first words and as many words as that asks
-for, one space between two. In a plan a line  period  comes first.
+A script or a plan has one of its first words, and the words that belong to it,
+with one space between two. In a plan a line  period  comes first.
   Fault  fix U1
   Cure   fix U1 10
 A tree, a ranking or a part has a line too many here, or ends too early: it was
-cut or changed.
+shortened or changed.
   Fault  a text without its last line
-  Cure   have it printed anew
+  Cure   print it again
 ",
     ),
     (
         b"BadName",
-        b"BadName: what stands for a name is none. A name is a letter or _, then letters,
-digits, _ - or . and at most 64 of them; no blanks and no accents. A remark has
-a line of its own, which begins with #. In rates a number and its name are
-parted by a blank.
+        b"BadName: not a valid name. A name is a letter or _, then letters, digits, _, -
+or ., 64 of them at most; no blanks and no accents. A remark has a line of its
+own, which begins with #. In rates a blank separates a number and its name.
   Fault  hot water: raw_material
   Cure   hot_water: raw_material
   Fault  U1: 2*A => P
@@ -89,10 +88,10 @@ parted by a blank.
     ),
     (
         b"UnknownKey",
-        b"UnknownKey: a key that this section has not. Materials have price,
+        b"UnknownKey: a key that this section does not have. Materials have price,
 flow_rate_lower_bound and flow_rate_upper_bound; units capacity_lower_bound,
 capacity_upper_bound, fix_cost, proportional_cost, investment_fix_cost and
-investment_proportional_cost. In defaults material_ or operating_unit_ stands
+investment_proportional_cost. In defaults material_ or operating_unit_ comes
 before them; material_type and payout_period are there too.
   Fault  U1: cost=10
   Cure   U1: fix_cost=10
@@ -108,20 +107,20 @@ counts as one key.
     ),
     (
         b"BadNumber",
-        b"BadNumber: what stands for a number is none. A number is digits with at most one
-point, - before it and e with an exponent behind it where needed. Places AT and
-YEARS of a script are whole numbers without a leading zero.
+        b"BadNumber: not a valid number. A number is digits with at most one point; - may
+come before it, and e with an exponent after it. Places AT and YEARS of a script
+are whole numbers without a leading zero.
   Fault  A: raw_material, price=2 EUR
   Cure   A: raw_material, price=2
 Numbers of a tree, a ranking or a part are whole and within their range, and so
 are its tokens.
   Fault  cost 75.0
-  Cure   have the text printed anew
+  Cure   print the text again
 ",
     ),
     (
         b"TooFine",
-        b"TooFine: a number with more than six places behind the point.
+        b"TooFine: a number with more than six places after the point.
   Fault  A: raw_material, price=0.0000005
   Cure   A: raw_material, price=0.5  with amounts in millions
 ",
@@ -143,9 +142,9 @@ Prices and proportional costs may be below 0.
     ),
     (
         b"UnknownKind",
-        b"UnknownKind: what stands for the kind of a material is none. The kinds are
-raw_material, intermediate and product, in small letters. A decimal has a point:
-behind a comma another item begins.
+        b"UnknownKind: not a kind of material. The kinds are raw_material, intermediate
+and product, in small letters. A decimal has a point: after a comma another item
+begins.
   Fault  A: raw_material, price=2,5
   Cure   A: raw_material, price=2.5
 ",
@@ -214,8 +213,8 @@ exclusions.
     ),
     (
         b"LowAboveHigh",
-        b"LowAboveHigh: a lower bound above the upper one, where a bound that is left out
-counts too.
+        b"LowAboveHigh: a lower bound above the upper one. A bound that is left out counts
+too.
   Fault  P: product, flow_rate_lower_bound=20, flow_rate_upper_bound=10
   Cure   P: product, flow_rate_lower_bound=10, flow_rate_upper_bound=20
 In a script or a plan:
@@ -227,21 +226,21 @@ In a script or a plan:
         b"UnknownMaterial",
         b"UnknownMaterial: a line of rates with a material that has no line of its own.
 Small and capital letters differ.
-  Fault  U1: steel => P  where the material is  Steel: raw_material
+  Fault  U1: steel => P  if the material is  Steel: raw_material
   Cure   U1: Steel => P
 ",
     ),
     (
         b"NoRates",
-        b"NoRates: a unit without a line of rates, which tells what it uses and makes.
+        b"NoRates: a unit without a line of rates, which says what it uses and makes.
   Fault  U1: fix_cost=10  and no more of U1
-  Cure   U1: A => P  behind material_to_operating_unit_flow_rates:
+  Cure   U1: A => P  after material_to_operating_unit_flow_rates:
 ",
     ),
     (
         b"NoProduct",
         b"NoProduct: no material is a product, so nothing has to be made. The line is the
-one behind the last. In a script: no product would be left.
+one after the last. In a script: no product would be left.
   Fault  P: flow_rate_lower_bound=20
   Cure   P: product, flow_rate_lower_bound=20
 ",
@@ -270,32 +269,32 @@ be in a network.
     ),
     (
         b"UnknownUnit",
-        b"UnknownUnit: an exclusion with a unit that the plant has not. Small and capital
-letters differ.
+        b"UnknownUnit: an exclusion with a unit that the plant does not have. Small and
+capital letters differ.
   Fault  one: u1, U2
   Cure   one: U1, U2
 ",
     ),
     (
         b"BadPayout",
-        b"BadPayout: the payout period is no whole number of years from 1 to 100.
+        b"BadPayout: the payout period is not a whole number of years from 1 to 100.
   Fault  payout_period=0.5
   Cure   payout_period=1
 ",
     ),
     (
         b"UnknownName",
-        b"UnknownName: a name that the plant has not. Small and capital letters differ.
+        b"UnknownName: the plant has no such name. Small and capital letters differ.
 Does the text belong to another plant?
-  Fault  price steel 3  where the material is  Steel
+  Fault  price steel 3  if the material is  Steel
   Cure   price Steel 3
-  Fault  pns check b.pns tree  where tree is that of a.pns
+  Fault  pns check b.pns tree  if tree belongs to a.pns
   Cure   pns check a.pns tree
 ",
     ),
     (
         b"Order",
-        b"Order: names of units or materials that do not stand in the order of the plant.
+        b"Order: names of units or materials that are not in the order of the plant.
 Was the plant changed after the text was printed?
   Fault  network U3 U1
   Cure   network U1 U3
@@ -303,32 +302,32 @@ Was the plant changed after the text was printed?
     ),
     (
         b"WrongCount",
-        b"WrongCount: not as many sizes as units. Behind the denominator stands one size
-for each unit of the line network.
-  Fault  sizes 1 20000000  behind  network U1 U3
+        b"WrongCount: not as many sizes as units. After the denominator comes one size for
+each unit of the line network.
+  Fault  sizes 1 20000000  after  network U1 U3
   Cure   sizes 1 20000000 20000000
 ",
     ),
     (
         b"MoreNodes",
-        b"MoreNodes: a line  node  where the tree is whole: branch tells how many children
+        b"MoreNodes: a line  node  when the tree is whole: branch says how many children
 follow, and either has two.
-  Fault  a third node behind  either U3
-  Cure   have the text printed anew
+  Fault  a third node after  either U3
+  Cure   print the text again
 ",
     ),
     (
         b"FewerNodes",
-        b"FewerNodes: the end of the text where a node has to come: branch tells how many
-children follow, and either has two.
-  Fault  end  behind the first node of  either U3
-  Cure   have the text printed anew
+        b"FewerNodes: the text ends when a node has to come: branch says how many children
+follow, and either has two.
+  Fault  end  after the first node of  either U3
+  Cure   print the text again
 ",
     ),
     (
         b"AfterEnd",
-        b"AfterEnd: something stands behind the line end. Are two texts in one file?
-  Fault  end  and an empty line behind it
+        b"AfterEnd: something follows the line end. Are two texts in one file?
+  Fault  end  and an empty line after it
   Cure   end
 ",
     ),
@@ -343,8 +342,8 @@ and proportional costs may be below 0.
     (
         b"DoubleLine",
         b"DoubleLine: a second price, or second bounds, of a material in one period.
-  Fault  price A 3  and  price A 4  behind one line  period
-  Cure   price A 3  and behind another line  period  price A 4
+  Fault  price A 3  and  price A 4  after one line  period
+  Cure   price A 3  and after another line  period  price A 4
 ",
     ),
     (
@@ -380,8 +379,8 @@ without any.
     ),
     (
         b"BadPlace",
-        b"BadPlace: a place AT above the number of materials, units or exclusions that
-stand there. Places count from 0.
+        b"BadPlace: a place AT above the number of materials, units or exclusions that are
+there. Places count from 0.
   Fault  add_material 7 D product 0 0 10  in a plant of 6 materials
   Cure   add_material 6 D product 0 0 10
 ",
@@ -389,8 +388,8 @@ stand there. Places count from 0.
     (
         b"InUse",
         b"InUse: a material is removed that a unit has, or a unit that an exclusion names.
-Remove the unit, or the exclusion, before.
-  Fault  remove_material B  where U2 uses B
+Remove the unit, or the exclusion, first.
+  Fault  remove_material B  if U2 uses B
   Cure   remove_unit U2  and then  remove_material B
 ",
     ),
