@@ -56,7 +56,7 @@ Answers go to standard output, the reasons for no answer to standard error.
       the last line, no material is a product.
   6   read fault NAME: this file cannot be read. Look at its path and its
       rights.
-  7   nothing more: the output took no more, so only the front of the text was
+  7   write fault: an output took no more, so only the front of the text was
       printed. Make room and call again.
   8   memory: there was not enough. Standard output has only the front of the
       text. Free some, or take a smaller plant or budget.

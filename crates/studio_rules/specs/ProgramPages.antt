@@ -43,7 +43,7 @@ status_page =
     codes "      the last line, no material is a product." ∷
     codes "  6   read fault NAME: this file cannot be read. Look at its path and its" ∷
     codes "      rights." ∷
-    codes "  7   nothing more: the output took no more, so only the front of the text was" ∷
+    codes "  7   write fault: an output took no more, so only the front of the text was" ∷
     codes "      printed. Make room and call again." ∷
     codes "  8   memory: there was not enough. Standard output has only the front of the" ∷
     codes "      text. Free some, or take a smaller plant or budget." ∷
