@@ -9,7 +9,8 @@ ghost use Rattle.studio_rules.specs.Network.{ClaimRefusal, ClaimsNetwork};
 
 use branch_tree::{Claim, Network};
 use cert_check::check_claim;
-use endings::say::tell_of;
+use endings::say::tell_with;
+use messages::{Notes, no_network, refused};
 use pgraph::Site;
 use pns_io::{Outputs, Sink};
 use refusal_words::why_word;
@@ -17,17 +18,31 @@ use std::alloc::Global;
 use studio_rules::Status;
 use tree_rules::Why;
 
+// Prints that a claim is refused, and the notes after it.
+fn say_why<K: Sink, E: Sink>(
+    alloc: Global,
+    out: &mut Outputs<K, E>,
+    why: Why,
+    notes: &Notes,
+) -> Status
+    ensures { Ends (OrMemory (Only BadClaim (line (claim_line why)))) out.old out.new result }
+{
+    let words = ("refused claim ", why_word(why));
+    tell_with(alloc, out, words, notes.bytes(), Status::BadClaim)
+}
+
 /// Prints why a claim is refused.
 pub fn say_refused<K: Sink, E: Sink>(alloc: Global, out: &mut Outputs<K, E>, why: Why) -> Status
     ensures { Ends (OrMemory (Only BadClaim (line (claim_line why)))) out.old out.new result }
 {
-    tell_of(
-        alloc,
-        out,
-        "refused claim ",
-        why_word(why),
-        Status::BadClaim,
-    )
+    say_why(alloc, out, why, &refused(alloc, why))
+}
+
+// The same if the tree says that no network meets the bounds.
+fn say_none<K: Sink, E: Sink>(alloc: Global, out: &mut Outputs<K, E>) -> Status
+    ensures { Ends (OrMemory (Only BadClaim (line (claim_line Why.Unknown)))) out.old out.new result }
+{
+    say_why(alloc, out, Why::Unknown, &no_network(alloc))
 }
 
 /// The network of a claim of which each line holds. If the claim has no network, or a line of it
@@ -45,7 +60,7 @@ pub fn network_of<K: Sink, E: Sink>(
     match check_claim(site, &claim) {
         Ok(()) => match claim {
             Claim::Network(network) => Ok(network),
-            Claim::Infeasible => Err(say_refused(alloc, out, Why::Unknown)),
+            Claim::Infeasible => Err(say_none(alloc, out)),
             Claim::Unknown => Err(say_refused(alloc, out, Why::Unknown)),
         },
         Err(why) => Err(say_refused(alloc, out, why)),

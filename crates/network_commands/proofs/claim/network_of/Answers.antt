@@ -17,7 +17,7 @@ returns-in-Infeasible-clause-told g c =
     let p = c.args.site.now in
     let Q : Status → List ℕ → Type 0 = Tells (ClaimRefusal p (claim_of c.args.claim)) in
     Ends-map (OrMemory (Only BadClaim (line (claim_line Unknown)))) Q c.args.out.now _ _
-    (refusal_told p (claim_of c.args.claim) Unknown (subst (λ (k : Claim). IsRefusedFor p (claim_of k) Unknown) (sym c.in-Infeasible.is) refl)) c.say_refused.ensures
+    (refusal_told p (claim_of c.args.claim) Unknown (subst (λ (k : Claim). IsRefusedFor p (claim_of k) Unknown) (sym c.in-Infeasible.is) refl)) c.say_none.ensures
 
 pub returns-in-Err-clause-told : goal.returns-in-Err-clause-told
 returns-in-Err-clause-told g c =
