@@ -1,13 +1,25 @@
 //! The line that says how far a search is.
 
+ghost use Rattle.std.specs.Prelude.{◌<◌};
+
 use decimals::push_six_digits;
 use progress::Progress;
 use std::alloc::{AllocError, Global};
 
+/// Half of what a cost is divided by. A payout period of 0 years counts as one.
+fn half_of(years: u8) -> u64
+    ensures { 0 < result }
+{
+    if years == 0 {
+        500_000_000_000
+    } else {
+        500_000_000_000 * u64::from(years)
+    }
+}
+
 /// Appends a cost in one year.
 fn push_cost(text: &mut String, years: u8, cost: i128) -> Result<(), AllocError> {
-    let half = 500_000_000_000 * u64::from(years.max(1));
-    push_six_digits(text, half, cost, 1)
+    push_six_digits(text, half_of(years), cost, 1)
 }
 
 /// By how many thousandths of its size a cost is above the bound, rounded up.
