@@ -142,7 +142,7 @@ fn not_finished(status: Status) -> &'static [u8]
     if let Status::Spent = status {
         b"  not finished: all nodes of the budget are spent\n  call again with a greater BUDGET, up to 1M\n"
     } else {
-        b"  not finished: a number overflows 128 bits\n  write rates and costs with fewer digits, or bounds nearer to what can come\n"
+        b"  not finished: a number overflows 128 bits\n  write rates and costs with fewer digits, or tighter bounds\n"
     }
 }
 

@@ -13,20 +13,21 @@ returns-in-Spent c = (
       printable_line (codes "not finished: all nodes of the budget are spent") refl,
     ),
     (
-      codes "call again with a greater BUDGET, up to 1M",
-      refl,
-      printable_line (codes "call again with a greater BUDGET, up to 1M") refl,
+      (
+        codes "call again with a greater BUDGET, up to 1M",
+        refl,
+        printable_line (codes "call again with a greater BUDGET, up to 1M") refl,
+      ),
+      tt,
     ),
-    tt,
   ),
   refl,
 )
 
-pub returns-else : goal.returns-else
-returns-else c = (
+pub returns-in_default : goal.returns-in_default
+returns-in_default c = (
   codes "  not finished: a number overflows 128 bits"
-      ∷ codes "  write rates and costs with fewer digits, or bounds nearer to what can come"
-      ∷ [],
+      ∷ codes "  write rates and costs with fewer digits, or tighter bounds" ∷ [],
   (
     (
       codes "not finished: a number overflows 128 bits",
@@ -34,12 +35,13 @@ returns-else c = (
       printable_line (codes "not finished: a number overflows 128 bits") refl,
     ),
     (
-      codes "write rates and costs with fewer digits, or bounds nearer to what can come",
-      refl,
-      printable_line
-          (codes "write rates and costs with fewer digits, or bounds nearer to what can come") refl,
+      (
+        codes "write rates and costs with fewer digits, or tighter bounds",
+        refl,
+        printable_line (codes "write rates and costs with fewer digits, or tighter bounds") refl,
+      ),
+      tt,
     ),
-    tt,
   ),
   refl,
 )
