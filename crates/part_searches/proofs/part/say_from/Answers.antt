@@ -19,7 +19,7 @@ returns-in-Some g c =
     (Tells-map (PartSays c.args.effort.budget None s.inside s.outside p) (PartWork c.args.effort.budget c.args.inside.now c.args.outside.now p) (λ status lines h. inr (s.inside, s.outside, c.in-Some.ensures.some, h)))
     c.say_searched.ensures
 
-pub returns : goal.returns
-returns g c =
+pub returns-in-None : goal.returns-in-None
+returns-in-None g c =
     let Q : Status → List ℕ → Type 0 = Tells (PartWork c.args.effort.budget c.args.inside.now c.args.outside.now c.args.problem.now) in
     Ends-map _ Q c.args.out.now _ _ (only_in Q BadNode _ (codes "bad node" ∷ [], inl (refl, c.in-None.ensures.none, refl), refl)) c.tell.ensures

@@ -27,8 +27,8 @@ returns-in-Some-clause-ends g c =
     (Says-map (OnTree (ClaimSays c.args.effort.budget s.inside s.outside) old.held name p) work (λ other. other ≡ name) (λ other. other ≡ name) old new (λ status lines h. inr (s.inside, s.outside, c.in-Some.ensures.some, h)) (λ other e. e))
     c.say_tree.ensures.ends
 
-pub returns-clause-ends : goal.returns-clause-ends
-returns-clause-ends g c =
+pub returns-in-None-clause-ends : goal.returns-in-None-clause-ends
+returns-in-None-clause-ends g c =
     let shelf = g.F.Shelf.state c.args.shelf.now in
     let work = AgainstWork c.args.effort.budget shelf.held c.args.tree.now c.args.inside.now c.args.outside.now c.args.problem.now in
     let Q : Status → List ℕ → Type 0 = Says work (λ other. other ≡ c.args.tree.now) shelf shelf in
@@ -37,5 +37,5 @@ returns-clause-ends g c =
 pub returns-in_default-clause-keeps : goal.returns-in_default-clause-keeps
 returns-in_default-clause-keeps g c = keeps_same _
 
-pub returns-clause-keeps : goal.returns-clause-keeps
-returns-clause-keeps g c = keeps_same _
+pub returns-in-None-clause-keeps : goal.returns-in-None-clause-keeps
+returns-in-None-clause-keeps g c = keeps_same _

@@ -18,8 +18,8 @@ returns-in-Ok-network_of g c =
     Ends-from (Tells (work p w)) Q c.args.out.now _ _ _ c.in-Ok-network_of.ensures.silent
     (Tells-map (work p w) (OnNetwork work p claim c.args.tree.now) (λ s lines h. inr (w, subst (λ (q : Problem). ClaimsNetwork q claim w) c.of-site.ensures c.in-Ok-network_of.ensures.network, h))) c.say_range.ensures
 
-pub returns : goal.returns
-returns g c =
+pub returns-in-Err : goal.returns-in-Err
+returns-in-Err g c =
     let p = c.args.problem.now in
     let claim = claim_of c.args.claim in
     let work = SpotWork c.args.spot c.args.effort.budget in
