@@ -1,6 +1,8 @@
 -- A fault of an output that standard error shows.
-use Rattle.std.proofs.Common.{◌≡◌, ◌≤◌, ℕ, List, sym, subst, arith, inl, inr}
-use Rattle.text_rules.specs.Outside.{HasRisen, last_count}
+use Rattle.std.proofs.Common.{◌≡◌, ◌≤◌, ◌++◌, [], ℕ, List, Option, Result, Ok, Err, OnOk, OnErr}
+use Rattle.std.proofs.Common.{refl, sym, subst, arith, inl, inr, append-nil}
+use Rattle.std.specs.Io.KnownBytes.{Appends}
+use Rattle.text_rules.specs.Outside.{HasRisen, AppendsFront, last_count}
 use Rattle.io_rules.specs.State.{SinkState, OutputsState}
 use Rattle.studio_rules.specs.Ending.{Ends, Finishes, HasFault}
 use Rattle.studio_rules.specs.declared.status.Status.{Status}
@@ -32,3 +34,20 @@ pub finished_as : (P : Status → List ℕ → Type 0) (before mid after : Outpu
 finished_as P before mid after WriteFault ends shown = (mid, ends, shown.quiet, shown.front)
 finished_as P before mid after status ends same =
     subst (λ (o : OutputsState). Ends P before o status) (sym same) ends
+
+-- all of a piece, or a front of it
+pub front_of : {A E : Type 0} (old new : Option (List ℕ)) (piece : List ℕ) (r : Result A E)
+    → OnOk r (Appends old new piece) → OnErr r (AppendsFront old new piece)
+    → AppendsFront old new piece
+front_of old new piece (Ok u) ok err = (piece, [], sym (append-nil piece), ok)
+front_of old new piece (Err e) ok err = err
+
+pub noted_shown : (status : Status) (old new : OutputsState) → status ≡ WriteFault
+    → ShowsFault old new → IsNoted status old new
+noted_shown status old new is shown =
+    subst (λ (s : Status). IsNoted s old new) (sym is) shown
+
+pub noted_same : (status : Status) (o : OutputsState) → (status ≡ WriteFault → ⊥)
+    → IsNoted status o o
+noted_same WriteFault o other = absurd (other refl)
+noted_same status o other = refl

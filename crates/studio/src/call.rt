@@ -1,6 +1,8 @@
 //! The call: it judges the words and does their command.
-ghost use Rattle.std.specs.Prelude.{◌≡◌, ◌≤◌, ◌∷◌, [], List, ℕ, Some, None, codes, map, string_bytes};
-ghost use Rattle.text_rules.specs.Outside.{HasRisen};
+ghost use Rattle.std.specs.Prelude.{◌≡◌, ◌≤◌, ◌∷◌, [], List, ℕ, Some, None, OnOk, OnErr};
+ghost use Rattle.std.specs.Prelude.{codes, map, string_bytes};
+ghost use Rattle.std.specs.Io.KnownBytes.{Appends};
+ghost use Rattle.text_rules.specs.Outside.{HasRisen, AppendsFront, last_count};
 ghost use Rattle.studio_rules.specs.Lines.{line};
 ghost use Rattle.studio_rules.specs.Command as rules;
 ghost use Rattle.studio_rules.specs.Command.{command_of, AreWithin, IsFileWord};
@@ -30,7 +32,7 @@ use part_searches::part::{part, part_against};
 use part_text::parts_are_read_once;
 use period_searches::expansion::expand;
 use period_searches::planned::periods;
-use pns_io::{Outputs, Shelf, Sink};
+use pns_io::{Failed, Outputs, Shelf, Sink};
 use progress::{Effort, Watch};
 use rank_commands::{accepted_are_best, rankcheck};
 use rank_searches::rank;
@@ -162,11 +164,22 @@ fn run<F: Shelf, K: Sink, E: Sink, W: Watch>(
     }
 }
 
-// Puts the line `write fault` on standard error, or as much of it as it takes.
+// Puts the line `write fault` on standard error.
+fn put_fault<K: Sink, E: Sink>(out: &mut Outputs<K, E>) -> Result<(), Failed>
+    ensures ok { OnOk result (Appends out.old.err.written out.new.err.written (line (codes "write fault"))) }
+    ensures err { OnErr result (AppendsFront out.old.err.written out.new.err.written (line (codes "write fault"))) }
+    ensures later { out.old.err.faults ≤ out.new.err.faults }
+    ensures few { out.new.err.faults ≤ last_count }
+    ensures quiet { out.new.out ≡ out.old.out }
+{
+    out.err.put(b"write fault\n")
+}
+
+// The same, or as much of the line as standard error takes.
 fn show_fault<K: Sink, E: Sink>(out: &mut Outputs<K, E>)
     ensures { ShowsFault out.old out.new }
 {
-    let _ = out.err.put(b"write fault\n");
+    let _ = put_fault(out);
 }
 
 // If an output failed, says so on standard error.

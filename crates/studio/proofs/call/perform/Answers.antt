@@ -1,4 +1,4 @@
-use Rattle.std.proofs.Common.{refl, sym, ap, subst, ◌≤◌, ℕ, List, map, string_bytes}
+use Rattle.std.proofs.Common.{refl, sym, ap, subst, arith, ◌≤◌, ℕ, List, map, string_bytes}
 use Rattle.studio_rules.specs.Command.{Command, Max, Axioms, Flows, Listing, Migrate, Editing, Undoing, Checking, RankChecking, Solving, Showing, Ranking, Telling, AreWithin, Table, Splitting, Expanding, Drawing, DrawingNetwork, Reporting, Json, Ranging, Planning, Parting, PartingAgainst, Merging}
 use Rattle.studio_words.specs.View.{command_view}
 use Rattle.studio_rules.specs.Answers.{CommandSays}
@@ -289,3 +289,53 @@ returns-in-Trial-clause-keeps g c = keeps_same _
 
 pub returns-in-Telling-clause-keeps : goal.returns-in-Telling-clause-keeps
 returns-in-Telling-clause-keeps g c = keeps_same _
+
+pub overflow_cast-effort : goal.overflow_cast-effort
+overflow_cast-effort g c =
+    let within : (1 ≤ c.in-Ranging.budget) × (c.in-Ranging.budget ≤ 1000000)
+    = subst AreWithin (ap command_view c.in-Ranging.is) c.requires in
+    let few = within.1 in omega (arith, few)
+
+pub overflow_cast-effort-in-Planning : goal.overflow_cast-effort-in-Planning
+overflow_cast-effort-in-Planning g c =
+    let within : (1 ≤ c.in-Planning.budget) × (c.in-Planning.budget ≤ 1000000)
+    = subst AreWithin (ap command_view c.in-Planning.is) c.requires in
+    let few = within.1 in omega (arith, few)
+
+pub overflow_cast-effort-in-Parting : goal.overflow_cast-effort-in-Parting
+overflow_cast-effort-in-Parting g c =
+    let within : (1 ≤ c.in-Parting.budget) × (c.in-Parting.budget ≤ 1000000)
+    = subst AreWithin (ap command_view c.in-Parting.is) c.requires in
+    let few = within.1 in omega (arith, few)
+
+pub overflow_cast-effort-in-PartingAgainst : goal.overflow_cast-effort-in-PartingAgainst
+overflow_cast-effort-in-PartingAgainst g c =
+    let within : (1 ≤ c.in-PartingAgainst.budget) × (c.in-PartingAgainst.budget ≤ 1000000)
+    = subst AreWithin (ap command_view c.in-PartingAgainst.is) c.requires in
+    let few = within.1 in omega (arith, few)
+
+pub overflow_cast-effort-in-Solving : goal.overflow_cast-effort-in-Solving
+overflow_cast-effort-in-Solving g c =
+    let within : (1 ≤ c.in-Solving.budget) × (c.in-Solving.budget ≤ 1000000)
+    = subst AreWithin (ap command_view c.in-Solving.is) c.requires in
+    let few = within.1 in omega (arith, few)
+
+pub overflow_cast-effort-in-Showing : goal.overflow_cast-effort-in-Showing
+overflow_cast-effort-in-Showing g c =
+    let within : (1 ≤ c.in-Showing.budget) × (c.in-Showing.budget ≤ 1000000)
+    = subst AreWithin (ap command_view c.in-Showing.is) c.requires in
+    let few = within.1 in omega (arith, few)
+
+pub overflow_cast-effort-in-Ranking : goal.overflow_cast-effort-in-Ranking
+overflow_cast-effort-in-Ranking g c =
+    let within : ((1 ≤ c.in-Ranking.count) × (c.in-Ranking.count ≤ 1000))
+    × ((1 ≤ c.in-Ranking.budget) × (c.in-Ranking.budget ≤ 1000000))
+    = subst AreWithin (ap command_view c.in-Ranking.is) c.requires in
+    let few = within.1.1 in omega (arith, few)
+
+pub overflow_cast-effort-in-Trial : goal.overflow_cast-effort-in-Trial
+overflow_cast-effort-in-Trial g c =
+    let within : ((1 ≤ c.in-Trial.units) × (c.in-Trial.units ≤ 128))
+    × ((1 ≤ c.in-Trial.budget) × (c.in-Trial.budget ≤ 1000000))
+    = subst AreWithin (ap command_view c.in-Trial.is) c.requires in
+    let few = within.1.1 in omega (arith, few)
