@@ -1,19 +1,20 @@
 -- What is judged of one leaf is judged of the end that is this leaf.
-use Rattle.std.proofs.Common.{◌≡◌, ℕ, List, ◌++◌, Result, Ok, Err, OnOk, IfErr, refl, sym, ap, ◌∙◌}
-use Rattle.std.proofs.Common.{subst, inr}
+use Rattle.std.proofs.Common.{◌≡◌, ℕ, List, ◌++◌, Option, Result, Ok, Err, OnOk, IfErr, refl, sym}
+use Rattle.std.proofs.Common.{ap, ◌∙◌, subst, inr}
 use Rattle.pns_rules.specs.Shape.{Shape}
 use Rattle.pns_rules.specs.Nodes.{Node, Step}
 use Rattle.tree_rules.specs.declared.why.Why.{Why}
 use Rattle.tree_rules.specs.Tree.{End, leaf, TreeNode, StepsPass, after_all, below, EndPasses}
 use Rattle.tree_rules.specs.Fault.{EndFails, NodeFails}
-use Rattle.tree_rules.specs.Leaf.{Leaf, dead, clash, refuted, bounded, untried}
+use Rattle.tree_rules.specs.Leaf.{Leaf, Scaled, dead, clash, refuted, bounded, charged, untried}
 use Rattle.tree_rules.specs.Accepted.{Tree}
 use Rattle.branch_tree.specs.View.{end_of}
 use Rattle.branch_tree.specs.declared.end.End as ends
-use Rattle.branch_tree.specs.declared.end.End.TheVariants.{Dead, Clash, Refuted, Bound, Branch}
-use Rattle.branch_tree.specs.declared.end.End.TheVariants.{Either, Open}
+use Rattle.branch_tree.specs.declared.end.End.TheVariants.{Dead, Clash, Refuted, Bound, Charge}
+use Rattle.branch_tree.specs.declared.end.End.TheVariants.{Branch, Either, Open}
 use Rattle.cert_check.specs.declared.visit.Halt.{Halt}
 use Rattle.cert_check.specs.declared.visit.Halt.TheVariants.{Memory, Fails}
+use Rattle.cert_check.specs.Bare.{bare}
 use Rattle.cert_check.specs.Visits.{IsVisited, Halts}
 
 one_leaf : (a b : Leaf) → leaf a ≡ leaf b → a ≡ b
@@ -43,9 +44,30 @@ leaf_of (Dead x) h k = (dead x, refl)
 leaf_of (Clash x) h k = (clash x, refl)
 leaf_of (Refuted ys) h k = (refuted ys, refl)
 leaf_of (Bound s) h k = (bounded s.d s.ys, refl)
+leaf_of (Charge s covers) h k = (charged (record { d = s.d; ys = s.ys; covers = covers }), refl)
 leaf_of (Branch x c) h k = absurd (h x c refl)
 leaf_of (Either u) h k = absurd (k u refl)
-leaf_of Open h k = (untried, refl)
+leaf_of (Open low) h k = (untried low, refl)
+
+-- a leaf that is not open has no bound to be left out
+pub bare_is : (e : ends.End) → ((low : Option Scaled) → e ≡ Open low → ⊥) → (l : Leaf)
+    → end_of e ≡ leaf l → bare l ≡ l
+bare_is e h (dead x) k = refl
+bare_is e h (clash x) k = refl
+bare_is e h (refuted ys) k = refl
+bare_is e h (bounded d ys) k = refl
+bare_is e h (charged c) k = refl
+bare_is e h (untried low) k = absurd (at e h k)
+  where
+    at : (d : ends.End) → ((b : Option Scaled) → d ≡ Open b → ⊥) → end_of d ≡ leaf (untried low) → ⊥
+    at (Dead x) f q = absurd cc
+    at (Clash x) f q = absurd cc
+    at (Refuted ys) f q = absurd cc
+    at (Bound s) f q = absurd cc
+    at (Charge s covers) f q = absurd cc
+    at (Branch x c) f q = absurd cc
+    at (Either u) f q = absurd cc
+    at (Open b) f q = f b refl
 
 module _ (g : Shape) (n m : Node) (t : TreeNode Leaf) (steps : List Step)
     (is_steps : steps ≡ t.steps) (passes : StepsPass g n steps)

@@ -7,18 +7,20 @@ ghost use Rattle.pns_rules.specs.Nodes.{options, child};
 ghost use Rattle.tree_rules.specs.declared.why.Why.TheVariants as causes;
 ghost use Rattle.tree_rules.specs.Tree as trees;
 ghost use Rattle.tree_rules.specs.Tree.{after_all, below, EndPasses};
-ghost use Rattle.tree_rules.specs.Ways.{at_material, either, MayBranch, options_at, children_at};
+ghost use Rattle.tree_rules.specs.Ways.{at_material, either, MayBranch, options_at};
+ghost use Rattle.tree_rules.specs.Ways.{children_at};
 ghost use Rattle.tree_rules.specs.Fault.{EndFails, NodeFails};
 ghost use Rattle.pgraph.specs.Tables.{shape};
 ghost use Rattle.pgraph.specs.View.{node_of};
 ghost use Rattle.branch_tree.specs.View.{end_of};
 ghost use Rattle.cert_parts.specs.Known.{KnowsInside};
 ghost use Rattle.cert_check.specs.Subtrees.{rest_of, HasEnds, stack_of};
-ghost use Rattle.cert_check.specs.Visits.{leaf_passes, leaf_fails, BranchPasses, IsVisited};
+ghost use Rattle.cert_check.specs.Visits.{leaf_passes, leaf_fails, BranchPasses};
+ghost use Rattle.cert_check.specs.Visits.{IsVisited};
 ghost use Rattle.cert_check.specs.Visits.{Halts};
 
 use crate::children::push_children;
-use crate::leaf::judge_leaf;
+use crate::leaf::judge_leaf_by;
 use crate::subtrees::{Behind, roots};
 use branch_tree::{End, TreeNode};
 use cert_parts::{after_steps, are_all_options, are_options_of_unit, with_unit, without_unit};
@@ -27,13 +29,14 @@ use pgraph::{Graph, Site};
 use tree_rules::Why;
 use unit_sets::{Node, UnitSet};
 
-/// By what nodes are judged: the problem with its P-graph, the cost that is to be undercut, if
-/// there is one, and whether leaves may be open.
+/// By what nodes are judged: the problem with its P-graph, the cost that is to be undercut, if there
+/// is one, whether leaves may be open, and whether the bounds of open leaves are judged.
 #[derive(Clone, Copy)]
 pub struct Judge<'a> {
     pub site: &'a Site<'a>,
     pub claimed: Option<CostOver>,
     pub partial: bool,
+    pub bounds: bool,
 }
 
 /// Why a walk goes no further.
@@ -64,10 +67,12 @@ fn visit_branch(
     ensures stack { OnOk result
         (stack_of stack.new.items
         ≡ map (child (shape graph.now) (node_of node.now) material)
-        (options (shape graph.now) (node_of node.now) material) ++ stack_of stack.old.items) }
+        (options (shape graph.now) (node_of node.now) material)
+        ++ stack_of stack.old.items) }
     ensures halts { IfErr result
         (Halts (λ why. (why ≡ causes.Options)
-        × (BranchPasses (shape graph.now) (node_of node.now) (at_material material children)
+        × (BranchPasses (shape graph.now) (node_of node.now)
+        (at_material material children)
         (rest_of behind.now) → ⊥))) }
 {
     graph.is_proper();
@@ -95,16 +100,19 @@ fn visit_either(
     stack: &mut Vec<Node>,
 ) -> Result<(), Halt>
     requires { HasEnds behind.now }
-    ensures may { OnOk result (MayBranch (shape graph.now) (node_of node.now) (either unit)) }
+    ensures may { OnOk result
+        (MayBranch (shape graph.now) (node_of node.now) (either unit)) }
     ensures options { OnOk result
         (trees.roots 2 (rest_of behind.now)
         ≡ options_at (shape graph.now) (node_of node.now) (either unit)) }
     ensures stack { OnOk result
-        (stack_of stack.new.items ≡ children_at (shape graph.now) (node_of node.now) (either unit)
+        (stack_of stack.new.items
+        ≡ children_at (shape graph.now) (node_of node.now) (either unit)
         ++ stack_of stack.old.items) }
     ensures halts { IfErr result
         (Halts (λ why. (why ≡ causes.Options)
-        × (BranchPasses (shape graph.now) (node_of node.now) (either unit) (rest_of behind.now)
+        × (BranchPasses (shape graph.now) (node_of node.now) (either unit)
+        (rest_of behind.now)
         → ⊥))) }
 {
     graph.is_proper();
@@ -136,7 +144,8 @@ fn visit_end(
     requires known { KnowsInside (shape_of judge.now.site.now) (node_of node.now) }
     requires ends { HasEnds behind.now }
     ensures passes { OnOk result
-        (EndPasses (shape_of judge.now.site.now) (leaf_passes judge.now) (node_of node.now)
+        (EndPasses (shape_of judge.now.site.now) (leaf_passes judge.now)
+        (node_of node.now)
         (end_of end.now) (rest_of behind.now)) }
     ensures children { OnOk result
         (stack_of stack.new.items
@@ -158,7 +167,7 @@ fn visit_end(
             stack,
         ),
         End::Either(unit) => visit_either(judge.site.graph(), node, *unit, behind, found, stack),
-        end => match judge_leaf(judge.site, node, judge.claimed, judge.partial, end) {
+        end => match judge_leaf_by(judge, node, end) {
             Ok(()) => Ok(()),
             Err(why) => Err(Halt::Fails(why)),
         },
@@ -178,7 +187,8 @@ pub(crate) fn visit(
     requires known { KnowsInside (shape_of judge.now.site.now) (node_of node.now) }
     requires ends { HasEnds behind.now }
     ensures visited { OnOk result
-        (IsVisited (shape_of judge.now.site.now) (leaf_passes judge.now) (node_of node.now)
+        (IsVisited (shape_of judge.now.site.now) (leaf_passes judge.now)
+        (node_of node.now)
         item.now
         (rest_of behind.now) (stack_of stack.old.items) (stack_of stack.new.items)) }
     ensures reached { IfOk result

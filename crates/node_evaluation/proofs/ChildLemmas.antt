@@ -25,6 +25,7 @@ use Rattle.tree_rules.specs.Lean.{MayUndercut, IsNoDearer}
 use Rattle.search_laws.proofs.ValueLemmas.{ways_are_dearer}
 use Rattle.search_laws.proofs.SoundLemmas.{children_are_sound}
 use Rattle.search_tree.specs.Cells.{Cell, no_cell, place_of, cell_at}
+use Rattle.search_tree.specs.Growth.{EndsOpen}
 use Rattle.search_tree.specs.Fits.{Follows}
 use Rattle.search_tree.specs.declared.growth.Fresh.{Fresh}
 use Rattle.tree_rules.specs.Costs.{HasFallen}
@@ -314,8 +315,8 @@ module _ (p : Problem) (valid : IsValid p) (n : Node) (w : Way) (sound : IsSound
         (Some (record { at = length old.nodes.items; stop = h }))
     stops_now h o = (
       let e = longer in omega (arith, e),
-      subst (λ (c : Cell). c.end ≡ leaf untried) (sym at_last)
-          (ic.end_is ∙ ap (λ (w : Leaf). leaf w) o.0),
+      subst (λ (c : Cell). EndsOpen c.end) (sym at_last)
+          (o.0.0, ic.end_is ∙ ap (λ (w : Leaf). leaf w) o.0.1),
       subst (λ (c : Cell). IsStop Past p (place_of c) h) (sym at_last) o.1,
     )
 
@@ -330,7 +331,7 @@ module _ (p : Problem) (valid : IsValid p) (n : Node) (w : Way) (sound : IsSound
         ∙ get_or_append_left (cells_of old.nodes.items) (l.cell ∷ []) no_cell h.at
         (omega (arith, lt, count)) in (
           let e = longer in omega (arith, e, lt),
-          subst (λ (c : Cell). c.end ≡ leaf untried) (sym here) o.1,
+          subst (λ (c : Cell). EndsOpen c.end) (sym here) o.1,
           subst (λ (c : Cell). IsStop Past p (place_of c) h.stop) (sym here) o.2,
         )
 
@@ -349,8 +350,10 @@ module _ (p : Problem) (valid : IsValid p) (n : Node) (w : Way) (sound : IsSound
         (λ (vs : List Mixed). AreReady Past p (cells_of old.nodes.items ++ l.cell ∷ []) vs
         (old.ready.items ++ l.ready ∷ [])) (sym values_more)
         (ready_more Past p (cells_of old.nodes.items) (values_of old.nodes.items) old.ready.items
-        (l.cell ∷ []) (l.value ∷ []) (l.ready ∷ []) h
-        ((λ e. o (let q : leaf ic.what ≡ leaf untried = sym ic.end_is ∙ e in cc)), tt))))
+        (l.cell ∷ []) (l.value ∷ []) (l.ready ∷ []) h (
+          (λ e. o (e.0, let q : leaf ic.what ≡ leaf (untried e.0) = sym ic.end_is ∙ e.1 in cc)),
+          tt,
+        ))))
 
     stop_by : (oh : Option StoppedAt) (lh : Option PastStop) (b : Bool) → b ≡ is_some oh
         → StopHolds Past p old.nodes.items old.ready.items oh

@@ -1,7 +1,11 @@
--- A tree with open leaves, which are judged by their marks, passes or has its first fault as a
--- ranked tree does.
-use Rattle.std.proofs.Common.{◌≡◌, ◌⊎◌, ℕ, zero, suc, ◌+◌, ◌<◌, ◌≤◌, true, false, List, [], ◌∷◌}
-use Rattle.std.proofs.Common.{◌++◌, length, Option, refl, sym, ap, ◌∙◌, subst, inl, inr, arith}
+-- A tree with open leaves passes, or has its first fault, as a ranked tree does, where the open leaves are judged by their marks.
+use Rattle.std.proofs.Common.{◌≡◌, ◌⊎◌, ℕ, zero, suc, ◌+◌, ◌<◌, ◌≤◌, true, false, List}
+use Rattle.std.proofs.Common.{[]}
+use Rattle.std.proofs.Common.{◌∷◌}
+use Rattle.std.proofs.Common.{◌++◌, length, Option, Some, None, refl, sym, ap, ◌∙◌, subst}
+use Rattle.std.proofs.Common.{inl}
+use Rattle.std.proofs.Common.{inr}
+use Rattle.std.proofs.Common.{arith}
 use Rattle.problem_rules.specs.Problem.{Problem}
 use Rattle.pns_rules.specs.Shape.{Shape, shape_of}
 use Rattle.pns_rules.specs.Nodes.{Node}
@@ -9,7 +13,8 @@ use Rattle.tree_rules.specs.declared.why.Why.{Why}
 use Rattle.tree_rules.specs.declared.why.Why.TheVariants as causes
 use Rattle.tree_rules.specs.Ways.{width, MayBranch, options_at}
 use Rattle.tree_rules.specs.Tree as trees
-use Rattle.tree_rules.specs.Tree.{End, branch, leaf, TreeNode, StepsPass, after_all, below}
+use Rattle.tree_rules.specs.Tree.{End, branch, leaf, TreeNode, StepsPass, after_all}
+use Rattle.tree_rules.specs.Tree.{below}
 use Rattle.tree_rules.specs.Tree.{EndPasses, Pass}
 use Rattle.tree_rules.specs.Fault.{Fails, EndFails, NodeFails, IsFirstFault}
 use Rattle.tree_rules.specs.Claim.{Network, CostOver}
@@ -20,7 +25,10 @@ use Rattle.rank_rules.specs.declared.why.RankWhy.{RankWhy}
 use Rattle.rank_rules.specs.declared.why.RankWhy.TheVariants.{Plain}
 use Rattle.rank_rules.specs.Leaf.{Leaf, plain, named, LeafPasses, LeafFails, IsTold}
 use Rattle.rank_rules.specs.Ranked.{IsToldAt}
-use Rattle.rank_rules.specs.Marked.{Mark, marked_leaf, first_mark, marked_end, marks_behind, marked}
+use Rattle.rank_rules.specs.Marked.{Mark, marked_leaf, first_mark, marked_end}
+use Rattle.rank_rules.specs.Marked.{marks_behind}
+use Rattle.rank_rules.specs.Marked.{marked}
+use Rattle.cert_check.specs.Bare.{BarePasses, BareFails}
 use Rattle.cert_check.specs.OpenLeaves.{AllBefore, NoneBefore}
 use Rattle.cert_check.proofs.TurnLemmas.{none_before}
 use Rattle.rank_check.specs.Marks.{MarksPass, IsFirstMark}
@@ -34,7 +42,8 @@ children_same ms (leaf (leaves.dead x)) = refl
 children_same ms (leaf (leaves.clash k)) = refl
 children_same ms (leaf (leaves.refuted ys)) = refl
 children_same ms (leaf (leaves.bounded d ys)) = refl
-children_same ms (leaf leaves.untried) = refl
+children_same ms (leaf (leaves.charged c)) = refl
+children_same ms (leaf (leaves.untried low)) = refl
 
 pub below_same : (g : Shape) (n : Node) (ms : List Mark) (e : End leaves.Leaf)
     → below g n (marked_end ms e) ≡ below g n e
@@ -43,7 +52,8 @@ below_same g n ms (leaf (leaves.dead x)) = refl
 below_same g n ms (leaf (leaves.clash k)) = refl
 below_same g n ms (leaf (leaves.refuted ys)) = refl
 below_same g n ms (leaf (leaves.bounded d ys)) = refl
-below_same g n ms (leaf leaves.untried) = refl
+below_same g n ms (leaf (leaves.charged c)) = refl
+below_same g n ms (leaf (leaves.untried low)) = refl
 
 skip_marked : (k : ℕ) (ms : List Mark) (ts : plain_trees.Tree) → (rest : List Mark)
     × (trees.skip k (marked ms ts) ≡ marked rest (trees.skip k ts))
@@ -63,7 +73,8 @@ roots_marked (suc k) ms [] = refl
 roots_marked (suc k) ms (t ∷ ts) =
     let q = skip_marked 1 ms (t ∷ ts) in
     ap (λ (us : List (TreeNode Leaf)). t.option ∷ trees.roots k us) q.1
-    ∙ ap (λ (os : List (List ℕ)). t.option ∷ os) (roots_marked k q.0 (trees.skip 1 (t ∷ ts)))
+    ∙ ap (λ (os : List (List ℕ)). t.option ∷ os)
+    (roots_marked k q.0 (trees.skip 1 (t ∷ ts)))
 
 -- ---- lists of open leaves
 
@@ -82,17 +93,18 @@ first_before k ls found others l rest e is none all =
     let h : NoneBefore k (l ∷ rest ++ others) =
     subst (λ (xs : List OpenAt). NoneBefore k xs)
     (e ∙ ap (λ (xs : List OpenAt). xs ++ others) is) none in
-    let j : AllBefore k (l ∷ rest) = subst (λ (xs : List OpenAt). AllBefore k xs) is all in
+    let j : AllBefore k (l ∷ rest) =
+    subst (λ (xs : List OpenAt). AllBefore k xs) is all in
     let low : k ≤ l.number = h.0 in
     let high : l.number < k = j.0 in
     absurd (omega arith)
 
 module _ (p : Problem) (ws : List Network) (undercut : Option CostOver) where
   abbrev P : Node → leaves.Leaf → Type 0
-  P = leaves.LeafPasses true p undercut
+  P = BarePasses p undercut
 
   abbrev F : Node → leaves.Leaf → Why → Type 0
-  F = leaves.LeafFails true p undercut
+  F = BareFails p undercut
 
   abbrev P' : Node → Leaf → Type 0
   P' = LeafPasses false p ws undercut
@@ -107,7 +119,27 @@ module _ (p : Problem) (ws : List Network) (undercut : Option CostOver) where
   HerePasses ms n (leaf (leaves.clash k)) = Unit {0}
   HerePasses ms n (leaf (leaves.refuted ys)) = Unit {0}
   HerePasses ms n (leaf (leaves.bounded d ys)) = Unit {0}
-  HerePasses ms n (leaf leaves.untried) = P' n (marked_leaf (first_mark ms))
+  HerePasses ms n (leaf (leaves.charged c)) = Unit {0}
+  HerePasses ms n (leaf (leaves.untried low)) = P' n (marked_leaf None (first_mark ms))
+
+  -- whatever the bound of an open leaf is, its mark judges it
+  low_passes : (n : Node) (low : Option leaves.Scaled) (m : Mark)
+      → P' n (marked_leaf None m)
+      → P' n (marked_leaf low m)
+  low_passes n low None h = absurd (let no : false ≡ true = h.0 in cc)
+  low_passes n low (Some m) h = h
+
+  low_fails : (n : Node) (low : Option leaves.Scaled) (m : Mark) (why : Why)
+      → F' n (marked_leaf None m) why → F' n (marked_leaf low m) why
+  low_fails n low None why (inl h) = inl h
+  low_fails n low None why (inr h) = absurd (let no : false ≡ true = h.0 in cc)
+  low_fails n low (Some m) why h = h
+
+  low_told : (low : Option leaves.Scaled) (m : Mark) (cause : Why) (why : RankWhy)
+      → IsTold (leaf (marked_leaf None m)) cause why
+      → IsTold (leaf (marked_leaf low m)) cause why
+  low_told low None cause why h = h
+  low_told low (Some m) cause why h = h
 
   end_passes : (ms : List Mark) (n : Node) (e : End leaves.Leaf) (ts : plain_trees.Tree)
       → EndPasses (shape_of p) P n e ts → HerePasses ms n e
@@ -117,17 +149,21 @@ module _ (p : Problem) (ws : List Network) (undercut : Option CostOver) where
   end_passes ms n (leaf (leaves.clash k)) ts h here = h
   end_passes ms n (leaf (leaves.refuted ys)) ts h here = h
   end_passes ms n (leaf (leaves.bounded d ys)) ts h here = h
-  end_passes ms n (leaf leaves.untried) ts h here = here
+  end_passes ms n (leaf (leaves.charged c)) ts h here = h
+  end_passes ms n (leaf (leaves.untried low)) ts h here =
+      low_passes n low (first_mark ms) here
 
   -- an open leaf does not fail if leaves may be open
-  end_fails : (ms : List Mark) (n : Node) (e : End leaves.Leaf) (ts : plain_trees.Tree) (why : Why)
+  end_fails : (ms : List Mark) (n : Node) (e : End leaves.Leaf) (ts : plain_trees.Tree)
+      (why : Why)
       → EndFails (shape_of p) F n e ts why
       → EndFails (shape_of p) F' n (marked_end ms e) (marked (marks_behind ms e) ts) why
       × IsTold (marked_end ms e) why (Plain why)
   end_fails ms n (branch w) ts why h = (
     subst
         (λ (os : List (List ℕ)). Fails
-        (MayBranch (shape_of p) n w × (os ≡ options_at (shape_of p) n w)) causes.Options ⊥ why)
+        (MayBranch (shape_of p) n w × (os ≡ options_at (shape_of p) n w)) causes.Options ⊥
+        why)
         (sym (roots_marked (width w) ms ts)) h,
     refl,
   )
@@ -135,8 +171,9 @@ module _ (p : Problem) (ws : List Network) (undercut : Option CostOver) where
   end_fails ms n (leaf (leaves.clash k)) ts why h = (h, refl)
   end_fails ms n (leaf (leaves.refuted ys)) ts why h = (h, refl)
   end_fails ms n (leaf (leaves.bounded d ys)) ts why h = (h, refl)
-  end_fails ms n (leaf leaves.untried) ts why (inl h) = absurd (h.1 refl)
-  end_fails ms n (leaf leaves.untried) ts why (inr h) = absurd h.1
+  end_fails ms n (leaf (leaves.charged c)) ts why h = (h, refl)
+  end_fails ms n (leaf (leaves.untried low)) ts why (inl h) = absurd (h.1 refl)
+  end_fails ms n (leaf (leaves.untried low)) ts why (inr h) = absurd h.1
 
   -- a step that fails has its own cause
   step_told : (e : End Leaf) (why : Why) → why ≡ causes.Step → IsTold e why (Plain why)
@@ -145,7 +182,8 @@ module _ (p : Problem) (ws : List Network) (undercut : Option CostOver) where
   step_told (leaf (named k d ys)) why s =
       inr ((λ b. absurd (let q : causes.Step ≡ causes.Bound = sym s ∙ b in cc)), refl)
 
-  node_fails : (ms : List Mark) (n : Node) (t : TreeNode leaves.Leaf) (ts : plain_trees.Tree)
+  node_fails : (ms : List Mark) (n : Node) (t : TreeNode leaves.Leaf)
+      (ts : plain_trees.Tree)
       (why : Why) → NodeFails (shape_of p) F n t ts why
       → NodeFails (shape_of p) F' n
       (record { option = t.option; steps = t.steps; end = marked_end ms t.end })
@@ -158,7 +196,8 @@ module _ (p : Problem) (ws : List Network) (undercut : Option CostOver) where
 
   -- ---- all pass
 
-  here_and_rest : (ms : List Mark) (i : ℕ) (n : Node) (e : End leaves.Leaf) (ls : List OpenAt)
+  here_and_rest : (ms : List Mark) (i : ℕ) (n : Node) (e : End leaves.Leaf)
+      (ls : List OpenAt)
       → MarksPass P' (open_here i n e ++ ls) ms → HerePasses ms n e
       × MarksPass P' ls (marks_behind ms e)
   here_and_rest ms i n (branch w) ls h = (tt, h)
@@ -166,7 +205,8 @@ module _ (p : Problem) (ws : List Network) (undercut : Option CostOver) where
   here_and_rest ms i n (leaf (leaves.clash k)) ls h = (tt, h)
   here_and_rest ms i n (leaf (leaves.refuted ys)) ls h = (tt, h)
   here_and_rest ms i n (leaf (leaves.bounded d ys)) ls h = (tt, h)
-  here_and_rest ms i n (leaf leaves.untried) ls h = h
+  here_and_rest ms i n (leaf (leaves.charged c)) ls h = (tt, h)
+  here_and_rest ms i n (leaf (leaves.untried low)) ls h = h
 
   pub marked_passes : (ns : List Node) (ts : plain_trees.Tree) (ms : List Mark) (i : ℕ)
       → Pass (shape_of p) P ns ts → MarksPass P' (open_leaves (shape_of p) ns ts i) ms
@@ -183,8 +223,11 @@ module _ (p : Problem) (ws : List Network) (undercut : Option CostOver) where
         end_passes ms o t.end ts h.1 q.0,
         subst
             (λ (os : List Node). Pass (shape_of p) P' (os ++ ns)
-            (marked (marks_behind ms t.end) ts)) (sym (below_same (shape_of p) o ms t.end))
-            (marked_passes (below (shape_of p) o t.end ++ ns) ts (marks_behind ms t.end) (i + 1) h.2
+            (marked (marks_behind ms t.end) ts))
+            (sym (below_same (shape_of p) o ms t.end))
+            (marked_passes (below (shape_of p) o t.end ++ ns) ts (marks_behind ms t.end)
+            (i + 1)
+            h.2
             q.1),
       )
 
@@ -197,7 +240,8 @@ module _ (p : Problem) (ws : List Network) (undercut : Option CostOver) where
   here_before i l n (leaf (leaves.clash x)) ls lt h = h
   here_before i l n (leaf (leaves.refuted ys)) ls lt h = h
   here_before i l n (leaf (leaves.bounded d ys)) ls lt h = h
-  here_before i l n (leaf leaves.untried) ls lt h = (lt, h)
+  here_before i l n (leaf (leaves.charged c)) ls lt h = h
+  here_before i l n (leaf (leaves.untried low)) ls lt h = (lt, h)
 
   -- the nodes of all open leaves are before the end of the list
   pub all_before : (ns : List Node) (ts : plain_trees.Tree) (i l : ℕ) → l ≡ i + length ts
@@ -207,7 +251,8 @@ module _ (p : Problem) (ws : List Network) (undercut : Option CostOver) where
   all_before (n ∷ ns) (t ∷ ts) i l e =
       let o : Node = after_all (shape_of p) n t.steps in
       here_before i l o t.end
-      (open_leaves (shape_of p) (below (shape_of p) o t.end ++ ns) ts (i + 1)) (omega arith)
+      (open_leaves (shape_of p) (below (shape_of p) o t.end ++ ns) ts (i + 1))
+      (omega arith)
       (all_before (below (shape_of p) o t.end ++ ns) ts (i + 1) l (omega arith))
 
   -- ---- the open leaves before a node
@@ -219,10 +264,12 @@ module _ (p : Problem) (ws : List Network) (undercut : Option CostOver) where
     pub all : ls ≡ rest ++ others
 
   -- those that were found begin with the one of this node, if it has one
-  part : (i k : ℕ) (n : Node) (e : End leaves.Leaf) (ls found others : List OpenAt) → i < k
+  part : (i k : ℕ) (n : Node) (e : End leaves.Leaf) (ls found others : List OpenAt)
+      → i < k
       → open_here i n e ++ ls ≡ found ++ others → NoneBefore k others
       → IsParted i n e ls found others
-  part i k n (branch w) ls found others lt h none = record { rest = found; is = refl; all = h }
+  part i k n (branch w) ls found others lt h none =
+      record { rest = found; is = refl; all = h }
   part i k n (leaf (leaves.dead x)) ls found others lt h none =
       record { rest = found; is = refl; all = h }
   part i k n (leaf (leaves.clash x)) ls found others lt h none =
@@ -231,14 +278,16 @@ module _ (p : Problem) (ws : List Network) (undercut : Option CostOver) where
       record { rest = found; is = refl; all = h }
   part i k n (leaf (leaves.bounded d ys)) ls found others lt h none =
       record { rest = found; is = refl; all = h }
-  part i k n (leaf leaves.untried) ls (l ∷ rest) others lt h none = record {
+  part i k n (leaf (leaves.charged c)) ls found others lt h none =
+      record { rest = found; is = refl; all = h }
+  part i k n (leaf (leaves.untried low)) ls (l ∷ rest) others lt h none = record {
     rest = rest;
     is =
         ap (λ (x : OpenAt). x ∷ rest)
         (sym (same_head (record { number = i; node = n }) l ls (rest ++ others) h));
     all = same_rest (record { number = i; node = n }) l ls (rest ++ others) h;
   }
-  part i k n (leaf leaves.untried) ls [] others lt h none =
+  part i k n (leaf (leaves.untried low)) ls [] others lt h none =
       let q : NoneBefore k (record { number = i; node = n } ∷ ls) =
       subst (λ (xs : List OpenAt). NoneBefore k xs) (sym h) none in
       let low : k ≤ i = q.0 in
@@ -265,14 +314,17 @@ module _ (p : Problem) (ws : List Network) (undercut : Option CostOver) where
       here_and_rest ms i o t.end w.rest
       (subst (λ (xs : List OpenAt). MarksPass P' xs ms) w.is m) in
       let r =
-      marked_fault (below (shape_of p) o t.end ++ ns) ts (marks_behind ms t.end) (i + 1) j k why
+      marked_fault (below (shape_of p) o t.end ++ ns) ts (marks_behind ms t.end) (i + 1) j
+      k
+      why
       w.rest others (omega arith) f.2 w.all none q.1 in (
         (
           f.0,
           end_passes ms o t.end ts f.1 q.0,
           subst
               (λ (os : List Node). IsFirstFault (shape_of p) P' F' (os ++ ns)
-              (marked (marks_behind ms t.end) ts) j why) (sym (below_same (shape_of p) o ms t.end))
+              (marked (marks_behind ms t.end) ts) j why)
+              (sym (below_same (shape_of p) o ms t.end))
               r.0,
         ),
         r.1,
@@ -290,7 +342,8 @@ module _ (p : Problem) (ws : List Network) (undercut : Option CostOver) where
       × EndPasses (shape_of p) P (after_all (shape_of p) n t.steps) t.end ts
       × PassTo j (below (shape_of p) (after_all (shape_of p) n t.steps) t.end ++ ns) ts
 
-  pub pass_to : (j : ℕ) (ns : List Node) (ts : plain_trees.Tree) → Pass (shape_of p) P ns ts
+  pub pass_to : (j : ℕ) (ns : List Node) (ts : plain_trees.Tree)
+      → Pass (shape_of p) P ns ts
       → PassTo j ns ts
   pass_to zero ns ts h = tt
   pass_to (suc j) [] ts h = tt
@@ -309,7 +362,8 @@ module _ (p : Problem) (ws : List Network) (undercut : Option CostOver) where
   fault_to (suc j) (n ∷ ns) (t ∷ ts) why h = (
     h.0,
     h.1,
-    fault_to j (below (shape_of p) (after_all (shape_of p) n t.steps) t.end ++ ns) ts why h.2,
+    fault_to j (below (shape_of p) (after_all (shape_of p) n t.steps) t.end ++ ns) ts why
+        h.2,
   )
 
   -- node d of the ranked tree is the first that fails, and this is the cause that is given
@@ -320,8 +374,10 @@ module _ (p : Problem) (ws : List Network) (undercut : Option CostOver) where
     pub told : IsToldAt (marked ms ts) d cause why
 
   -- the mark of this node fails, or it passes and one after it fails
-  here_or_rest : (ms : List Mark) (i k : ℕ) (n : Node) (e : End leaves.Leaf) (ts : plain_trees.Tree)
-      (ls : List OpenAt) (why : RankWhy) → IsFirstMark P' F' (open_here i n e ++ ls) ms k why
+  here_or_rest : (ms : List Mark) (i k : ℕ) (n : Node) (e : End leaves.Leaf)
+      (ts : plain_trees.Tree)
+      (ls : List OpenAt) (why : RankWhy)
+      → IsFirstMark P' F' (open_here i n e ++ ls) ms k why
       → ((i ≡ k)
       × ((cause : Why)
       × EndFails (shape_of p) F' n (marked_end ms e) (marked (marks_behind ms e) ts) cause
@@ -332,8 +388,18 @@ module _ (p : Problem) (ws : List Network) (undercut : Option CostOver) where
   here_or_rest ms i k n (leaf (leaves.clash x)) ts ls why h = inr (tt, h)
   here_or_rest ms i k n (leaf (leaves.refuted ys)) ts ls why h = inr (tt, h)
   here_or_rest ms i k n (leaf (leaves.bounded d ys)) ts ls why h = inr (tt, h)
-  here_or_rest ms i k n (leaf leaves.untried) ts ls why (inl h) = inl (h.0, h.1)
-  here_or_rest ms i k n (leaf leaves.untried) ts ls why (inr h) = inr h
+  here_or_rest ms i k n (leaf (leaves.charged c)) ts ls why h = inr (tt, h)
+  here_or_rest ms i k n (leaf (leaves.untried low)) ts ls why (inl h) =
+      let f = h.1 in
+      inl (
+        h.0,
+        (
+          f.0,
+          low_fails n low (first_mark ms) f.0 f.1,
+          low_told low (first_mark ms) f.0 why f.2,
+        ),
+      )
+  here_or_rest ms i k n (leaf (leaves.untried low)) ts ls why (inr h) = inr h
 
   rest_before : (i l : ℕ) (n : Node) (e : End leaves.Leaf) (ls : List OpenAt)
       → AllBefore l (open_here i n e ++ ls) → AllBefore l ls
@@ -342,7 +408,8 @@ module _ (p : Problem) (ws : List Network) (undercut : Option CostOver) where
   rest_before i l n (leaf (leaves.clash x)) ls h = h
   rest_before i l n (leaf (leaves.refuted ys)) ls h = h
   rest_before i l n (leaf (leaves.bounded d ys)) ls h = h
-  rest_before i l n (leaf leaves.untried) ls h = h.1
+  rest_before i l n (leaf (leaves.charged c)) ls h = h
+  rest_before i l n (leaf (leaves.untried low)) ls h = h.1
 
   pub mark_fault : (ns : List Node) (ts : plain_trees.Tree) (ms : List Mark) (i j l k : ℕ)
       (why : RankWhy) (found others : List OpenAt)
@@ -356,9 +423,12 @@ module _ (p : Problem) (ws : List Network) (undercut : Option CostOver) where
       absurd (not_none x (xs ++ others) h)
   mark_fault (n ∷ ns) (t ∷ ts) ms i zero l k why (x ∷ xs) others e go h all none f =
       absurd
-      (first_before l (open_leaves (shape_of p) (n ∷ ns) (t ∷ ts) i) (x ∷ xs) others x xs h refl
+      (first_before l (open_leaves (shape_of p) (n ∷ ns) (t ∷ ts) i) (x ∷ xs) others x xs
+      h
+      refl
       (subst (λ (c : ℕ). NoneBefore c (open_leaves (shape_of p) (n ∷ ns) (t ∷ ts) i))
-      (let q : i ≡ l = omega arith in q) (none_before (shape_of p) (n ∷ ns) (t ∷ ts) i)) all)
+      (let q : i ≡ l = omega arith in q) (none_before (shape_of p) (n ∷ ns) (t ∷ ts) i))
+      all)
   mark_fault (n ∷ ns) (t ∷ ts) ms i (suc j) l k why (x ∷ xs) others e go h all none f =
       let o : Node = after_all (shape_of p) n t.steps in
       let ls : List OpenAt =
@@ -378,7 +448,10 @@ module _ (p : Problem) (ws : List Network) (undercut : Option CostOver) where
             rest_before i l o t.end w.rest
             (subst (λ (ys : List OpenAt). AllBefore l ys) w.is all) in
             let r =
-            mark_fault (below (shape_of p) o t.end ++ ns) ts (marks_behind ms t.end) (i + 1) j l
+            mark_fault (below (shape_of p) o t.end ++ ns) ts (marks_behind ms t.end)
+            (i + 1)
+            j
+            l
             k why w.rest others (omega arith) go.2 w.all before none q.1 in (
               suc r.0,
               (let same = r.1 in let z : k ≡ i + suc r.0 = omega arith in z),

@@ -59,7 +59,7 @@ module _ (p : Problem) (ws : List Network) where
   pub marks_next : (ls : List OpenAt) (ms : List Mark) (i : ℕ) (l : OpenAt)
       → drop i ls ≡ l ∷ drop (i + 1) ls
       → ((undercut : Option CostOver)
-      → LeafPasses false p ws undercut l.node (marked_leaf (first_mark (drop i ms))))
+      → LeafPasses false p ws undercut l.node (marked_leaf None (first_mark (drop i ms))))
       → AreOn ls ms i → AreOn ls ms (i + 1)
   marks_next ls ms i l here h on =
       let others : other_marks (drop i ms) ≡ drop (i + 1) ms =

@@ -1,14 +1,17 @@
--- A ranking with exactly one mark for each open leaf is the same ranked tree, and lines can have
--- its text.
-use Rattle.std.proofs.Common.{◌≡◌, ◌+◌, ℕ, List, [], ◌∷◌, Some, None, length, refl, ap, ◌∙◌, arith}
+-- A ranking with just one mark for each open leaf is the same ranked tree, and its text can be held by lines.
+use Rattle.std.proofs.Common.{◌≡◌, ◌+◌, ℕ, List, [], ◌∷◌, Some, None, length, refl, sym}
+use Rattle.std.proofs.Common.{ap}
+use Rattle.std.proofs.Common.{◌∙◌}
+use Rattle.std.proofs.Common.{subst, arith}
 use Rattle.problem_rules.specs.Each.{Each}
 use Rattle.tree_rules.specs.Tree.{TreeNode, End, branch, leaf}
 use Rattle.tree_rules.specs.Leaf as leaves
 use Rattle.tree_rules.specs.Accepted.{Tree}
 use Rattle.rank_rules.specs.Ranked as ranked
-use Rattle.rank_rules.specs.Marked.{Mark, marked, marked_node, marked_end, first_mark, other_marks}
+use Rattle.rank_rules.specs.Marked.{Mark, marked, marked_node, marked_end, first_mark}
+use Rattle.rank_rules.specs.Marked.{other_marks}
 use Rattle.rank_rules.specs.Marked.{marks_behind}
-use Rattle.rank_rules.specs.Text.{AreNumbered}
+use Rattle.rank_rules.specs.Text.{AreNumbered, IsBareAt, AreBare}
 use Rattle.rank_text.specs.Fits.{opens, opens_at, FitsMark}
 use Rattle.rank_searches.specs.Normal.{with_mark, marks_for, IsMarkInRange}
 
@@ -20,7 +23,8 @@ with_mark_length ms (leaf (leaves.dead x)) behind = omega arith
 with_mark_length ms (leaf (leaves.clash k)) behind = omega arith
 with_mark_length ms (leaf (leaves.refuted ys)) behind = omega arith
 with_mark_length ms (leaf (leaves.bounded d ys)) behind = omega arith
-with_mark_length ms (leaf leaves.untried) behind = omega arith
+with_mark_length ms (leaf (leaves.charged c)) behind = omega arith
+with_mark_length ms (leaf (leaves.untried low)) behind = omega arith
 
 pub marks_for_length : (ts : Tree) (ms : List Mark) → length (marks_for ts ms) ≡ opens ts
 marks_for_length [] ms = refl
@@ -36,7 +40,8 @@ same_end ms (leaf (leaves.dead x)) behind = refl
 same_end ms (leaf (leaves.clash k)) behind = refl
 same_end ms (leaf (leaves.refuted ys)) behind = refl
 same_end ms (leaf (leaves.bounded d ys)) behind = refl
-same_end ms (leaf leaves.untried) behind = refl
+same_end ms (leaf (leaves.charged c)) behind = refl
+same_end ms (leaf (leaves.untried low)) behind = refl
 
 same_behind : (ms : List Mark) (e : End leaves.Leaf) (behind : List Mark)
     → marks_behind (with_mark ms e behind) e ≡ behind
@@ -45,7 +50,8 @@ same_behind ms (leaf (leaves.dead x)) behind = refl
 same_behind ms (leaf (leaves.clash k)) behind = refl
 same_behind ms (leaf (leaves.refuted ys)) behind = refl
 same_behind ms (leaf (leaves.bounded d ys)) behind = refl
-same_behind ms (leaf leaves.untried) behind = refl
+same_behind ms (leaf (leaves.charged c)) behind = refl
+same_behind ms (leaf (leaves.untried low)) behind = refl
 
 -- and so the same ranked tree
 pub same_tree : (ts : Tree) (ms : List Mark) → marked (marks_for ts ms) ts ≡ marked ms ts
@@ -59,6 +65,30 @@ same_tree (t ∷ ts) ms =
     ap (λ (ns : List Mark). marked ns ts) (same_behind ms t.end rest)
     ∙ same_tree ts (marks_behind ms t.end) in
     λ i. record { option = t.option; steps = t.steps; end = ends i } ∷ behind i
+
+-- ---- leaves with a bound
+
+bare_here : (ms : List Mark) (e : End leaves.Leaf) (behind : List Mark)
+    → IsBareAt (first_mark ms) e
+    → IsBareAt (first_mark (with_mark ms e behind)) e
+bare_here ms (branch w) behind h = tt
+bare_here ms (leaf (leaves.dead x)) behind h = tt
+bare_here ms (leaf (leaves.clash k)) behind h = tt
+bare_here ms (leaf (leaves.refuted ys)) behind h = tt
+bare_here ms (leaf (leaves.bounded d ys)) behind h = tt
+bare_here ms (leaf (leaves.charged c)) behind h = tt
+bare_here ms (leaf (leaves.untried None)) behind h = tt
+bare_here ms (leaf (leaves.untried (Some low))) behind h = h
+
+pub marks_for_bare : (ts : Tree) (ms : List Mark) → AreBare ms ts
+    → AreBare (marks_for ts ms) ts
+marks_for_bare [] ms h = tt
+marks_for_bare (t ∷ ts) ms h =
+    let rest : List Mark = marks_for ts (marks_behind ms t.end) in (
+      bare_here ms t.end rest h.0,
+      subst (λ (ns : List Mark). AreBare ns ts) (sym (same_behind ms t.end rest))
+          (marks_for_bare ts (marks_behind ms t.end) h.1),
+    )
 
 -- ---- numbers
 
@@ -79,18 +109,21 @@ behind_numbered ms (leaf (leaves.dead x)) h = h
 behind_numbered ms (leaf (leaves.clash k)) h = h
 behind_numbered ms (leaf (leaves.refuted ys)) h = h
 behind_numbered ms (leaf (leaves.bounded d ys)) h = h
-behind_numbered ms (leaf leaves.untried) h = others_numbered ms h
+behind_numbered ms (leaf (leaves.charged c)) h = h
+behind_numbered ms (leaf (leaves.untried low)) h = others_numbered ms h
 
 -- a mark in range that is numbered
 mark_fits : (m : Mark) → AreNumbered (m ∷ []) → IsMarkInRange m → FitsMark m
 mark_fits None numbered kept = tt
 mark_fits (Some m) numbered kept = ((numbered.0, kept.0), kept.1, kept.2)
 
-first_fits : (ms : List Mark) → AreNumbered ms → Each IsMarkInRange ms → FitsMark (first_mark ms)
+first_fits : (ms : List Mark) → AreNumbered ms → Each IsMarkInRange ms
+    → FitsMark (first_mark ms)
 first_fits [] numbered kept = tt
 first_fits (m ∷ ms) numbered kept = mark_fits m (first_numbered (m ∷ ms) numbered) kept.0
 
-others_kept : (ms : List Mark) → Each IsMarkInRange ms → Each IsMarkInRange (other_marks ms)
+others_kept : (ms : List Mark) → Each IsMarkInRange ms
+    → Each IsMarkInRange (other_marks ms)
 others_kept [] kept = tt
 others_kept (m ∷ ms) kept = kept.1
 
@@ -101,16 +134,19 @@ behind_kept ms (leaf (leaves.dead x)) h = h
 behind_kept ms (leaf (leaves.clash k)) h = h
 behind_kept ms (leaf (leaves.refuted ys)) h = h
 behind_kept ms (leaf (leaves.bounded d ys)) h = h
-behind_kept ms (leaf leaves.untried) h = others_kept ms h
+behind_kept ms (leaf (leaves.charged c)) h = h
+behind_kept ms (leaf (leaves.untried low)) h = others_kept ms h
 
-with_mark_fits : (ms : List Mark) (e : End leaves.Leaf) (behind : List Mark) → AreNumbered ms
+with_mark_fits : (ms : List Mark) (e : End leaves.Leaf) (behind : List Mark)
+    → AreNumbered ms
     → Each IsMarkInRange ms → Each FitsMark behind → Each FitsMark (with_mark ms e behind)
 with_mark_fits ms (branch w) behind numbered kept fits = fits
 with_mark_fits ms (leaf (leaves.dead x)) behind numbered kept fits = fits
 with_mark_fits ms (leaf (leaves.clash k)) behind numbered kept fits = fits
 with_mark_fits ms (leaf (leaves.refuted ys)) behind numbered kept fits = fits
 with_mark_fits ms (leaf (leaves.bounded d ys)) behind numbered kept fits = fits
-with_mark_fits ms (leaf leaves.untried) behind numbered kept fits =
+with_mark_fits ms (leaf (leaves.charged c)) behind numbered kept fits = fits
+with_mark_fits ms (leaf (leaves.untried low)) behind numbered kept fits =
     (first_fits ms numbered kept, fits)
 
 pub marks_for_fit : (ts : Tree) (ms : List Mark) → AreNumbered ms → Each IsMarkInRange ms

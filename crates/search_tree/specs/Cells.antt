@@ -1,6 +1,8 @@
--- The tree of a search while it grows: a list of cells in the order of adding. The children of a
--- node are in a row, and come after their parent.
-use Rattle.std.specs.Prelude.{◌≡◌, ℕ, ◌+◌, ◌<◌, ◌≤◌, ◌==◌, cond, List, [], ◌∷◌, length, get_or}
+-- The tree of a search while it grows: a list of cells in the order of adding, so that the children of a node stand one behind the
+-- other, and behind their parent.
+use Rattle.std.specs.Prelude.{◌≡◌, ℕ, ◌+◌, ◌<◌, ◌≤◌, ◌==◌, cond, List, [], ◌∷◌, length}
+use Rattle.std.specs.Prelude.{get_or}
+use Rattle.std.specs.Prelude.{None}
 use Rattle.std.specs.List.{range_with_len}
 use Rattle.pns_rules.specs.Nodes as rules
 use Rattle.pgraph.specs.View.{node_of}
@@ -28,7 +30,7 @@ no_cell =
       node = record { inside = []; outside = [] };
       first = 0;
       end =
-          leaf untried;
+          leaf (untried None);
       key = 0;
     }
 
@@ -60,7 +62,8 @@ AreBehind n i first (leaf l) = Unit {0}
 -- q is the one parent of j, once
 pub record IsParentOf (cells : List Cell) (q j : ℕ) : Type 0 where
   pub before : q < j
-  pub once : (v : ℕ) → v < length cells → times j (children_at cells v) ≡ cond (v == q) 1 0
+  pub once : (v : ℕ) → v < length cells
+      → times j (children_at cells v) ≡ cond (v == q) 1 0
 
 -- the cells are one tree: the first is the root, and each other has one parent
 pub record IsLinked (cells : List Cell) : Type 0 where

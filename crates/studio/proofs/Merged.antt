@@ -11,7 +11,7 @@ use Rattle.text_laws.proofs.Each.{each-append}
 use Rattle.pns_rules.specs.Shape.{Shape, shape_of}
 use Rattle.pns_rules.specs.Nodes.{Node}
 use Rattle.tree_rules.specs.Tree.{End, branch, leaf, TreeNode, Pass, Stands, after_all, below}
-use Rattle.tree_rules.specs.Leaf.{Leaf, dead, clash, refuted, bounded, untried, LeafPasses}
+use Rattle.tree_rules.specs.Leaf.{Leaf, dead, clash, refuted, bounded, charged, untried, LeafPasses}
 use Rattle.tree_rules.specs.Claim.{Claim, Network, network, infeasible, unknown, claimed_cost}
 use Rattle.tree_rules.specs.Accepted.{Tree, first_node, IsPartial, IsAccepted}
 use Rattle.tree_laws.specs.Laws.{PartialIsAccepted, PassingClaimHasNoFault, PassingTreeHasNoFault}
@@ -166,7 +166,8 @@ none_open g P (n ∷ ns) (t ∷ ts) k pass none has =
         → open_here k (after_all g n t.steps) end
         ++ open_leaves g (below g (after_all g n t.steps) end ++ ns) ts (k + 1) ≡ []
         → (is_open end || has_open ts) ≡ true → ⊥
-    at (leaf untried) rest pass none has = cc
+    at (leaf (untried low)) rest pass none has = cc
+    at (leaf (charged h)) rest pass none has = rest ns pass none has
     at (leaf (dead x)) rest pass none has = rest ns pass none has
     at (leaf (clash x)) rest pass none has = rest ns pass none has
     at (leaf (refuted ys)) rest pass none has = rest ns pass none has

@@ -1,4 +1,7 @@
-//! An accepted tree proves its claim, a partial tree but for its open leaves.
+//! What an accepted branch tree proves: no allowed solution structure undercuts the claim, and what
+//! is claimed has flows; what a partial tree proves, also of what its open leaves have; how many
+//! nodes a lean tree has at most; and that a tree passes or has one first fault, never both. They
+//! hold of each way to branch, since the children of each part the family of their node.
 //!
 //! No clash-free solution structure undercuts an accepted claim, and what is claimed has flows.
 //! Other laws say how many nodes a lean tree has at most, and that a tree passes or has one first
@@ -20,5 +23,5 @@ mod ways;
 pub use accepted::{accepted_has_flows, accepted_is_least, accepted_is_optimal};
 pub use faults::{claim_has_one_fault, leaf_has_one_fault, tree_has_one_fault};
 pub use lean::lean_is_small;
-pub use leaves::{leaves_cover, open_leaves_decide, partial_is_least};
+pub use leaves::{leaves_cover, lower_bound_holds, open_leaves_decide, partial_is_least};
 pub use ways::{children_are_many, children_at_a_unit, children_part_families};

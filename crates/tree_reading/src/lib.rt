@@ -6,11 +6,14 @@
 //! reserves none. Texts that have other lines besides those of a tree read their tokens by the same
 //! calls.
 //!
-//! Modules of one line: `line`, `apart` (its parts), `word`, `number`, `name`, `column` (one
-//! token), `list`, `unit_list`, `column_list` (all that are left), `place`, and the lines:
-//! `claim_line`, `node_line`, `steps`, `ends`, `tail_line`. `fault_order` gives the least of
-//! several faults. Modules of a text: `cut`, `fault`, `claim`, `head`, `node`, `nodes` (the tree),
-//! `tail`, `text`.
+//! Modules of one line and what it stands for by the place where it comes: `line` (lines and
+//! tokens), `apart` (a line's first word and the tokens behind it), `word`, `number`, `name`,
+//! `column` (one token), `list`, `unit_list`, `column_list` (all that are left), `place`, and the
+//! lines: `claim_line`, `node_line`, `steps`, `ends`, `sets`, `tail_line`. `fault_order` tells the
+//! least of several faults. Texts that have other lines beside those of a tree read their tokens by
+//! the same calls.
+//!
+//! Modules of a text: `cut` (a place in it), `fault`, `claim`, `head`, `node`, `nodes` (the tree), `tail`, `text`.
 #![tactic(auto)]
 
 mod apart;
@@ -33,6 +36,7 @@ mod nodes;
 mod number;
 mod opening;
 mod place;
+mod sets;
 mod steps;
 mod tail;
 mod tail_line;

@@ -1,0 +1,3 @@
+mod BoundLines
+mod LeafLists
+mod Lefts
