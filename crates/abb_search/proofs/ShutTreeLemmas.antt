@@ -1,11 +1,14 @@
 -- The tree in which open leaves are shut: all of them, or those that are refuted.
 use Rattle.std.specs.Prelude.{IfSome, is_some}
-use Rattle.std.proofs.Common.{◌≡◌, ◌⊎◌, ℕ, ℤ, suc, ◌-◌, ◌^◌, ◌<◌, Bool, true, false, ◌||◌, List, [], ◌∷◌, length, Option, Some, None, inl, inr, refl, sym, ap, ◌∙◌, subst, arith, true≢false}
+use Rattle.std.proofs.Common.{◌≡◌, ◌⊎◌, ℕ, ℤ, suc, ◌-◌, ◌^◌, ◌<◌, Bool, true, false, ◌||◌, List, []}
+use Rattle.std.proofs.Common.{◌∷◌, length, Option, Some, None, inl, inr, refl, sym, ap, ◌∙◌, subst}
+use Rattle.std.proofs.Common.{arith, true≢false}
 use Rattle.problem_rules.specs.Problem.{Problem}
 use Rattle.pns_rules.specs.Nodes.{Node}
 use Rattle.pgraph.specs.View.{node_of}
 use Rattle.tree_rules.specs.Tree.{End, branch, leaf}
-use Rattle.tree_rules.specs.Leaf.{Leaf, dead, clash, refuted, bounded, untried, IsBounded, LeafPasses}
+use Rattle.tree_rules.specs.Leaf.{Leaf, dead, clash, refuted, bounded, untried, IsBounded}
+use Rattle.tree_rules.specs.Leaf.{LeafPasses}
 use Rattle.tree_rules.specs.Claim as claims
 use Rattle.tree_rules.specs.Claim.{CostOver, claimed_cost, IsSized}
 use Rattle.tree_rules.specs.Known.{KnowsEnd}
@@ -17,7 +20,8 @@ use Rattle.search_tree.specs.Cells.{Cell, place_of, cell_at}
 use Rattle.search_tree.specs.Growth.{is_open, as_shut}
 use Rattle.search_tree.specs.Preorder.{IsTreeOf}
 use Rattle.search_tree.specs.Shut.{shut_as, shut_end, shut_cells}
-use Rattle.search_tree.proofs.ShutLemmas.{closed_stays, unproved_stays, proof_of, shut_length, shut_at}
+use Rattle.search_tree.proofs.ShutLemmas.{closed_stays, unproved_stays, proof_of, shut_length}
+use Rattle.search_tree.proofs.ShutLemmas.{shut_at}
 use Rattle.turn_laws.specs.Turns.{IsShut, AreShut}
 use Rattle.turn_laws.proofs.KeptLemmas.{shutting_is_kept}
 use Rattle.node_evaluation.specs.declared.looks.Ready.{Ready}
@@ -27,7 +31,8 @@ use Rattle.node_evaluation.specs.Children.{claim_with}
 use Rattle.abb_search.specs.declared.growing.Growing.{Growing}
 use Rattle.abb_search.specs.Worth.{refutation_of, is_refuted}
 use Rattle.abb_search.specs.Growing.{ready_at, IsTreeKept, IsGrowingFor}
-use Rattle.abb_search.specs.Closing.{ShutsNode, ShutsLeaf, ShutAll, ShutsIfSome, ShutSome, AreInRange, RefutedShut, hand_of, refuted_by}
+use Rattle.abb_search.specs.Closing.{ShutsNode, ShutsLeaf, ShutAll, ShutsIfSome, ShutSome}
+use Rattle.abb_search.specs.Closing.{AreInRange, RefutedShut, hand_of, refuted_by}
 use Rattle.abb_search.specs.Found.{found_with, IsFoundBy}
 use Rattle.abb_search.proofs.EndLemmas.{whole_found}
 use Rattle.abb_search.proofs.KnownLemmas.{AreKnown, known_end}
@@ -43,7 +48,8 @@ no_open m (leaf (dead x)) h = let q : leaf (dead x) ≡ leaf untried = h in cc
 no_open m (leaf (clash k)) h = let q : leaf (clash k) ≡ leaf untried = h in cc
 no_open m (leaf (refuted ys)) h = let q : leaf (refuted ys) ≡ leaf untried = h in cc
 no_open m (leaf (bounded d ys)) h = let q : leaf (bounded d ys) ≡ leaf untried = h in cc
-no_open (shuts.Bounded s) (leaf untried) h = let q : leaf (bounded s.d s.ys) ≡ leaf untried = h in cc
+no_open (shuts.Bounded s) (leaf untried) h = let q : leaf (bounded s.d s.ys) ≡ leaf untried =
+    h in cc
 no_open (shuts.Refuted ys) (leaf untried) h = let q : leaf (refuted ys) ≡ leaf untried = h in cc
 
 never_untried : (m : Shut) → shut_as m ≡ untried → ⊥
@@ -51,7 +57,8 @@ never_untried (shuts.Bounded s) h = let q : bounded s.d s.ys ≡ untried = h in 
 never_untried (shuts.Refuted ys) h = let q : refuted ys ≡ untried = h in cc
 
 -- what shuts a leaf does not bound it if it is a refutation
-bounded_end : (o : Option Shut) (e : End Leaf) → ((m : Scaled) → o ≡ Some (shuts.Bounded m) → ⊥) → is_bounded (shut_end o e) ≡ is_bounded e
+bounded_end : (o : Option Shut) (e : End Leaf) → ((m : Scaled) → o ≡ Some (shuts.Bounded m) → ⊥)
+    → is_bounded (shut_end o e) ≡ is_bounded e
 bounded_end None e h = ap is_bounded (unproved_stays e)
 bounded_end (Some (shuts.Bounded m)) e h = absurd (h m refl)
 bounded_end (Some (shuts.Refuted ys)) (branch w) h = refl
@@ -61,24 +68,31 @@ bounded_end (Some (shuts.Refuted ys)) (leaf (refuted zs)) h = refl
 bounded_end (Some (shuts.Refuted ys)) (leaf (bounded d zs)) h = refl
 bounded_end (Some (shuts.Refuted ys)) (leaf untried) h = refl
 
-bounded_stays : (ms : List (Option Shut)) (cs : List Cell) → ((j : ℕ) (m : Scaled) → j < length cs → proof_of ms j ≡ Some (shuts.Bounded m) → ⊥) → has_bounded (shut_cells ms cs) ≡ has_bounded cs
+bounded_stays : (ms : List (Option Shut)) (cs : List Cell)
+    → ((j : ℕ) (m : Scaled) → j < length cs → proof_of ms j ≡ Some (shuts.Bounded m) → ⊥)
+    → has_bounded (shut_cells ms cs) ≡ has_bounded cs
 bounded_stays [] cs h = refl
 bounded_stays (o ∷ ms) [] h = refl
 bounded_stays (o ∷ ms) (c ∷ cs) h =
-    ap (λ b. b || has_bounded (shut_cells ms cs)) (bounded_end o c.end (λ m e. h 0 m (omega arith) e))
-    ∙ ap (λ b. is_bounded c.end || b) (bounded_stays ms cs (λ j m lt e. h (suc j) m (omega (arith, lt)) e))
+    ap (λ b. b || has_bounded (shut_cells ms cs))
+    (bounded_end o c.end (λ m e. h 0 m (omega arith) e))
+    ∙ ap (λ b. is_bounded c.end || b)
+    (bounded_stays ms cs (λ j m lt e. h (suc j) m (omega (arith, lt)) e))
 
 -- ---- what may shut a leaf
 
-pub may_shut : (p : Problem) (claimed : Option CostOver) (c : Cell) (o : Option Shut) → ShutsLeaf p claimed c o → ShutsIfSome p claimed (place_of c) o
+pub may_shut : (p : Problem) (claimed : Option CostOver) (c : Cell) (o : Option Shut)
+    → ShutsLeaf p claimed c o → ShutsIfSome p claimed (place_of c) o
 may_shut p claimed c None h = tt
 may_shut p claimed c (Some m) h = h
 
-shut_passes : (p : Problem) (claimed : Option CostOver) (n : Node) (m : Shut) → ShutsNode p claimed n m → LeafPasses true p claimed n (shut_as m)
+shut_passes : (p : Problem) (claimed : Option CostOver) (n : Node) (m : Shut)
+    → ShutsNode p claimed n m → LeafPasses true p claimed n (shut_as m)
 shut_passes p claimed n (shuts.Bounded s) h = h.bounded
 shut_passes p claimed n (shuts.Refuted ys) h = h.refuted
 
-shut_known : (p : Problem) (claimed : Option CostOver) (n : Node) (m : Shut) → ShutsNode p claimed n m → KnowsEnd p (leaf (shut_as m))
+shut_known : (p : Problem) (claimed : Option CostOver) (n : Node) (m : Shut)
+    → ShutsNode p claimed n m → KnowsEnd p (leaf (shut_as m))
 shut_known p claimed n (shuts.Bounded s) h = (h.scale, h.multipliers)
 shut_known p claimed n (shuts.Refuted ys) h = h.multipliers
 
@@ -91,33 +105,42 @@ pub record IsLeftOpen (ms : List (Option Shut)) (cells : List Cell) (j : ℕ) : 
   pub unshut : proof_of ms j ≡ None
 
 module _ (ms : List (Option Shut)) (cells : List Cell) (j : ℕ) where
-  pub left_open : j < length cells → proof_of ms j ≡ None → cell_at (shut_cells ms cells) j ≡ cell_at cells j
+  pub left_open : j < length cells → proof_of ms j ≡ None
+      → cell_at (shut_cells ms cells) j ≡ cell_at cells j
   left_open lt none =
       shut_at ms cells j lt
-      ∙ (ap (λ (o : Option Shut). as_shut (cell_at cells j) (shut_end o (cell_at cells j).end)) none ∙ ap (λ (e : End Leaf). as_shut (cell_at cells j) e) (unproved_stays (cell_at cells j).end))
+      ∙ (ap (λ (o : Option Shut). as_shut (cell_at cells j) (shut_end o (cell_at cells j).end)) none
+      ∙ ap (λ (e : End Leaf). as_shut (cell_at cells j) e)
+      (unproved_stays (cell_at cells j).end))
 
   -- this holds of a leaf that is open in the tree after that
-  pub open_left : j < length (shut_cells ms cells) → (cell_at (shut_cells ms cells) j).end ≡ leaf untried → IsLeftOpen ms cells j
-  open_left lt e = by (proof_of ms j) refl (ap (λ (c : Cell). c.end) (sym (shut_at ms cells j less)) ∙ e)
+  pub open_left : j < length (shut_cells ms cells)
+      → (cell_at (shut_cells ms cells) j).end ≡ leaf untried → IsLeftOpen ms cells j
+  open_left lt e =
+      by (proof_of ms j) refl (ap (λ (c : Cell). c.end) (sym (shut_at ms cells j less)) ∙ e)
     where
       less : j < length cells
       less = let n = shut_length ms cells in omega (arith, lt, n)
 
-      by : (o : Option Shut) → proof_of ms j ≡ o → shut_end o (cell_at cells j).end ≡ leaf untried → IsLeftOpen ms cells j
+      by : (o : Option Shut) → proof_of ms j ≡ o → shut_end o (cell_at cells j).end ≡ leaf untried
+          → IsLeftOpen ms cells j
       by None q k = record { there = less; cell_is = left_open less q; unshut = q }
       by (Some m) q k = absurd (no_open m (cell_at cells j).end k)
 
 -- ---- the tree with these leaves shut
 
-module _ (p : Problem) (s : Growing) (t : IsTreeKept p s) (ms : List (Option Shut)) (may : ShutSome p s (claimed_cost (claim_with s.best)) ms) where
+module _ (p : Problem) (s : Growing) (t : IsTreeKept p s) (ms : List (Option Shut))
+    (may : ShutSome p s (claimed_cost (claim_with s.best)) ms) where
   within : (j : ℕ) → j < length (shut_cells ms s.pool.payloads) → j < length s.pool.payloads
   within j lt = let e = shut_length ms s.pool.payloads in omega (arith, lt, e)
 
   -- what becomes of one cell
   abbrev Becomes : Cell → Option Shut → Type 0
-  Becomes c o = (as_shut c (shut_end o c.end) ≡ c) ⊎ IsShut p (claimed_cost (claim_with s.best)) c (as_shut c (shut_end o c.end))
+  Becomes c o = (as_shut c (shut_end o c.end) ≡ c)
+      ⊎ IsShut p (claimed_cost (claim_with s.best)) c (as_shut c (shut_end o c.end))
 
-  becomes : (c : Cell) (o : Option Shut) → ShutsIfSome p (claimed_cost (claim_with s.best)) (place_of c) o → Becomes c o
+  becomes : (c : Cell) (o : Option Shut)
+      → ShutsIfSome p (claimed_cost (claim_with s.best)) (place_of c) o → Becomes c o
   becomes c None h = inl (ap (λ (e : End Leaf). as_shut c e) (unproved_stays c.end))
   becomes c (Some m) h = by (is_open c.end) refl
     where
@@ -134,31 +157,54 @@ module _ (p : Problem) (s : Growing) (t : IsTreeKept p s) (ms : List (Option Shu
             new_is = ap (λ (k : End Leaf). as_shut c (shut_end (Some m) k)) u;
           })
 
-  are_shut : AreShut p (claimed_cost (claim_with s.best)) s.pool.payloads (shut_cells ms s.pool.payloads)
+  are_shut : AreShut p (claimed_cost (claim_with s.best)) s.pool.payloads
+      (shut_cells ms s.pool.payloads)
   are_shut = record {
     len = shut_length ms s.pool.payloads;
-    each = λ j lt. subst (λ (d : Cell). (d ≡ cell_at s.pool.payloads j) ⊎ IsShut p (claimed_cost (claim_with s.best)) (cell_at s.pool.payloads j) d) (sym (shut_at ms s.pool.payloads j lt))
+    each =
+        λ j lt. subst (λ (d : Cell). (d ≡ cell_at s.pool.payloads j)
+        ⊎ IsShut p (claimed_cost (claim_with s.best)) (cell_at s.pool.payloads j) d)
+        (sym (shut_at ms s.pool.payloads j lt))
         (becomes (cell_at s.pool.payloads j) (proof_of ms j) (may j lt));
   }
 
-  known_one : (c : Cell) (o : Option Shut) → ShutsIfSome p (claimed_cost (claim_with s.best)) (place_of c) o → KnowsCell p c → KnowsCell p (as_shut c (shut_end o c.end))
-  known_one c None h k = subst (λ (e : End Leaf). KnowsCell p (as_shut c e)) (sym (unproved_stays c.end)) (known_end p c (as_shut c c.end) k refl refl k.end)
+  known_one : (c : Cell) (o : Option Shut)
+      → ShutsIfSome p (claimed_cost (claim_with s.best)) (place_of c) o → KnowsCell p c
+      → KnowsCell p (as_shut c (shut_end o c.end))
+  known_one c None h k =
+      subst (λ (e : End Leaf). KnowsCell p (as_shut c e)) (sym (unproved_stays c.end))
+      (known_end p c (as_shut c c.end) k refl refl k.end)
   known_one c (Some m) h k = by (is_open c.end) refl
     where
       by : (b : Bool) → is_open c.end ≡ b → KnowsCell p (as_shut c (shut_end (Some m) c.end))
-      by false e = subst (λ (d : End Leaf). KnowsCell p (as_shut c d)) (sym (closed_stays m c.end e)) (known_end p c (as_shut c c.end) k refl refl k.end)
-      by true e = subst (λ (d : End Leaf). KnowsCell p (as_shut c (shut_end (Some m) d))) (sym (open_leaf c.end e))
-          (known_end p c (as_shut c (leaf (shut_as m))) k refl refl (shut_known p (claimed_cost (claim_with s.best)) (place_of c) m h))
+      by false e =
+          subst (λ (d : End Leaf). KnowsCell p (as_shut c d)) (sym (closed_stays m c.end e))
+          (known_end p c (as_shut c c.end) k refl refl k.end)
+      by true e =
+          subst (λ (d : End Leaf). KnowsCell p (as_shut c (shut_end (Some m) d)))
+          (sym (open_leaf c.end e))
+          (known_end p c (as_shut c (leaf (shut_as m))) k refl refl
+          (shut_known p (claimed_cost (claim_with s.best)) (place_of c) m h))
 
   known_shut : AreKnown p (shut_cells ms s.pool.payloads)
-  known_shut j lt = subst (λ (c : Cell). KnowsCell p c) (sym (shut_at ms s.pool.payloads j (within j lt))) (known_one (cell_at s.pool.payloads j) (proof_of ms j) (may j (within j lt)) (t.known j (within j lt)))
+  known_shut j lt =
+      subst (λ (c : Cell). KnowsCell p c) (sym (shut_at ms s.pool.payloads j (within j lt)))
+      (known_one (cell_at s.pool.payloads j) (proof_of ms j) (may j (within j lt))
+      (t.known j (within j lt)))
 
   -- no leaf is bounded if nothing is claimed
-  none_bounded : s.best ≡ None → (j : ℕ) (m : Scaled) → j < length s.pool.payloads → proof_of ms j ≡ Some (shuts.Bounded m) → ⊥
+  none_bounded : s.best ≡ None → (j : ℕ) (m : Scaled) → j < length s.pool.payloads
+      → proof_of ms j ≡ Some (shuts.Bounded m) → ⊥
   none_bounded none j m lt e =
-      let h : ShutsNode p (claimed_cost (claim_with s.best)) (place_of (cell_at s.pool.payloads j)) (shuts.Bounded m)
-      = subst (λ (o : Option Shut). ShutsIfSome p (claimed_cost (claim_with s.best)) (place_of (cell_at s.pool.payloads j)) o) e (may j lt) in
-      let b = subst (λ (o : Option claims.Network). IsBounded p (claimed_cost (claim_with o)) (place_of (cell_at s.pool.payloads j)) m.d m.ys) none h.bounded in
+      let h : ShutsNode p (claimed_cost (claim_with s.best)) (place_of (cell_at s.pool.payloads j))
+      (shuts.Bounded m)
+      = subst
+      (λ (o : Option Shut). ShutsIfSome p (claimed_cost (claim_with s.best))
+      (place_of (cell_at s.pool.payloads j)) o) e (may j lt) in
+      let b =
+      subst
+      (λ (o : Option claims.Network). IsBounded p (claimed_cost (claim_with o))
+      (place_of (cell_at s.pool.payloads j)) m.d m.ys) none h.bounded in
       b.reaches
 
   bounded_now : has_bounded (shut_cells ms s.pool.payloads) ≡ true → is_some s.best ≡ true
@@ -174,7 +220,15 @@ module _ (p : Problem) (s : Growing) (t : IsTreeKept p s) (ms : List (Option Shu
     start = s.start;
     budget = s.budget;
     nodes = s.nodes;
-    pool = record { parents = s.pool.parents; values = s.pool.values; payloads = shut_cells ms s.pool.payloads; leaves = s.pool.leaves; spare = s.pool.spare };
+    pool =
+        record {
+          parents = s.pool.parents;
+          values = s.pool.values;
+          payloads =
+              shut_cells ms s.pool.payloads;
+          leaves = s.pool.leaves;
+          spare = s.pool.spare;
+        };
     ready = s.ready;
     best = s.best;
     stop = s.stop;
@@ -183,7 +237,9 @@ module _ (p : Problem) (s : Growing) (t : IsTreeKept p s) (ms : List (Option Shu
   pub closed_tree : IsTreeKept p closed
   closed_tree = record {
     last = t.last;
-    kept = shutting_is_kept p (node_of s.start) (claim_with s.best) (claimed_cost (claim_with s.best)) t.last s.pool.payloads (shut_cells ms s.pool.payloads) t.kept are_shut;
+    kept =
+        shutting_is_kept p (node_of s.start) (claim_with s.best) (claimed_cost (claim_with s.best))
+        t.last s.pool.payloads (shut_cells ms s.pool.payloads) t.kept are_shut;
     passes = t.passes;
     bounded = bounded_now;
     known = known_shut;
@@ -194,48 +250,77 @@ module _ (p : Problem) (s : Growing) (t : IsTreeKept p s) (ms : List (Option Shu
 
 -- ---- all open leaves are shut
 
-module _ (p : Problem) (s : Growing) (t : IsTreeKept p s) (ms : List (Option Shut)) (all : ShutAll p s (claimed_cost (claim_with s.best)) ms) where
+module _ (p : Problem) (s : Growing) (t : IsTreeKept p s) (ms : List (Option Shut))
+    (all : ShutAll p s (claimed_cost (claim_with s.best)) ms) where
   may_all : ShutSome p s (claimed_cost (claim_with s.best)) ms
-  may_all j lt = may_shut p (claimed_cost (claim_with s.best)) (cell_at s.pool.payloads j) (proof_of ms j) (all j lt)
+  may_all j lt =
+      may_shut p (claimed_cost (claim_with s.best)) (cell_at s.pool.payloads j) (proof_of ms j)
+      (all j lt)
 
-  none_open : (j : ℕ) → j < length (shut_cells ms s.pool.payloads) → (cell_at (shut_cells ms s.pool.payloads) j).end ≡ leaf untried → ⊥
-  none_open j lt e = by (proof_of ms j) (all j less) (ap (λ (c : Cell). c.end) (sym (shut_at ms s.pool.payloads j less)) ∙ e)
+  none_open : (j : ℕ) → j < length (shut_cells ms s.pool.payloads)
+      → (cell_at (shut_cells ms s.pool.payloads) j).end ≡ leaf untried → ⊥
+  none_open j lt e =
+      by (proof_of ms j) (all j less)
+      (ap (λ (c : Cell). c.end) (sym (shut_at ms s.pool.payloads j less)) ∙ e)
     where
       less : j < length s.pool.payloads
       less = let n = shut_length ms s.pool.payloads in omega (arith, lt, n)
 
-      by : (o : Option Shut) → ShutsLeaf p (claimed_cost (claim_with s.best)) (cell_at s.pool.payloads j) o → shut_end o (cell_at s.pool.payloads j).end ≡ leaf untried → ⊥
+      by : (o : Option Shut)
+          → ShutsLeaf p (claimed_cost (claim_with s.best)) (cell_at s.pool.payloads j) o
+          → shut_end o (cell_at s.pool.payloads j).end ≡ leaf untried → ⊥
       by None h k = h (sym (unproved_stays (cell_at s.pool.payloads j).end) ∙ k)
       by (Some m) h k = no_open m (cell_at s.pool.payloads j).end k
 
-  pub closed_found : (Past : PastPlaces) (place : ℕ) (tree : Tree) → IsTreeOf (shut_cells ms s.pool.payloads) 0 tree place → IfSome s.best IsSized → (budget : ℕ)
+  pub closed_found : (Past : PastPlaces) (place : ℕ) (tree : Tree)
+      → IsTreeOf (shut_cells ms s.pool.payloads) 0 tree place → IfSome s.best IsSized → (budget : ℕ)
       → IsFoundBy Past p (node_of s.start) budget (found_with s.best tree)
-  closed_found Past place tree of sized budget = whole_found p (closed p s t ms may_all) (closed_tree p s t ms may_all) 0 place tree of sized Past budget s.start refl none_open
+  closed_found Past place tree of sized budget =
+      whole_found p (closed p s t ms may_all) (closed_tree p s t ms may_all) 0 place tree of sized
+      Past budget s.start refl none_open
 
 -- ---- refuted leaves are shut
 
-module _ {Past : PastPlaces} {undercut : Option CostOver} (p : Problem) (s : Growing) (g : IsGrowingFor Past p undercut s) (ms : List (Option Shut)) (shut : RefutedShut s ms) where
-  refuted_by_hand : (claimed : Option CostOver) (j : ℕ) → j < length s.pool.payloads → (ys : List ℤ) → refutation_of (hand_of s j) ≡ Some ys → AreInRange (Some ys) → ShutsNode p claimed (place_of (cell_at s.pool.payloads j)) (shuts.Refuted ys)
+module _ {Past : PastPlaces} {undercut : Option CostOver} (p : Problem) (s : Growing)
+    (g : IsGrowingFor Past p undercut s) (ms : List (Option Shut)) (shut : RefutedShut s ms) where
+  refuted_by_hand : (claimed : Option CostOver) (j : ℕ) → j < length s.pool.payloads → (ys : List ℤ)
+      → refutation_of (hand_of s j) ≡ Some ys → AreInRange (Some ys)
+      → ShutsNode p claimed (place_of (cell_at s.pool.payloads j)) (shuts.Refuted ys)
   refuted_by_hand claimed j lt ys e range = by (hand_of s j) refl e
     where
-      by : (o : Option Ready) → hand_of s j ≡ o → refutation_of o ≡ Some ys → ShutsNode p claimed (place_of (cell_at s.pool.payloads j)) (shuts.Refuted ys)
+      by : (o : Option Ready) → hand_of s j ≡ o → refutation_of o ≡ Some ys
+          → ShutsNode p claimed (place_of (cell_at s.pool.payloads j)) (shuts.Refuted ys)
       by None h k = absurd (let q : None ≡ Some ys = k in cc)
       by (Some q) h k =
           let a = hand_some p s g j lt q h in
-          record { refuted = ready_refuted Past p (place_of (cell_at s.pool.payloads j)) a.value q a.known ys k; multipliers = range }
+          record {
+            refuted =
+                ready_refuted Past p (place_of (cell_at s.pool.payloads j)) a.value q a.known ys k;
+            multipliers = range;
+          }
 
   -- the item at a number may shut the leaf there, whatever is claimed
   pub refuted_may : (claimed : Option CostOver) → ShutSome p s claimed ms
-  refuted_may claimed j lt = subst (λ (o : Option Shut). ShutsIfSome p claimed (place_of (cell_at s.pool.payloads j)) o) (sym (shut j lt).0) (by (refutation_of (hand_of s j)) refl (shut j lt).1)
+  refuted_may claimed j lt =
+      subst (λ (o : Option Shut). ShutsIfSome p claimed (place_of (cell_at s.pool.payloads j)) o)
+      (sym (shut j lt).0) (by (refutation_of (hand_of s j)) refl (shut j lt).1)
     where
-      by : (o : Option (List ℤ)) → refutation_of (hand_of s j) ≡ o → AreInRange o → ShutsIfSome p claimed (place_of (cell_at s.pool.payloads j)) (refuted_by o)
+      by : (o : Option (List ℤ)) → refutation_of (hand_of s j) ≡ o → AreInRange o
+          → ShutsIfSome p claimed (place_of (cell_at s.pool.payloads j)) (refuted_by o)
       by None e r = tt
       by (Some ys) e r = refuted_by_hand claimed j lt ys e r
 
   -- all open leaves are shut if each is refuted
-  pub refuted_all : ((j : ℕ) → j < length s.pool.payloads → (cell_at s.pool.payloads j).end ≡ leaf untried → is_refuted (ready_at s j) ≡ true) → (claimed : Option CostOver) → ShutAll p s claimed ms
-  refuted_all each claimed j lt = subst (λ (o : Option Shut). ShutsLeaf p claimed (cell_at s.pool.payloads j) o) (sym (shut j lt).0) (by (refutation_of (hand_of s j)) refl (shut j lt).1)
+  pub refuted_all : ((j : ℕ) → j < length s.pool.payloads
+      → (cell_at s.pool.payloads j).end ≡ leaf untried → is_refuted (ready_at s j) ≡ true)
+      → (claimed : Option CostOver) → ShutAll p s claimed ms
+  refuted_all each claimed j lt =
+      subst (λ (o : Option Shut). ShutsLeaf p claimed (cell_at s.pool.payloads j) o)
+      (sym (shut j lt).0) (by (refutation_of (hand_of s j)) refl (shut j lt).1)
     where
-      by : (o : Option (List ℤ)) → refutation_of (hand_of s j) ≡ o → AreInRange o → ShutsLeaf p claimed (cell_at s.pool.payloads j) (refuted_by o)
-      by None e r = λ u. true≢false (sym (each j lt u) ∙ ap (λ (o : Option (List ℤ)). is_some o) (ap refutation_of (sym (hand_there s j u)) ∙ e))
+      by : (o : Option (List ℤ)) → refutation_of (hand_of s j) ≡ o → AreInRange o
+          → ShutsLeaf p claimed (cell_at s.pool.payloads j) (refuted_by o)
+      by None e r =
+          λ u. true≢false (sym (each j lt u)
+          ∙ ap (λ (o : Option (List ℤ)). is_some o) (ap refutation_of (sym (hand_there s j u)) ∙ e))
       by (Some ys) e r = refuted_by_hand claimed j lt ys e r

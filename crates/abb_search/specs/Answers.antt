@@ -9,7 +9,8 @@ use Rattle.turn_laws.specs.Values.{IsPositiveCost}
 use Rattle.node_evaluation.specs.Evaluated.{PastPlaces}
 use Rattle.node_evaluation.specs.Looks.{cost_of}
 use Rattle.abb_search.specs.declared.outcome.Found.{Found}
-use Rattle.abb_search.specs.declared.outcome.Found.TheVariants.{Solved, Infeasible, Spent, Past, Memory}
+use Rattle.abb_search.specs.declared.outcome.Found.TheVariants.{Solved, Infeasible, Spent, Past}
+use Rattle.abb_search.specs.declared.outcome.Found.TheVariants.{Memory}
 use Rattle.abb_search.specs.declared.growing.Growing.{Growing}
 use Rattle.abb_search.specs.declared.growing.StoppedLeaf.{StoppedLeaf}
 use Rattle.abb_search.specs.Growing.{IsGoing}
@@ -43,7 +44,8 @@ pub record IsMore (Stops : PastPlaces) (p : Problem) (old new : Growing) : Type 
   pub budget : new.budget ≡ old.budget
 
 -- or it ends, with the same number of nodes
-pub record IsEnd (Stops : PastPlaces) (p : Problem) (old new : Growing) (found : Found) : Type 0 where
+pub record IsEnd (Stops : PastPlaces) (p : Problem) (old new : Growing) (found : Found) : Type
+    0 where
   pub is_found : IsFoundBy Stops p (node_of old.start) old.budget found
   pub answers : found ≡ Memory → ⊥
   pub against : IsAgainst old.best found

@@ -1,5 +1,6 @@
 -- What shuts the open leaves, if a network costs no more than any of them, or if they are refuted.
-use Rattle.std.specs.Prelude.{◌≡◌, ℕ, ◌+◌, ℤ, ◌<◌, true, length, cond, List, Option, Some, None, slice_index_or}
+use Rattle.std.specs.Prelude.{◌≡◌, ℕ, ◌+◌, ℤ, ◌<◌, true, length, cond, List, Option, Some, None}
+use Rattle.std.specs.Prelude.{slice_index_or}
 use Rattle.std.specs.List.{slice_get}
 use Rattle.link_lists.specs.Lists.{has}
 use Rattle.integer_laws.specs.Range.{InRange, AllInRange}
@@ -36,16 +37,20 @@ use Rattle.abb_search.specs.Growing.{IsSettledAt, IsStoppedAt}
 
 -- the network costs no more than the value of any open leaf of the pool
 pub record AreBeaten (s : Growing) (w : claims.Network) : Type 0 where
-  pub each : (j : ℕ) (v : Mixed) → has s.pool.leaves j ≡ true → slice_get s.pool.values j ≡ Some v → IsNoMore (cost_in w) (cost_over v)
+  pub each : (j : ℕ) (v : Mixed) → has s.pool.leaves j ≡ true → slice_get s.pool.values j ≡ Some v
+      → IsNoMore (cost_in w) (cost_over v)
 
 -- what is stored for a node, if it is an open leaf
 abbrev pub hand_of : Growing → ℕ → Option Ready
-hand_of s j = cond (is_open (cell_at s.pool.payloads j).end) (get s.ready (cell_at s.pool.payloads j).key) None
+hand_of s j =
+    cond (is_open (cell_at s.pool.payloads j).end) (get s.ready (cell_at s.pool.payloads j).key)
+    None
 
 -- ---- what shuts a leaf
 
 -- these multipliers prove that no relaxed flows of the node cost less than what is claimed
-pub record ProvesLeaf (p : Problem) (claimed : Option CostOver) (n : Node) (m : Scaled) : Type 0 where
+pub record ProvesLeaf (p : Problem) (claimed : Option CostOver) (n : Node) (m : Scaled) : Type
+    0 where
   pub bounded : IsBounded p claimed n m.d m.ys
   pub scale : InRange m.d
   pub multipliers : AllInRange m.ys
@@ -66,7 +71,8 @@ ShutsLeaf p claimed c (Some m) = ShutsNode p claimed (place_of c) m
 
 -- all open leaves are shut, each by the item at its number
 abbrev pub ShutAll : Problem → Growing → Option CostOver → List (Option Shut) → Type 0
-ShutAll p s claimed ms = (j : ℕ) → j < length s.pool.payloads → ShutsLeaf p claimed (cell_at s.pool.payloads j) (slice_index_or ms j None)
+ShutAll p s claimed ms = (j : ℕ) → j < length s.pool.payloads
+    → ShutsLeaf p claimed (cell_at s.pool.payloads j) (slice_index_or ms j None)
 
 -- what shuts a leaf shuts its node; no leaf has to be shut
 abbrev pub ShutsIfSome : Problem → Option CostOver → Node → Option Shut → Type 0
@@ -75,7 +81,8 @@ ShutsIfSome p claimed n (Some m) = ShutsNode p claimed n m
 
 -- some leaves may be shut, each by the item at its number
 abbrev pub ShutSome : Problem → Growing → Option CostOver → List (Option Shut) → Type 0
-ShutSome p s claimed ms = (j : ℕ) → j < length s.pool.payloads → ShutsIfSome p claimed (place_of (cell_at s.pool.payloads j)) (slice_index_or ms j None)
+ShutSome p s claimed ms = (j : ℕ) → j < length s.pool.payloads
+    → ShutsIfSome p claimed (place_of (cell_at s.pool.payloads j)) (slice_index_or ms j None)
 
 -- ---- if a network costs no more than any open leaf
 
@@ -111,20 +118,26 @@ AreInRange (Some ys) = AllInRange ys
 -- each open leaf that is refuted has its refutation at its number, and the others have nothing
 abbrev pub RefutedShut : Growing → List (Option Shut) → Type 0
 RefutedShut s ms =
-    (j : ℕ) → j < length s.pool.payloads → (slice_index_or ms j None ≡ refuted_by (refutation_of (hand_of s j))) × AreInRange (refutation_of (hand_of s j))
+    (j : ℕ) → j < length s.pool.payloads
+    → (slice_index_or ms j None ≡ refuted_by (refutation_of (hand_of s j)))
+    × AreInRange (refutation_of (hand_of s j))
 
 -- ---- the budget is spent
 
 -- With some open leaves shut, all others are pending. The leaf is one of these, and a least open
 -- one. It may undercut the cost, and the nodes with its children are more than the budget.
-pub record IsSpentFor (p : Problem) (undercut : Option CostOver) (s : Growing) (ms : List (Option Shut)) (at options : ℕ) : Type 0 where
+pub record IsSpentFor (p : Problem) (undercut : Option CostOver) (s : Growing)
+    (ms : List (Option Shut)) (at options : ℕ) : Type 0 where
   pub shut : ShutSome p s undercut ms
   pub stays : slice_index_or ms at None ≡ None
   pub way : Way
   pub can : CanBranch p s.pool.payloads at way
   pub least : IsLeastOpen p s.pool.payloads at
   pub may : MayUndercut p undercut (place_of (cell_at s.pool.payloads at))
-  pub pending : (j : ℕ) → j < length s.pool.payloads → (cell_at s.pool.payloads j).end ≡ leaf untried → slice_index_or ms j None ≡ None → IsPending p (place_of (cell_at s.pool.payloads j))
+  pub pending : (j : ℕ) → j < length s.pool.payloads
+      → (cell_at s.pool.payloads j).end ≡ leaf untried → slice_index_or ms j None ≡ None
+      → IsPending p (place_of (cell_at s.pool.payloads j))
   pub count_is : IsNextCount (shape_of p) (place_of (cell_at s.pool.payloads at)) options
-  pub as_many : options ≡ length (options_at (shape_of p) (place_of (cell_at s.pool.payloads at)) way)
+  pub as_many : options
+      ≡ length (options_at (shape_of p) (place_of (cell_at s.pool.payloads at)) way)
   pub over : s.budget < length s.pool.payloads + options

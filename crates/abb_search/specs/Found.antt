@@ -13,7 +13,8 @@ use Rattle.node_evaluation.specs.Evaluated.{PastPlaces}
 use Rattle.node_evaluation.specs.Children.{claim_with}
 use Rattle.tree_rules.specs.Past.{IsPastAt}
 use Rattle.abb_search.specs.declared.outcome.Found.{Found}
-use Rattle.abb_search.specs.declared.outcome.Found.TheVariants.{Solved, Infeasible, Spent, Past, Memory}
+use Rattle.abb_search.specs.declared.outcome.Found.TheVariants.{Solved, Infeasible, Spent, Past}
+use Rattle.abb_search.specs.declared.outcome.Found.TheVariants.{Memory}
 
 -- the network, or that there is none
 abbrev pub found_with : Option claims.Network → Tree → Found
@@ -25,9 +26,12 @@ abbrev pub IsFoundBy : PastPlaces → Problem → Node → ℕ → Found → Typ
 IsFoundBy Stops p start budget (Solved w tree) = IsProved p start (claims.network w) tree
 IsFoundBy Stops p start budget (Infeasible tree) = IsProved p start claims.infeasible tree
 IsFoundBy Stops p start budget (Spent best tree next options) =
-    IsStopped p start (claim_with best) tree × IsSpent p IsUntried (claimed_cost (claim_with best)) start tree next options budget × IsBelowLimit p budget
+    IsStopped p start (claim_with best) tree
+    × IsSpent p IsUntried (claimed_cost (claim_with best)) start tree next options budget
+    × IsBelowLimit p budget
 IsFoundBy Stops p start budget (Past best tree node nonbasic place) =
-    IsStopped p start (claim_with best) tree × IsPast p IsUntried start tree (λ n. Stops p n nonbasic place) node
+    IsStopped p start (claim_with best) tree
+    × IsPast p IsUntried start tree (λ n. Stops p n nonbasic place) node
 IsFoundBy Stops p start budget Memory = Unit {0}
 
 -- what a search over the simplex method finds

@@ -1,5 +1,6 @@
 -- What a search keeps between two turns, and what a turn does.
-use Rattle.std.specs.Prelude.{◌≡◌, ◌⊎◌, ℕ, ◌+◌, ◌-◌, ◌^◌, ◌<◌, ◌≤◌, true, cond, ◌||◌, List, [], ◌∷◌, ◌++◌, length, slice_set, Option, Some, None, is_some}
+use Rattle.std.specs.Prelude.{◌≡◌, ◌⊎◌, ℕ, ◌+◌, ◌-◌, ◌^◌, ◌<◌, ◌≤◌, true, cond, ◌||◌, List, [], ◌∷◌}
+use Rattle.std.specs.Prelude.{◌++◌, length, slice_set, Option, Some, None, is_some}
 use Rattle.std.specs.List.{slice_get}
 use Rattle.link_lists.specs.Lists.{has}
 use Rattle.problem_rules.specs.Problem.{Problem}
@@ -56,11 +57,14 @@ ready_at s at = get s.ready (cell_at s.pool.payloads at).key
 -- each leaf of the pool is open, and each open leaf is one of the pool or is refuted, though its
 -- cell stays open
 pub record AreOpen (s : Growing) : Type 0 where
-  pub opens : (j : ℕ) → j < length s.pool.payloads → has s.pool.leaves j ≡ true → (cell_at s.pool.payloads j).end ≡ leaf untried
-  pub others : (j : ℕ) → j < length s.pool.payloads → (cell_at s.pool.payloads j).end ≡ leaf untried → (has s.pool.leaves j ≡ true) ⊎ (is_refuted (ready_at s j) ≡ true)
+  pub opens : (j : ℕ) → j < length s.pool.payloads → has s.pool.leaves j ≡ true
+      → (cell_at s.pool.payloads j).end ≡ leaf untried
+  pub others : (j : ℕ) → j < length s.pool.payloads → (cell_at s.pool.payloads j).end ≡ leaf untried
+      → (has s.pool.leaves j ≡ true) ⊎ (is_refuted (ready_at s j) ≡ true)
 
 -- and each open leaf has its data stored
-pub record IsGrowingFor (Past : PastPlaces) (p : Problem) (undercut : Option CostOver) (s : Growing) : Type 0 where
+pub record IsGrowingFor (Past : PastPlaces) (p : Problem) (undercut : Option CostOver)
+    (s : Growing) : Type 0 where
   pub tree : IsTreeKeptFor p undercut s
   pub are_open : AreOpen s
   pub ready : AreAtHand Past p s.pool.payloads s.pool.values s.ready
@@ -80,7 +84,8 @@ choice_of (Some r) = r.choice
 -- no open leaf has a smaller value than this one
 abbrev pub HasLeastValue : Growing → ℕ → Type 0
 HasLeastValue s at =
-    (v : Mixed) → slice_get s.pool.values at ≡ Some v → (j : ℕ) → has s.pool.leaves j ≡ true → (j ≡ at → ⊥) → (w : Mixed) → slice_get s.pool.values j ≡ Some w
+    (v : Mixed) → slice_get s.pool.values at ≡ Some v → (j : ℕ) → has s.pool.leaves j ≡ true
+    → (j ≡ at → ⊥) → (w : Mixed) → slice_get s.pool.values j ≡ Some w
     → IsNoMore (cost_over v) (cost_over w)
 
 -- ---- which leaf may be branched
@@ -106,7 +111,8 @@ pub record IsReachedAt (s : Growing) (at : ℕ) (reached : Mixed) : Type 0 where
 -- some relaxed flows of the leaf, if it is settled, cost at most any other open leaf's value
 abbrev pub IsLeastLeaf : Growing → ℕ → Type 0
 IsLeastLeaf s at =
-    (v : Mixed) → slice_get s.pool.values at ≡ Some v → (j : ℕ) → has s.pool.leaves j ≡ true → (j ≡ at → ⊥) → (w : Mixed) → slice_get s.pool.values j ≡ Some w
+    (v : Mixed) → slice_get s.pool.values at ≡ Some v → (j : ℕ) → has s.pool.leaves j ≡ true
+    → (j ≡ at → ⊥) → (w : Mixed) → slice_get s.pool.values j ≡ Some w
     → IsNoMore (cost_over (reached_by v (interval_of (ready_at s at)))) (cost_over w)
 
 -- the interval reaches more than the value of the next leaf in the order of the open leaves
@@ -115,13 +121,15 @@ pub record IsHeldUp (s : Growing) (at : ℕ) : Type 0 where
   pub is_behind : second s.pool.leaves ≡ Some behind
   pub value : Mixed
   pub value_is : slice_get s.pool.values behind ≡ Some value
-  pub reaches_more : IsNoMore (cost_over (reached_by value (interval_of (ready_at s at)))) (cost_over value) → ⊥
+  pub reaches_more : IsNoMore (cost_over (reached_by value (interval_of (ready_at s at))))
+      (cost_over value) → ⊥
 
 -- some cost at most as much as this
 abbrev pub LeafUndercuts : Growing → Option CostOver → ℕ → Type 0
 LeafUndercuts s undercut at =
     (v : Mixed) → slice_get s.pool.values at ≡ Some v
-    → IsAtMost undercut (numerator (reached_by v (interval_of (ready_at s at)))) (denominator (reached_by v (interval_of (ready_at s at))))
+    → IsAtMost undercut (numerator (reached_by v (interval_of (ready_at s at))))
+    (denominator (reached_by v (interval_of (ready_at s at))))
 
 -- ---- a leaf that stops the search
 
@@ -135,15 +143,18 @@ leaf_of None = None
 leaf_of (Some h) = Some h.leaf
 
 -- the leaf is open and stops the search
-pub record IsStoppedAt (Past : PastPlaces) (p : Problem) (s : Growing) (at : ℕ) (h : PastStop) : Type 0 where
+pub record IsStoppedAt (Past : PastPlaces) (p : Problem) (s : Growing) (at : ℕ)
+    (h : PastStop) : Type 0 where
   pub there : at < length s.pool.payloads
   pub is_open : (cell_at s.pool.payloads at).end ≡ leaf untried
   pub stopped : IsStop Past p (place_of (cell_at s.pool.payloads at)) h
 
 -- between two turns: each open leaf has its data stored, or one stops the search
-abbrev pub GoesOnFor : PastPlaces → Problem → Option CostOver → Growing → Option StoppedLeaf → Type 0
+abbrev pub GoesOnFor : PastPlaces → Problem → Option CostOver → Growing → Option StoppedLeaf
+    → Type 0
 GoesOnFor Past p undercut s None = IsGrowingFor Past p undercut s
-GoesOnFor Past p undercut s (Some h) = IsTreeKeptFor p undercut s × IsStoppedAt Past p s h.leaf h.stop
+GoesOnFor Past p undercut s (Some h) =
+    IsTreeKeptFor p undercut s × IsStoppedAt Past p s h.leaf h.stop
 
 abbrev pub GoesOn : PastPlaces → Problem → Growing → Option StoppedLeaf → Type 0
 GoesOn Past p s h = GoesOnFor Past p (claimed_cost (claim_with s.best)) s h
@@ -158,7 +169,8 @@ abbrev pub open_cell : starts.Node → Cell
 open_cell n = record { option = []; steps = []; node = n; first = 0; end = leaf untried; key = 0 }
 
 -- the tree is the open root, and this network is to be undercut
-pub record IsOpenRoot (start : starts.Node) (budget : ℕ) (best : Option claims.Network) (s : Growing) : Type 0 where
+pub record IsOpenRoot (start : starts.Node) (budget : ℕ) (best : Option claims.Network)
+    (s : Growing) : Type 0 where
   pub start_is : s.start ≡ start
   pub budget_is : s.budget ≡ budget
   pub nodes_are : s.nodes ≡ 1
@@ -171,7 +183,8 @@ root_stop (Some h) = Some (record { leaf = 0; stop = h })
 
 -- the tree is the root after its look, and the best network is the cheaper one of that to be
 -- undercut and that found there
-pub record IsLookedRoot (Past : PastPlaces) (p : Problem) (start : starts.Node) (budget : ℕ) (best : Option claims.Network) (s : Growing) : Type 0 where
+pub record IsLookedRoot (Past : PastPlaces) (p : Problem) (start : starts.Node) (budget : ℕ)
+    (best : Option claims.Network) (s : Growing) : Type 0 where
   pub looked : Looked
   pub is_looked : IsLooked Past p (node_of start) [] looked
   pub start_is : s.start ≡ start
@@ -179,7 +192,8 @@ pub record IsLookedRoot (Past : PastPlaces) (p : Problem) (start : starts.Node) 
   pub nodes_are : s.nodes ≡ 1
   pub root : Fresh
   pub empty : Slab Ready
-  pub placed : IsPlaced (record { cell = looked.cell; value = looked.value }) root looked.ready empty s.ready
+  pub placed : IsPlaced (record { cell = looked.cell; value = looked.value }) root looked.ready
+      empty s.ready
   pub cells_are : s.pool.payloads ≡ root.cell ∷ []
   pub values_are : s.pool.values ≡ root.value ∷ []
   pub which : (s.best ≡ best) ⊎ (s.best ≡ looked.network)
@@ -210,7 +224,8 @@ pub record IsSame (Past : PastPlaces) (p : Problem) (old new : Growing) : Type 0
   pub cells : new.pool.payloads ≡ old.pool.payloads
   pub best : new.best ≡ old.best
   pub stop : new.stop ≡ old.stop
-  pub growing : (undercut : Option CostOver) → IsGrowingFor Past p undercut old → IsGrowingFor Past p undercut new
+  pub growing : (undercut : Option CostOver) → IsGrowingFor Past p undercut old
+      → IsGrowingFor Past p undercut new
 
 -- all is as before but what is stored for the open leaves
 pub record IsSameButHand (old new : Growing) : Type 0 where
@@ -229,7 +244,8 @@ stop_at first (Some h) = Some (record { leaf = first + h.at; stop = h.stop })
 
 -- Leaf `at` is branched in this way, at the node n, and its children are as they are seen, with
 -- keys. The best network is then the cheaper one of the two.
-pub record IsBranching (Past : PastPlaces) (p : Problem) (n : Node) (old new : Growing) (at : ℕ) (w : Way) : Type 0 where
+pub record IsBranching (Past : PastPlaces) (p : Problem) (n : Node) (old new : Growing) (at : ℕ)
+    (w : Way) : Type 0 where
   pub seen : Children
   pub are_seen : AreSeen Past p n w seen
   pub children : List Fresh
@@ -237,7 +253,10 @@ pub record IsBranching (Past : PastPlaces) (p : Problem) (n : Node) (old new : G
   pub frees : Updates old.ready freed (cell_at old.pool.payloads at).key None
   pub placed : ArePlaced seen.nodes.items children seen.ready.items freed new.ready
   pub wide : width w ≡ length (cells_of children)
-  pub cells : new.pool.payloads ≡ slice_set old.pool.payloads at (as_parent (cell_at old.pool.payloads at) (length old.pool.payloads) (branch w)) ++ cells_of children
+  pub cells : new.pool.payloads
+      ≡ slice_set
+      old.pool.payloads at (as_parent (cell_at old.pool.payloads at) (length old.pool.payloads)
+      (branch w)) ++ cells_of children
   pub values : new.pool.values ≡ old.pool.values ++ values_of children
   pub best : (new.best ≡ old.best) ⊎ (new.best ≡ seen.best)
   pub fallen : HasFallen (cost_of old.best) (cost_of new.best)

@@ -1,5 +1,6 @@
 -- What a round of a turn leads to: which leaf is branched next, or how the search ends.
-use Rattle.std.specs.Prelude.{◌≡◌, ◌⊎◌, ℕ, ◌+◌, ◌^◌, ◌<◌, ◌≤◌, true, length, Option, Some, None, option_copied}
+use Rattle.std.specs.Prelude.{◌≡◌, ◌⊎◌, ℕ, ◌+◌, ◌^◌, ◌<◌, ◌≤◌, true, length, Option, Some, None}
+use Rattle.std.specs.Prelude.{option_copied}
 use Rattle.std.specs.List.{slice_get}
 use Rattle.link_lists.specs.Lists.{has}
 use Rattle.problem_rules.specs.Problem.{Problem}
@@ -21,7 +22,8 @@ use Rattle.abb_search.specs.declared.rounds.Ending.{Ending}
 use Rattle.abb_search.specs.declared.rounds.Ending.TheVariants as endings
 use Rattle.abb_search.specs.declared.rounds.Next.{Next}
 use Rattle.abb_search.specs.declared.rounds.Next.TheVariants as nexts
-use Rattle.abb_search.specs.Growing.{IsSettledAt, HasInterval, IsLeastLeaf, IsHeldUp, LeafUndercuts, IsStoppedAt, ready_at, choice_of}
+use Rattle.abb_search.specs.Growing.{IsSettledAt, HasInterval, IsLeastLeaf, IsHeldUp, LeafUndercuts}
+use Rattle.abb_search.specs.Growing.{IsStoppedAt, ready_at, choice_of}
 use Rattle.abb_search.specs.Settling.{waiting}
 use Rattle.abb_search.specs.Closing.{ShutAll, IsSpentFor}
 
@@ -34,28 +36,34 @@ undercut_of (goals.Given w) s = cost_of (option_copied w)
 -- what is to be undercut
 abbrev pub IsBeating : Option CostOver → Mixed → Option Network → Type 0
 IsBeating undercut value None = IsAtMost undercut (numerator value) (denominator value)
-IsBeating undercut value (Some w) = (undercut ≡ Some (cost_in w)) × IsNoMore (cost_in w) (cost_over value)
+IsBeating undercut value (Some w) = (undercut ≡ Some (cost_in w))
+    × IsNoMore (cost_in w) (cost_over value)
 
 -- the leaf's value is at most what is to be undercut
 abbrev pub ValueUndercuts : Growing → Option CostOver → ℕ → Type 0
-ValueUndercuts s undercut at = (v : Mixed) → slice_get s.pool.values at ≡ Some v → IsAtMost undercut (numerator v) (denominator v)
+ValueUndercuts s undercut at = (v : Mixed) → slice_get s.pool.values at ≡ Some v
+    → IsAtMost undercut (numerator v) (denominator v)
 
 -- If the network that is to be undercut costs no more than any open leaf, all of these are shut; or
 -- a number overflows at a settled one. That one is a least leaf if it has relaxed flows that cost
 -- at most what is to be undercut.
 abbrev pub ClosingHolds : PastPlaces → Problem → Growing → Option CostOver → Closing → Type 0
 ClosingHolds Past p s undercut (Proved ms) = ShutAll p s undercut ms.items
-ClosingHolds Past p s undercut (Stopped h) = IsStoppedAt Past p s h.leaf h.stop × IsSettledAt s h.leaf × (LeafUndercuts s undercut h.leaf → IsLeastLeaf s h.leaf)
+ClosingHolds Past p s undercut (Stopped h) =
+    IsStoppedAt Past p s h.leaf h.stop × IsSettledAt s h.leaf
+    × (LeafUndercuts s undercut h.leaf → IsLeastLeaf s h.leaf)
 
 -- that holds, or the value of the leaf is at most what is to be undercut
-abbrev pub IsClosing : PastPlaces → Problem → Growing → Option CostOver → ℕ → Option Closing → Type 0
+abbrev pub IsClosing : PastPlaces → Problem → Growing → Option CostOver → ℕ → Option Closing
+    → Type 0
 IsClosing Past p s undercut at None = ValueUndercuts s undercut at
 IsClosing Past p s undercut at (Some closing) = ClosingHolds Past p s undercut closing
 
 -- how the search ends
 abbrev pub EndsWith : PastPlaces → Problem → Growing → Option CostOver → Ending → Type 0
 EndsWith Past p s undercut (endings.Whole proofs) = ShutAll p s undercut proofs.items
-EndsWith Past p s undercut (endings.Spent at options refuted) = IsSpentFor p undercut s refuted.items at options
+EndsWith Past p s undercut (endings.Spent at options refuted) =
+    IsSpentFor p undercut s refuted.items at options
 EndsWith Past p s undercut (endings.Past h) = IsStoppedAt Past p s h.leaf h.stop
 
 -- the leaf is open, its worth is settled, and it has relaxed flows that cost at most any other open
@@ -86,7 +94,8 @@ IsNext Past p s undercut (nexts.End ending) = EndsWith Past p s undercut ending
 
 -- what a round leads to: fewer leaves wait for their worth to be settled, or it is known what a
 -- turn does next
-abbrev pub RoundHolds : PastPlaces → Problem → Growing → Growing → Option CostOver → Option Next → Type 0
+abbrev pub RoundHolds : PastPlaces → Problem → Growing → Growing → Option CostOver → Option Next
+    → Type 0
 RoundHolds Past p old new undercut None = waiting new < waiting old
 RoundHolds Past p old new undercut (Some next) = IsNext Past p new undercut next
 

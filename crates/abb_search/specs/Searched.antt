@@ -35,7 +35,16 @@ pub record Searched : Type 0 where
 
 -- a search before its first turn, against a network if one is given
 abbrev pub opened : Problem → Node → ℕ → Option claims.Network → Searched
-opened p start budget best = record { problem = p; start = start; budget = budget; cells = open_cell start ∷ []; best = best; ended = false }
+opened p start budget best =
+    record {
+      problem = p;
+      start = start;
+      budget = budget;
+      cells = open_cell start ∷ [];
+      best =
+          best;
+      ended = false;
+    }
 
 -- ---- a turn
 
@@ -85,7 +94,8 @@ StandsAt Past p s false = IsTreeKept p s × (length s.pool.payloads ≡ 1)
 StandsAt Past p s true = IsGoing Past p s
 
 -- of a search of the problem p, whose graph has the makers mk
-pub record IsSearching (Past : PastPlaces) (p : Problem) (mk : List (List ℕ)) (s : Growing) (looked ended : Bool) : Type 0 where
+pub record IsSearching (Past : PastPlaces) (p : Problem) (mk : List (List ℕ)) (s : Growing)
+    (looked ended : Bool) : Type 0 where
   pub makers : AreMakersOf (shape_of p) mk
   pub sound : IsSound (shape_of p) (node_of s.start)
   pub some : 1 ≤ s.budget

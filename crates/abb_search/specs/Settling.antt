@@ -1,5 +1,6 @@
 -- The worth of open leaves is settled: how many leaves wait for it, and what comes of it.
-use Rattle.std.specs.Prelude.{◌≡◌, ℕ, zero, suc, ◌+◌, ◌<◌, ◌≤◌, Bool, false, ◌&&◌, not, cond, length, Option, Some, None}
+use Rattle.std.specs.Prelude.{◌≡◌, ℕ, zero, suc, ◌+◌, ◌<◌, ◌≤◌, Bool, false, ◌&&◌, not, cond}
+use Rattle.std.specs.Prelude.{length, Option, Some, None}
 use Rattle.link_lists.specs.Lists.{has}
 use Rattle.problem_rules.specs.Problem.{Problem}
 use Rattle.tree_rules.specs.Tree.{leaf}
@@ -25,7 +26,8 @@ waiting s = waiting_below s (length s.pool.payloads)
 
 -- no open leaf is one of which only a lower bound is known
 abbrev pub AreSettled : Growing → Type 0
-AreSettled s = (j : ℕ) → j < length s.pool.payloads → (cell_at s.pool.payloads j).end ≡ leaf untried → is_put_off (ready_at s j) ≡ false
+AreSettled s = (j : ℕ) → j < length s.pool.payloads → (cell_at s.pool.payloads j).end ≡ leaf untried
+    → is_put_off (ready_at s j) ≡ false
 
 -- fewer leaves wait, or a number overflows at one of them, which stops the search
 abbrev pub SettleHolds : PastPlaces → Problem → Growing → Growing → Option StoppedLeaf → Type 0

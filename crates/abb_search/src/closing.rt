@@ -8,7 +8,8 @@ ghost use Rattle.tree_rules.specs.Costs.{IsNoMore};
 ghost use Rattle.node_evaluation.specs.Evaluated.{cost_over, cost_in, IsBoundOf, IsProof};
 ghost use Rattle.abb_search.specs.Worth.{refutation_in, refutation_of};
 ghost use Rattle.abb_search.specs.Growing.{IsGrowingFor};
-ghost use Rattle.abb_search.specs.Closing.{AreBeaten, IsShutBy, AreShutBy, IsInRange, AreInRange, RefutedShut, hand_of, refuted_by, shut_by};
+ghost use Rattle.abb_search.specs.Closing.{AreBeaten, IsShutBy, AreShutBy, IsInRange, AreInRange};
+ghost use Rattle.abb_search.specs.Closing.{RefutedShut, hand_of, refuted_by, shut_by};
 
 use crate::growing::{Growing, StoppedLeaf, node_at, reaches};
 use branch_tree::{Multipliers, Network};
@@ -107,7 +108,8 @@ fn shut_at<E: Evaluator>(
     leaf: u32,
 ) -> Result<Shutting, AllocError>
     requires own { E.values site.now workspace.old.evaluator }
-    requires growing { (undercut : Option CostOver) × IsGrowingFor E.past site.now undercut growing.now }
+    requires growing { (undercut : Option CostOver)
+        × IsGrowingFor E.past site.now undercut growing.now }
     requires beaten { AreBeaten growing.now network.now }
     requires leaf { leaf < length growing.now.pool.payloads }
     ensures shut { IfOk result (IsShutBy E.past site.now growing.now (cost_in network.now) leaf) }
@@ -147,7 +149,8 @@ pub fn close_all<E: Evaluator>(
     network: &Network,
 ) -> Result<Closing, AllocError>
     requires own { E.values site.now workspace.old.evaluator }
-    requires growing { (undercut : Option CostOver) × IsGrowingFor E.past site.now undercut growing.now }
+    requires growing { (undercut : Option CostOver)
+        × IsGrowingFor E.past site.now undercut growing.now }
     requires beaten { AreBeaten growing.now network.now }
     ensures shut { IfOk result (AreShutBy E.past site.now growing.now (cost_in network.now)) }
     ensures own { E.values site.now workspace.new.evaluator }
@@ -186,7 +189,8 @@ fn refutation_at(growing: &Growing, leaf: u32) -> Option<&Multipliers>
 /// Whether an open leaf is refuted.
 fn has_refuted(growing: &Growing) -> bool
     requires { growing.now.nodes ≡ length growing.now.pool.payloads }
-    ensures { result ≡ false → (j : ℕ) → j < length growing.now.pool.payloads → refutation_of (hand_of growing.now j) ≡ None }
+    ensures { result ≡ false → (j : ℕ) → j < length growing.now.pool.payloads
+        → refutation_of (hand_of growing.now j) ≡ None }
 {
     'leaves: for leaf in 0..growing.nodes {
         if refutation_at(growing, leaf).is_some() {
@@ -198,7 +202,8 @@ fn has_refuted(growing: &Growing) -> bool
 
 /// What shuts a leaf with a refutation, if there is one.
 fn refute(alloc: Global, ys: Option<&Multipliers>) -> Result<Option<Shut>, AllocError>
-    ensures { IfOk result (λ m. (m ≡ refuted_by (option_copied ys.entry)) × AreInRange (option_copied ys.entry)) }
+    ensures { IfOk result (λ m. (m ≡ refuted_by (option_copied ys.entry))
+        × AreInRange (option_copied ys.entry)) }
 {
     match ys {
         None => Ok(None),

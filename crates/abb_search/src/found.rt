@@ -40,7 +40,8 @@ pub(crate) fn shut_tree(
     requires linked { IsLinked growing.now.pool.payloads }
     requires root { (cell_at growing.now.pool.payloads 0).option ≡ [] }
     requires leaf { leaf < length growing.now.pool.payloads }
-    ensures tree { IfOk result (λ t. IsTreeOf (shut_cells proofs.now growing.now.pool.payloads) leaf t.tree t.place) }
+    ensures tree { IfOk result
+        (λ t. IsTreeOf (shut_cells proofs.now growing.now.pool.payloads) leaf t.tree t.place) }
     ensures sized { IfSome growing.now.best IsSized }
 {
     search_tree::preorder_is_tree();

@@ -1,5 +1,7 @@
 //! The tree while it grows.
-ghost use Rattle.std.specs.Prelude.{◌≡◌, ◌↔◌, ◌<◌, ◌≤◌, ◌+◌, ◌-◌, ◌^◌, ◌*ℤ◌, ◌≤ℤ◌, pos, true, false, Some, IsTrue, IfOk, OnOk, OnErr, MatchOption, drop, length, option_copied};
+ghost use Rattle.std.specs.Prelude.{◌≡◌, ◌↔◌, ◌<◌, ◌≤◌, ◌+◌, ◌-◌, ◌^◌, ◌*ℤ◌, ◌≤ℤ◌, pos, true};
+ghost use Rattle.std.specs.Prelude.{false, Some, IsTrue, IfOk, OnOk, OnErr, MatchOption, drop};
+ghost use Rattle.std.specs.Prelude.{length, option_copied};
 ghost use Rattle.mixed_numbers.specs.Number.{numerator, denominator};
 ghost use Rattle.slab.specs.Slab.{get};
 ghost use Rattle.link_lists.specs.Lists.{first, has};
@@ -16,7 +18,9 @@ ghost use Rattle.tree_rules.specs.Costs.{IsNoMore};
 ghost use Rattle.node_evaluation.specs.Children.{AreSolvedBy};
 ghost use Rattle.node_evaluation.specs.Evaluated.{cost_over, cost_in};
 ghost use Rattle.abb_search.specs.Worth.{interval_in, interval_of};
-ghost use Rattle.abb_search.specs.Growing.{IsBranching, IsSameButRoom, IsSameButHand, HasInterval, IsReachedAt, IsLeastLeaf, IsHeldUp, ready_at, interval_stop, stop_at, leaf_of, choice_of};
+ghost use Rattle.abb_search.specs.Growing.{IsBranching, IsSameButRoom, IsSameButHand, HasInterval};
+ghost use Rattle.abb_search.specs.Growing.{IsReachedAt, IsLeastLeaf, IsHeldUp, ready_at};
+ghost use Rattle.abb_search.specs.Growing.{interval_stop, stop_at, leaf_of, choice_of};
 
 use crate::hand::place_all;
 use branch_choice::Choice;
@@ -215,7 +219,8 @@ pub fn take_stop(growing: &mut Growing, leaf: u32) -> Option<StoppedLeaf>
 /// How an open leaf is branched.
 pub fn choice_at(growing: &Growing, leaf: u32) -> Choice
     requires { leaf < length growing.now.pool.payloads }
-    ensures { result ≡ choice_of (get growing.now.ready (cell_at growing.now.pool.payloads leaf).key) }
+    ensures { result
+        ≡ choice_of (get growing.now.ready (cell_at growing.now.pool.payloads leaf).key) }
 {
     match growing.ready.get(key_at(&growing.pool, leaf)) {
         None => Choice::Unit(0),
@@ -262,9 +267,14 @@ pub fn branch_leaf<E: Evaluator>(
     requires reduced { IsReduced (shape_of site.now) (node_of node) }
     requires choice { IsChoice (shape_of site.now) (node_of node) choice }
     requires counted { growing.old.nodes ≡ length growing.old.pool.payloads }
-    requires few { length growing.old.pool.payloads + length (options_at (shape_of site.now) (node_of node) (way_of choice)) < 2 ^ 32 }
-    ensures branching { OnOk result (IsBranching E.past site.now (node_of node) growing.old growing.new leaf (way_of choice)) }
-    ensures solved { IfOk result (λ ws. all ≡ true → AreSolvedBy site.now (drop (length growing.old.pool.payloads) growing.new.pool.payloads) ws.items) }
+    requires few { length growing.old.pool.payloads
+        + length (options_at (shape_of site.now) (node_of node) (way_of choice)) < 2 ^ 32 }
+    ensures branching { OnOk result
+        (IsBranching E.past site.now (node_of node) growing.old growing.new leaf (way_of choice)) }
+    ensures solved { IfOk result
+        (λ ws. all ≡ true
+        → AreSolvedBy site.now (drop (length growing.old.pool.payloads) growing.new.pool.payloads)
+        ws.items) }
     ensures same { OnErr result (IsSameButRoom growing.old growing.new) }
     ensures own { E.values site.now workspace.new.evaluator }
     ensures makers { workspace.new.makers.makers ≡ workspace.old.makers.makers }

@@ -105,7 +105,8 @@ pub fn look_at_root<E: Evaluator>(
     requires makers { AreMakersOf (shape_of site.now) workspace.old.makers.makers }
     requires sound { IsSound (shape_of site.now) (node_of start) }
     ensures root { IfOk result (IsLookedRoot E.past site.now start budget best) }
-    ensures solved { IfOk result (λ s. best ≡ None → AreSolvedBy site.now s.pool.payloads (s.best ∷ [])) }
+    ensures solved { IfOk result
+        (λ s. best ≡ None → AreSolvedBy site.now s.pool.payloads (s.best ∷ [])) }
     ensures own { E.values site.now workspace.new.evaluator }
     ensures makers { workspace.new.makers.makers ≡ workspace.old.makers.makers }
 {

@@ -1,13 +1,16 @@
 //! Rounds, which settle the worth of open leaves until it is known which leaf is branched next, or
 //! how the search ends.
-ghost use Rattle.std.specs.Prelude.{◌≡◌, ◌↔◌, ◌<◌, ◌+◌, IsTrue, IfOk, Option, option_copied, length};
+ghost use Rattle.std.specs.Prelude.{◌≡◌, ◌↔◌, ◌<◌, ◌+◌, IsTrue, IfOk, Option, option_copied};
+ghost use Rattle.std.specs.Prelude.{length};
 ghost use Rattle.link_lists.specs.Lists.{first};
 ghost use Rattle.pns_rules.specs.Shape.{shape_of};
 ghost use Rattle.tree_rules.specs.Claim.{CostOver};
 ghost use Rattle.branch_choice.specs.Choices.{option_count};
 ghost use Rattle.node_evaluation.specs.Looks.{cost_of};
-ghost use Rattle.abb_search.specs.Growing.{IsGrowingFor, IsSame, IsSettledAt, LeafUndercuts, choice_of, ready_at};
-ghost use Rattle.abb_search.specs.Rounds.{IsBeating, IsClosing, ClosingHolds, ValueUndercuts, IsNextLeaf, IsNext, RoundHolds, ends_at, undercut_of};
+ghost use Rattle.abb_search.specs.Growing.{IsGrowingFor, IsSame, IsSettledAt, LeafUndercuts};
+ghost use Rattle.abb_search.specs.Growing.{choice_of, ready_at};
+ghost use Rattle.abb_search.specs.Rounds.{IsBeating, IsClosing, ClosingHolds, ValueUndercuts};
+ghost use Rattle.abb_search.specs.Rounds.{IsNextLeaf, IsNext, RoundHolds, ends_at, undercut_of};
 
 use crate::closing::{Closing, close_all, shut_refuted};
 use crate::growing::{
@@ -85,7 +88,8 @@ impl<'a> Goal<'a> {
     /// undercut.
     fn may_be_undercut(&self, growing: &Growing, leaf: u32) -> bool
         requires { leaf < length growing.now.pool.payloads }
-        ensures { IsTrue result ↔ LeafUndercuts growing.now (undercut_of self.now growing.now) leaf }
+        ensures { IsTrue result
+            ↔ LeafUndercuts growing.now (undercut_of self.now growing.now) leaf }
     {
         let reached = reached_at(growing, leaf);
         match self.to_beat(growing) {
@@ -115,10 +119,13 @@ fn spend<E: Evaluator>(
     options: u128,
 ) -> Result<Option<Next>, AllocError>
     requires own { E.values site.now workspace.old.evaluator }
-    requires growing { (undercut : Option CostOver) × IsGrowingFor E.past site.now undercut growing.old }
+    requires growing { (undercut : Option CostOver)
+        × IsGrowingFor E.past site.now undercut growing.old }
     requires options { options ≡ option_count (choice_of (ready_at growing.old leaf)) }
     requires over { growing.old.budget < length growing.old.pool.payloads + options }
-    ensures holds { (undercut : Option CostOver) → IsGrowingFor E.past site.now undercut growing.old → IsNextLeaf growing.old undercut leaf → IfOk result (RoundHolds E.past site.now growing.old growing.new undercut) }
+    ensures holds { (undercut : Option CostOver) → IsGrowingFor E.past site.now undercut growing.old
+        → IsNextLeaf growing.old undercut leaf
+        → IfOk result (RoundHolds E.past site.now growing.old growing.new undercut) }
     ensures same { IsSame E.past site.now growing.old growing.new }
     ensures own { E.values site.now workspace.new.evaluator }
     ensures makers { workspace.new.makers ≡ workspace.old.makers }
@@ -149,7 +156,8 @@ fn branch_least<E: Evaluator>(
     requires own { E.values site.now workspace.old.evaluator }
     requires growing { IsGrowingFor E.past site.now (undercut_of goal.now growing.old) growing.old }
     requires next { IsNextLeaf growing.old (undercut_of goal.now growing.old) leaf }
-    ensures holds { IfOk result (RoundHolds E.past site.now growing.old growing.new (undercut_of goal.now growing.old)) }
+    ensures holds { IfOk result
+        (RoundHolds E.past site.now growing.old growing.new (undercut_of goal.now growing.old)) }
     ensures same { IsSame E.past site.now growing.old growing.new }
     ensures own { E.values site.now workspace.new.evaluator }
     ensures makers { workspace.new.makers ≡ workspace.old.makers }
@@ -176,7 +184,8 @@ fn close<E: Evaluator>(
     requires own { E.values site.now workspace.old.evaluator }
     requires growing { IsGrowingFor E.past site.now (undercut_of goal.now growing.now) growing.now }
     requires leaf { first growing.now.pool.leaves ≡ Some leaf }
-    ensures closing { IfOk result (IsClosing E.past site.now growing.now (undercut_of goal.now growing.now) leaf) }
+    ensures closing { IfOk result
+        (IsClosing E.past site.now growing.now (undercut_of goal.now growing.now) leaf) }
     ensures own { E.values site.now workspace.new.evaluator }
     ensures makers { workspace.new.makers ≡ workspace.old.makers }
 {
@@ -202,8 +211,10 @@ fn after_closing<E: Evaluator>(
 ) -> Result<Option<Next>, AllocError>
     requires own { E.values site.now workspace.old.evaluator }
     requires growing { IsGrowingFor E.past site.now (undercut_of goal.now growing.old) growing.old }
-    requires closing { ClosingHolds E.past site.now growing.old (undercut_of goal.now growing.old) closing }
-    ensures holds { IfOk result (RoundHolds E.past site.now growing.old growing.new (undercut_of goal.now growing.old)) }
+    requires closing { ClosingHolds E.past site.now growing.old (undercut_of goal.now growing.old)
+        closing }
+    ensures holds { IfOk result
+        (RoundHolds E.past site.now growing.old growing.new (undercut_of goal.now growing.old)) }
     ensures same { IsSame E.past site.now growing.old growing.new }
     ensures own { E.values site.now workspace.new.evaluator }
     ensures makers { workspace.new.makers ≡ workspace.old.makers }
@@ -236,7 +247,8 @@ fn take_least<E: Evaluator>(
     requires leaf { first growing.old.pool.leaves ≡ Some leaf }
     requires settled { IsSettledAt growing.old leaf }
     requires below { ValueUndercuts growing.old (undercut_of goal.now growing.old) leaf }
-    ensures holds { IfOk result (RoundHolds E.past site.now growing.old growing.new (undercut_of goal.now growing.old)) }
+    ensures holds { IfOk result
+        (RoundHolds E.past site.now growing.old growing.new (undercut_of goal.now growing.old)) }
     ensures same { IsSame E.past site.now growing.old growing.new }
     ensures own { E.values site.now workspace.new.evaluator }
     ensures makers { workspace.new.makers ≡ workspace.old.makers }
@@ -266,7 +278,8 @@ fn round<E: Evaluator>(
 ) -> Result<Option<Next>, AllocError>
     requires own { E.values site.now workspace.old.evaluator }
     requires growing { IsGrowingFor E.past site.now (undercut_of goal.now growing.old) growing.old }
-    ensures holds { IfOk result (RoundHolds E.past site.now growing.old growing.new (undercut_of goal.now growing.old)) }
+    ensures holds { IfOk result
+        (RoundHolds E.past site.now growing.old growing.new (undercut_of goal.now growing.old)) }
     ensures same { IsSame E.past site.now growing.old growing.new }
     ensures own { E.values site.now workspace.new.evaluator }
     ensures makers { workspace.new.makers ≡ workspace.old.makers }
@@ -297,7 +310,8 @@ pub fn next_leaf<E: Evaluator>(
 ) -> Result<Next, AllocError>
     requires own { E.values site.now workspace.old.evaluator }
     requires growing { IsGrowingFor E.past site.now (undercut_of goal.now growing.old) growing.old }
-    ensures next { IfOk result (IsNext E.past site.now growing.new (undercut_of goal.now growing.old)) }
+    ensures next { IfOk result
+        (IsNext E.past site.now growing.new (undercut_of goal.now growing.old)) }
     ensures same { IsSame E.past site.now growing.old growing.new }
     ensures own { E.values site.now workspace.new.evaluator }
     ensures makers { workspace.new.makers ≡ workspace.old.makers }

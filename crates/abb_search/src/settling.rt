@@ -6,7 +6,8 @@ ghost use Rattle.pgraph.specs.View.{node_of};
 ghost use Rattle.search_tree.specs.Cells.{cell_at};
 ghost use Rattle.node_evaluation.specs.Looks.{IsSettling};
 ghost use Rattle.tree_rules.specs.Claim.{CostOver};
-ghost use Rattle.abb_search.specs.Worth.{is_settled, is_settled_worth, is_put_off, is_put_off_worth};
+ghost use Rattle.abb_search.specs.Worth.{is_settled, is_settled_worth, is_put_off};
+ghost use Rattle.abb_search.specs.Worth.{is_put_off_worth};
 ghost use Rattle.abb_search.specs.Closing.{hand_of};
 ghost use Rattle.abb_search.specs.Growing.{AreOpen, IsGrowingFor, IsSame, ready_at};
 ghost use Rattle.abb_search.specs.Settling.{is_waiting, AreSettled, SettleHolds, StaysSettling};
@@ -103,7 +104,8 @@ fn settling_at<E: Evaluator>(
     node: Node,
 ) -> Result<Settling, AllocError>
     requires own { E.values site.now workspace.old.evaluator }
-    requires growing { (undercut : Option CostOver) × IsGrowingFor E.past site.now undercut growing.now }
+    requires growing { (undercut : Option CostOver)
+        × IsGrowingFor E.past site.now undercut growing.now }
     requires leaf { leaf < length growing.now.pool.payloads }
     requires node { node ≡ (cell_at growing.now.pool.payloads leaf).node }
     requires waits { is_waiting growing.now leaf ≡ true }
@@ -134,7 +136,8 @@ pub fn settle_leaf<E: Evaluator>(
     leaf: u32,
 ) -> Result<Option<StoppedLeaf>, AllocError>
     requires own { E.values site.now workspace.old.evaluator }
-    requires growing { (undercut : Option CostOver) × IsGrowingFor E.past site.now undercut growing.old }
+    requires growing { (undercut : Option CostOver)
+        × IsGrowingFor E.past site.now undercut growing.old }
     requires waits { is_waiting growing.old leaf ≡ true }
     ensures settles { IfOk result (SettleHolds E.past site.now growing.old growing.new) }
     ensures same { IsSame E.past site.now growing.old growing.new }
@@ -176,7 +179,8 @@ fn settle_put_off<E: Evaluator>(
     leaf: u32,
 ) -> Result<Option<StoppedLeaf>, AllocError>
     requires own { E.values site.now workspace.old.evaluator }
-    requires growing { (undercut : Option CostOver) × IsGrowingFor E.past site.now undercut growing.old }
+    requires growing { (undercut : Option CostOver)
+        × IsGrowingFor E.past site.now undercut growing.old }
     requires leaf { leaf < length growing.old.pool.payloads }
     ensures settles { IfOk result (StaysSettling E.past site.now growing.old growing.new) }
     ensures same { IsSame E.past site.now growing.old growing.new }
@@ -200,7 +204,8 @@ pub fn settle_from<E: Evaluator>(
     first: u32,
 ) -> Result<Option<StoppedLeaf>, AllocError>
     requires own { E.values site.now workspace.old.evaluator }
-    requires growing { (undercut : Option CostOver) × IsGrowingFor E.past site.now undercut growing.old }
+    requires growing { (undercut : Option CostOver)
+        × IsGrowingFor E.past site.now undercut growing.old }
     requires waits { is_waiting growing.old first ≡ true }
     ensures settles { IfOk result (SettleHolds E.past site.now growing.old growing.new) }
     ensures same { IsSame E.past site.now growing.old growing.new }

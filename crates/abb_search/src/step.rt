@@ -75,7 +75,8 @@ fn found_by<E: Evaluator>(
     ending: Ending,
 ) -> Result<Option<Found>, AllocError>
     requires kept { IsTreeKept site.now growing.old }
-    requires ends { EndsWith E.past site.now growing.old (claimed_cost (claim_with growing.old.best)) ending }
+    requires ends { EndsWith E.past site.now growing.old
+        (claimed_cost (claim_with growing.old.best)) ending }
     ensures holds { IfOk result (StepHolds E.past site.now growing.old growing.new) }
     ensures same { OnErr result (IsSame E.past site.now growing.old growing.new) }
 {

@@ -47,7 +47,8 @@ impl<'a, E: Evaluator> Model for SearchWith<'a, E> {
       ended = s.ended;
     } };
 
-    ghost invariant = { λ s. E.values s.site s.workspace.evaluator × IsSearching E.past s.site s.workspace.makers.makers s.growing s.looked s.ended };
+    ghost invariant = { λ s. E.values s.site s.workspace.evaluator
+        × IsSearching E.past s.site s.workspace.makers.makers s.growing s.looked s.ended };
 }
 
 impl<'a, E: Evaluator + Drop> SearchWith<'a, E> {
@@ -129,7 +130,8 @@ impl<'a, E: Evaluator + Drop> SearchWith<'a, E> {
     /// The tree so far.
     pub fn tree(&self, alloc: Global) -> Result<Tree, AllocError>
         requires { self.now.ended ≡ false }
-        ensures stopped { IfOk result (IsStopped self.now.problem (node_of self.now.start) (claim_with self.now.best)) }
+        ensures stopped { IfOk result
+            (IsStopped self.now.problem (node_of self.now.start) (claim_with self.now.best)) }
         ensures nodes { IfOk result (AreNodesOf self.now.cells) }
     {
         let placed = tree_with(alloc, &self.growing, 0)?;

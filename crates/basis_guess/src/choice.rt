@@ -1,4 +1,4 @@
-//! Who leaves the basis, and who enters it.
+//! Which variable leaves the basis, and which enters it.
 use crate::guess::Column;
 use crate::line::Line;
 use crate::ranges::Ranges;
@@ -22,7 +22,8 @@ pub(crate) fn leaving(rows: &[Row], ranges: &Ranges, noise: i128) -> Option<(usi
     furthest
 }
 
-/// A column that could enter, with the sizes of its entries in the cost row and in the row that is left.
+/// A column that could enter, with the sizes of its entries in the cost row and in the row that is
+/// left.
 #[derive(Clone, Copy)]
 struct Candidate {
     column: u32,
@@ -30,14 +31,16 @@ struct Candidate {
     entry: u64,
 }
 
-/// Whether the left one's reduced cost comes to 0 first; of two that do so together, the greater entry comes first.
+/// Whether the left one's reduced cost becomes 0 first. Of two that do so together, the greater
+/// entry comes first.
 fn comes_before(left: Candidate, right: Candidate) -> bool {
     let first = left.cost as u128 * right.entry as u128;
     let second = right.cost as u128 * left.entry as u128;
     first < second || (first == second && left.entry > right.entry)
 }
 
-/// Whether a change of the column's variable from its end moves the basic variable of a row with this entry the right way.
+/// Whether a change of the column's variable from its end moves the basic variable of a row with
+/// this entry the right way.
 fn helps(column: Column, entry: i64, raise: bool, ranges: &Ranges) -> bool {
     if entry == 0 || (entry > 0) == (column.at_high == raise) {
         return false;
@@ -58,7 +61,7 @@ fn helping(row: &Line, columns: &[Column], ranges: &Ranges, raise: bool) -> Unit
     found
 }
 
-/// The column whose reduced cost comes to 0 first, among these.
+/// The column whose reduced cost becomes 0 first, among these.
 fn first_column(row: &Line, costs: &Line, among: UnitSet) -> Option<u32> {
     let mut best = None;
     for column in among {
@@ -87,8 +90,9 @@ fn reach(entry: i64, column: Column, ranges: &Ranges) -> i128 {
     product(entry, ranges.of(column.variable).width()).wrapping_abs()
 }
 
-/// The column that enters for the basic variable of the row. Each one that comes before it is passed, and goes to its other end:
-/// the row stays out of its range all the same. `None` where all have been passed.
+/// The column that enters for the basic variable of the row. Each one that comes before it is
+/// passed, and goes to its other end, as the row stays out of its range all the same. `None` if all
+/// have been passed.
 pub(crate) fn entering(
     row: &Line,
     costs: &Line,

@@ -5,8 +5,9 @@ use crate::row::{Pivot, Row};
 use std::alloc::{AllocError, Global};
 use unit_sets::UnitSet;
 
-/// `den` times the cost is 2^shift times the sum of the entries times the variables outside the basis. Costs are large beside sizes,
-/// so entries and `den` are shortened apart, and neither loses its leading bits.
+/// `den` times the cost is 2^shift times the sum of the entries times the variables outside the
+/// basis. Costs are large compared with sizes. So entries and `den` are shortened separately, and
+/// neither loses its leading bits.
 #[derive(Drop)]
 pub(crate) struct CostRow {
     pub(crate) den: i64,
@@ -39,7 +40,8 @@ impl CostRow {
         }
     }
 
-    /// Takes the sums of these columns for its entries, shortened where one has more bits than a row's numbers have.
+    /// Takes the sums of these columns for its entries, shortened if one has more bits than a row's
+    /// numbers have.
     fn take(&mut self, sums: &[i128], columns: UnitSet, den: i128, bits: u128) {
         let by_den = excess(den.unsigned_abs(), WIDEST);
         let by = excess(bits, WIDEST).max(by_den.saturating_sub(self.shift));

@@ -9,14 +9,15 @@ use crate::row::{Distance, Pivot, Row};
 use std::alloc::{AllocError, Global};
 use unit_sets::{Node, UnitSet};
 
-/// A variable outside the basis, and the end at which it stands.
+/// A variable outside the basis, and the end at which it is.
 #[derive(Clone, Copy, Debug)]
 pub struct Column {
     pub variable: Variable,
     pub at_high: bool,
 }
 
-/// What a look ends with: a basis that may be that of least flows, a row that may show that there are none, or nothing.
+/// How a look ends: with a basis that may be that of least flows, with a row that may show that
+/// there are none, or with nothing.
 #[derive(Clone, Copy, Debug, PartialEq, Eq)]
 pub enum Outcome {
     Basis,
@@ -43,8 +44,9 @@ pub struct Guess {
     sums: Vec<i128>,
 }
 
-// A look gives up behind so many pivots, and the tableau starts from the slack basis again behind so many, those of the look that
-// started from it not counted: on a large problem that look alone takes more.
+// A look gives up after so many pivots. The tableau starts from the slack basis again after so
+// many. Those of the look that started from it do not count: on a large problem that look alone
+// takes more.
 const MOST_PIVOTS: u32 = 400;
 
 const STALE: u32 = 100;
@@ -55,7 +57,8 @@ const FIRST: Column = Column {
 };
 
 impl Guess {
-    /// Makes room for the nodes of problems with so many units and materials. `Err` comes for want of memory alone.
+    /// Makes room for the nodes of problems with so many units and materials. `Err` comes only when
+    /// memory runs out.
     pub fn open(alloc: Global, units: u32, materials: u32) -> Result<Guess, AllocError> {
         let (width, height) = (units as usize, materials as usize);
         let mut rows = Vec::new(alloc);
@@ -86,15 +89,17 @@ impl Guess {
         })
     }
 
-    /// Looks for a basis of least flows of the node, from the basis that is kept, or `anew` from the slack basis. At most 400 pivots,
-    /// each linear in the number of the tableau's entries; takes no memory.
+    /// Looks for a basis of least flows of the node, from the basis that is kept, or `anew` from
+    /// the slack basis. It takes at most 400 pivots, each linear in the number of the tableau's
+    /// entries, and no memory.
     pub fn look(&mut self, numbers: &Numbers, node: &Node, anew: bool) -> Outcome {
         self.ranges.set(numbers, node);
         self.search(numbers, node, anew)
     }
 
-    /// Looks for a basis of least flows of the node, from the slack basis, whose sizes may be rounded: in numbers that are finer by
-    /// as many bits as `numbers.fineness()` tells, and with rows that keep a little off the ends of their ranges. As `look` else.
+    /// Looks, from the slack basis, for a basis of least flows of the node whose sizes may be
+    /// rounded. Its numbers are finer by `numbers.fineness()` bits, and its rows keep a little off
+    /// the ends of their ranges. Otherwise it is as `look`.
     pub fn look_inside(&mut self, numbers: &Numbers, node: &Node) -> Outcome {
         self.ranges.set_inside(numbers, node);
         self.search(numbers, node, true)
@@ -126,7 +131,8 @@ impl Guess {
         Outcome::Nothing
     }
 
-    /// Forgets the basis that is kept, as is due where the numbers of another problem come: the next look begins as the first one did.
+    /// Forgets the basis that is kept, when the numbers of another problem come. The next look
+    /// begins as the first one did.
     pub fn forget(&mut self) {
         self.pivots = STALE;
         for column in self.columns.iter_mut() {
@@ -139,8 +145,8 @@ impl Guess {
         &self.columns
     }
 
-    /// A number for each material: times 2^`shift` over `scale` it is near the multiplier of the cost after `Basis`, of the row after
-    /// `Row`.
+    /// A number for each material: times 2^`shift` over `scale` it is near the multiplier of the
+    /// cost after `Basis`, of the row after `Row`.
     pub fn multipliers(&self) -> &[i64] {
         &self.multipliers
     }
@@ -155,8 +161,9 @@ impl Guess {
         self.shift
     }
 
-    /// After `look` ended with `Basis` at the node: writes so many times the scaled size of each unit, as a whole number between the ends
-    /// of that size. A size at an end is told to the letter, another one as near as the rows have it. Linear in the number of units.
+    /// After `look` ended with `Basis` at the node: writes so many times the scaled size of each
+    /// unit, as a whole number between the ends of that size. A size at an end is exact, another
+    /// one is as near as the rows have it. Linear in the number of units.
     pub fn write_sizes(&self, numbers: &Numbers, node: &Node, factor: i128, sizes: &mut [i64]) {
         for column in self.columns.iter() {
             if let Variable::Size(unit) = column.variable {
@@ -178,7 +185,8 @@ impl Guess {
         &self.ranges
     }
 
-    /// After `Basis`: writes the whole number of its range that is nearest to the size of each unit.
+    /// After `Basis`: writes the whole number of its range that is nearest to the size of each
+    /// unit.
     pub(crate) fn round_sizes(&self, sizes: &mut [i64]) {
         for (k, column) in self.columns.iter().enumerate() {
             self.put_size(sizes, column.variable, self.ends.at(k));
@@ -245,8 +253,8 @@ impl Guess {
         }
     }
 
-    /// Puts each column at the end that its reduced cost asks for, and gives each row its value. Gives how much noise the rounding of
-    /// rows can make of these ends.
+    /// Puts each column at the end that its reduced cost needs, and gives each row its value. Gives
+    /// how much noise the rounding of rows can make of these ends.
     fn set_ends(&mut self) -> i128 {
         let mut sizes = 0i128;
         let mut moved = UnitSet::empty();
@@ -286,7 +294,8 @@ impl Guess {
         )
     }
 
-    /// Takes the variable of column k into the basis for that of row r, which goes to the end that it was beyond.
+    /// Takes the variable of column k into the basis for that of row r, which goes to the end that
+    /// it was beyond.
     fn exchange(&mut self, r: usize, k: usize, raise: bool) {
         let Some(row) = self.rows.get_mut(r) else {
             return;

@@ -3,15 +3,15 @@ use crate::rounding::{WIDEST, excess, narrowed, product, rounded};
 use std::alloc::{AllocError, Global};
 use unit_sets::UnitSet;
 
-/// A number for each column, and the set of the columns whose number is not 0. A tableau has as many columns as units, so a set of
-/// columns is one of numbers below 128.
+/// A number for each column, and the set of the columns whose number is not 0. A tableau has as
+/// many columns as units, so a set of columns is one of numbers below 128.
 #[derive(Drop)]
 pub(crate) struct Line {
     numbers: Vec<i64>,
     filled: UnitSet,
 }
 
-/// The number, or 0 behind the last.
+/// The number, or 0 after the last.
 fn at(numbers: &[i64], column: usize) -> i64 {
     match numbers.get(column) {
         Some(number) => *number,
@@ -86,7 +86,8 @@ impl Line {
         sum
     }
 
-    /// Adds q times the other line, unless a sum has more bits than a row's numbers have: then the line stays.
+    /// Adds q times the other line, unless a sum has more bits than a row's numbers have: then the
+    /// line stays.
     pub(crate) fn add_multiple(&mut self, q: i64, other: &Line) -> bool {
         let mut bits = 0u128;
         for column in other.filled {
@@ -111,7 +112,7 @@ impl Line {
         true
     }
 
-    /// Writes the numbers that are not 0 into `sums`, and gives the bits that stand in some of them.
+    /// Writes the numbers that are not 0 into `sums`, and gives the bits that some of them have.
     pub(crate) fn widen(&self, sums: &mut [i128]) -> u128 {
         let mut bits = 0u128;
         for column in self.filled {
@@ -124,7 +125,8 @@ impl Line {
         bits
     }
 
-    /// Writes p times the line and q times the other into `sums`, where one of them is filled, and gives the bits that stand in some sum.
+    /// Writes p times the line and q times the other into `sums`, at the columns that one of them
+    /// has, and gives the bits that some sum has.
     pub(crate) fn mix(&self, p: i64, q: i64, other: &Line, sums: &mut [i128]) -> u128 {
         let mut bits = 0u128;
         for column in self.filled.union(other.filled) {
@@ -138,7 +140,8 @@ impl Line {
         bits
     }
 
-    /// Takes the sums of these columns, without so many of their last bits. All others have to be 0.
+    /// Takes the sums of these columns, without so many of their last bits. All others have to be
+    /// 0.
     pub(crate) fn take(&mut self, sums: &[i128], columns: UnitSet, by: u32) {
         let mut filled = columns;
         for column in columns {

@@ -5,7 +5,8 @@ use pns_problem::{Kind, Material, OperatingUnit, Problem, Term};
 use std::alloc::{AllocError, Global};
 use unit_sets::{Node, UnitSet};
 
-/// A material, by its number, and the scaled rate at which a unit of size 1 makes it, negative where it uses it.
+/// A material, by its number, and the scaled rate at which a unit of size 1 makes it, negative if
+/// it uses it.
 #[derive(Clone, Copy)]
 pub struct Rate {
     pub material: usize,
@@ -39,8 +40,8 @@ impl Ends {
     }
 }
 
-/// What a node asks of a material: nothing where none of its units has it, a range that begins at 0, or its own range where the
-/// material has to be there.
+/// What a node needs of a material: nothing if none of its units has it, its own range if the
+/// material has to be there, else a range that begins at 0.
 #[derive(Clone, Copy, Debug, PartialEq, Eq)]
 pub enum Standing {
     Apart,
@@ -48,8 +49,8 @@ pub enum Standing {
     Needed,
 }
 
-/// What is known of a unit: its rates, the ends of its size, and what a size of 1 costs, without the slope by which a free unit
-/// pays for its fixed cost and with it.
+/// What is known of a unit: its rates, the ends of its size, and what a size of 1 costs. A free
+/// unit pays for its fixed cost by a slope; the cost is given without it and with it.
 #[derive(Drop)]
 struct Column {
     rates: Vec<Rate>,
@@ -58,8 +59,8 @@ struct Column {
     sloped_cost: i128,
 }
 
-/// What is known of a material: the bounds of what it leaves over, or, where it is raw, of what is used of it; and how much all
-/// units make and use of it at most.
+/// What is known of a material: the bounds of what it leaves over or, if it is raw, of what is used
+/// of it; and how much all units make and use of it at most.
 #[derive(Clone, Copy)]
 struct Balance {
     bounds: Ends,
@@ -112,7 +113,7 @@ fn over_years(problem: &Problem, yearly: i64, once: i64) -> i128 {
         .wrapping_add(once as i128)
 }
 
-/// What a free unit of size 1 pays in place of its fixed cost.
+/// What a free unit of size 1 pays instead of its fixed cost.
 fn slope_cost(problem: &Problem, unit: &OperatingUnit) -> i128 {
     if unit.upper <= 0 {
         return 0;
@@ -133,7 +134,7 @@ fn worth(problem: &Problem, terms: &[Term]) -> i128 {
     sum
 }
 
-/// Appends the scaled rates of the terms, negative where they are used.
+/// Appends the scaled rates of the terms, negative if they are used.
 fn push_rates(
     rates: &mut Vec<Rate>,
     scale: Scale,
@@ -204,7 +205,7 @@ fn add_reaches(columns: &[Column], balances: &mut [Balance]) {
     }
 }
 
-/// All bits that stand in some balance that units can have and bounds allow.
+/// All bits that some balance has, of those that units can have and bounds allow.
 fn reach_bits(balances: &[Balance]) -> u128 {
     let mut bits = 0u128;
     for balance in balances {
@@ -213,8 +214,8 @@ fn reach_bits(balances: &[Balance]) -> u128 {
     bits
 }
 
-/// All bits that stand in some end that a guess must not cut off, and all that stand in some cost. A balance may be cut off where
-/// it is large, since few of them come near their upper bounds.
+/// All bits of some end that a guess must not drop, and all bits of some cost. A large balance may
+/// lose bits, since few balances come near their upper bounds.
 fn bits_of(columns: &[Column], balances: &[Balance]) -> (u128, u128) {
     let mut ends = 0u128;
     let mut costs = 0u128;
@@ -225,7 +226,7 @@ fn bits_of(columns: &[Column], balances: &[Balance]) -> (u128, u128) {
     (ends, costs)
 }
 
-/// All bits that stand in the lower bound of some material of a unit.
+/// All bits that the lower bound of some material of a unit has.
 fn least_bits(rates: &[Rate], balances: &[Balance]) -> u128 {
     let mut bits = 0u128;
     for rate in rates {
@@ -237,8 +238,9 @@ fn least_bits(rates: &[Rate], balances: &[Balance]) -> u128 {
 }
 
 impl Numbers {
-    /// The numbers of a problem: the rates of each material over its divisor, sizes over theirs, balances over both, and costs over
-    /// theirs. Each divisor should be at least 1 and divide what it is for. `Err` comes for want of memory alone.
+    /// The numbers of a problem: the rates of each material over its divisor, sizes over theirs,
+    /// balances over both, and costs over theirs. Each divisor should be at least 1 and divide what
+    /// it is for. `Err` comes only when memory runs out.
     pub fn of(
         alloc: Global,
         problem: &Problem,
@@ -303,7 +305,7 @@ impl Numbers {
         }
     }
 
-    /// The ends of the scaled size of the unit at the node; both are 0 where it is left out.
+    /// The ends of the scaled size of the unit at the node; both are 0 if it is left out.
     pub fn size_ends(&self, node: &Node, unit: usize) -> Ends {
         match self.columns.get(unit) {
             Some(column) if is_in(node.inside, unit) => column.size,
@@ -335,7 +337,8 @@ impl Numbers {
         }
     }
 
-    /// Writes the sum of the absolute rates of the units that are not left out at the node, for each material.
+    /// Writes the sum of the absolute rates of the units that are not left out at the node, for
+    /// each material.
     pub(crate) fn sum_rates(&self, node: &Node, sums: &mut [i64]) {
         for sum in sums.iter_mut() {
             *sum = 0;
@@ -347,7 +350,7 @@ impl Numbers {
         }
     }
 
-    /// Writes what the node asks of each material.
+    /// Writes what the node needs of each material.
     pub fn stand(&self, node: &Node, standings: &mut [Standing]) {
         for standing in standings.iter_mut() {
             *standing = Standing::Apart;

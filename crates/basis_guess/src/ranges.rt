@@ -4,7 +4,7 @@ use crate::rounding::{narrowed, shortened};
 use std::alloc::{AllocError, Global};
 use unit_sets::Node;
 
-/// What a tableau tells of: the size of a unit, or the balance of a material.
+/// A variable of a tableau: the size of a unit, or the balance of a material.
 #[derive(Clone, Copy, Debug, PartialEq, Eq)]
 pub enum Variable {
     Size(usize),
@@ -32,8 +32,8 @@ const FINE_MOST: i64 = (1 << 58) - 1;
 
 const FINE_LEAST: i64 = -FINE_MOST;
 
-// A row's margin, for each unit of its rates: where sizes are rounded, half of one is lost, and the rest is for units that meet
-// other rows.
+// A row's margin, for each unit of its rates. When sizes are rounded, half of one is lost, and the
+// rest is for units that meet other rows.
 const MARGIN: i64 = 4;
 
 /// A range that has one number.
@@ -54,7 +54,7 @@ fn cut(end: i128, by: u32) -> i64 {
     shortened(end, by).min(MOST).max(LEAST)
 }
 
-/// An end with so many bits behind it, or the nearest that a guess has room for.
+/// An end with so many bits more, or the nearest that a guess has room for.
 fn lengthened(end: i128, by: u32) -> i64 {
     narrowed(end.wrapping_shl(by))
         .min(FINE_MOST)
@@ -76,7 +76,8 @@ impl Range {
         }
     }
 
-    /// Without a margin at both ends; its middle where the margins leave nothing. A point stays.
+    /// The range without a margin at both ends, or its middle if the margins leave nothing. A point
+    /// stays.
     fn inside(self, margin: i64) -> Range {
         let low = self.low.wrapping_add(margin);
         let high = self.high.wrapping_sub(margin);
@@ -93,7 +94,7 @@ impl Range {
         }
     }
 
-    /// How far a number is from the nearer end; below 0 where it is outside.
+    /// How far a number is from the nearer end; below 0 if it is outside.
     pub(crate) fn room(self, number: i64) -> i64 {
         let above = number.wrapping_sub(self.low);
         let below = self.high.wrapping_sub(number);
@@ -161,8 +162,9 @@ impl Ranges {
         }
     }
 
-    /// Takes the ranges of a node in finer numbers, those of rows without a margin at both ends: where sizes are rounded to whole numbers,
-    /// each row stays in its own range, unless that is a point.
+    /// Takes the ranges of a node in finer numbers, those of rows without a margin at both ends. So
+    /// when sizes are rounded to whole numbers, each row stays in its own range, unless that is a
+    /// point.
     pub(crate) fn set_inside(&mut self, numbers: &Numbers, node: &Node) {
         let by = numbers.fineness();
         numbers.stand(node, &mut self.standings);
@@ -185,7 +187,7 @@ impl Ranges {
         }
     }
 
-    /// The one number that a row of the node may leave over, where its range is a point.
+    /// The one number that a row of the node may leave over, if its range is a point.
     pub(crate) fn point(&self, numbers: &Numbers, material: usize) -> Option<i128> {
         let standing = *self.standings.get(material)?;
         let ends = numbers.balance_ends(material, standing);

@@ -1,4 +1,11 @@
 //! Products of 64-bit numbers, and what is kept of them.
+//!
+//! No product of two 64-bit numbers can wrap: it is formed in 128 bits. All other sums, products
+//! and shifts of this crate are `wrapping_`, `saturating_` or `checked_` ones, and have room, with
+//! two exceptions. Amounts are at most 10^15 and the payout period is at most 100 years; a row has
+//! at most 128 numbers, of 61 bits, and ends have at most 58. The exceptions may lose leading bits:
+//! a size times a long factor (`Row::nearest_times`), and a cost row that takes a change by a long
+//! row (`CostRow::add_row`). Then the guess is a worse one, and no answer is wrong.
 
 /// A row's numbers have at most so many bits.
 pub(crate) const WIDEST: u32 = 61;
@@ -12,7 +19,7 @@ pub(crate) fn product(x: i64, y: i64) -> i128 {
     x as i128 * y as i128
 }
 
-/// The number, or the nearest that 64 bits hold.
+/// The number, or the nearest that fits 64 bits.
 pub(crate) fn narrowed(number: i128) -> i64 {
     match i64::try_from(number) {
         Ok(narrow) => narrow,
@@ -25,7 +32,8 @@ pub(crate) fn shortened(number: i128, by: u32) -> i64 {
     narrowed(number.wrapping_shr(by))
 }
 
-/// The number without its last bits, at least one, to the nearest; 0 where so little is left that it may be noise.
+/// The number without its last bits, at least one, to the nearest; 0 if so little is left that it
+/// may be noise.
 pub(crate) fn rounded(number: i128, by: u32) -> i64 {
     let half = 1i128.wrapping_shl(by.wrapping_sub(1));
     let rest = shortened(number.wrapping_add(half), by);

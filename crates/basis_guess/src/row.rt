@@ -12,7 +12,8 @@ pub(crate) struct Row {
     pub(crate) den: i64,
     pub(crate) is_rounded: bool,
     pub(crate) line: Line,
-    // `den` times the basic variable, where the variables outside the basis stood last, unless the row has changed since.
+    // `den` times the basic variable, at the last values of the variables outside the basis, unless
+    // the row has changed since.
     value: i128,
     has_changed: bool,
 }
@@ -26,14 +27,15 @@ pub(crate) struct Pivot<'a> {
     pub(crate) line: &'a Line,
 }
 
-/// How far a basic variable is out of its range, times the row's `den`, and whether it has to be raised.
+/// How far a basic variable is out of its range, times the row's `den`, and whether it has to be
+/// raised.
 #[derive(Clone, Copy)]
 pub(crate) struct Distance {
     pub(crate) amount: i128,
     pub(crate) raise: bool,
 }
 
-// A rounded row whose `den` has fewer bits is taken at its word.
+// In a rounded row whose `den` has fewer bits no distance counts as noise.
 const COARSE: i64 = 1 << 40;
 
 impl Row {
@@ -63,7 +65,8 @@ impl Row {
         self.has_changed = true;
     }
 
-    /// Takes the sums of these columns for its entries, all shortened alike where one has more bits than a row's numbers have.
+    /// Takes the sums of these columns for its entries, all shortened alike if one has more bits
+    /// than a row's numbers have.
     fn take(&mut self, sums: &[i128], columns: UnitSet, den: i128, bits: u128) {
         let by = excess(bits | den.unsigned_abs(), WIDEST);
         self.line.take(sums, columns, by);
@@ -97,7 +100,7 @@ impl Row {
         if pivot.is_rounded {
             self.is_rounded = true;
         }
-        // Rounded numbers have seldom a divisor in common.
+        // Rounded numbers seldom have a divisor in common.
         let (p, q) = if self.is_rounded {
             (pivot.den, factor)
         } else {
@@ -111,7 +114,8 @@ impl Row {
         self.take(sums, columns, product(p, self.den), bits);
     }
 
-    /// Forms the value of the basic variable anew where the row has changed, or the end of a column that moved it.
+    /// Forms the value of the basic variable anew if the row has changed, or the end of a column
+    /// that moved it.
     pub(crate) fn set_value(&mut self, ends: &Line, moved: UnitSet) {
         if self.has_changed || !self.line.filled().meet(moved).is_empty() {
             self.value = self.line.dot(ends);
@@ -124,7 +128,8 @@ impl Row {
         narrowed(self.nearest_times(1))
     }
 
-    /// The whole number that is nearest to so many times the basic variable, as its value was formed last.
+    /// The whole number that is nearest to so many times the basic variable, as its value was
+    /// formed last.
     pub(crate) fn nearest_times(&self, factor: i128) -> i128 {
         let half = self.den.wrapping_shr(1) as i128;
         let raised = self.value.wrapping_mul(factor).wrapping_add(half);

@@ -5,8 +5,9 @@ use crate::ranges::Variable;
 use crate::rounding::{lowest, product};
 use std::alloc::{AllocError, Global};
 
-/// What is known of a row: the one number that it may leave over, where its range is a point, and what the rounded sizes leave over;
-/// and the unit that is to meet it, by its number, with its rate, and with how far its size is from the ends.
+/// What is known of a row: the one number that it may leave over, if its range is a point, and what
+/// the rounded sizes leave over. And the unit that is to meet it, by its number, with its rate, and
+/// with how far its size is from the ends.
 #[derive(Clone, Copy)]
 struct Met {
     point: Option<i128>,
@@ -25,8 +26,8 @@ const ANY: Met = Met {
     room: 0,
 };
 
-/// Sizes of all units over one denominator: the sizes of a basis, each rounded, but for one unit for each row whose range is a point,
-/// which meets that row to the letter.
+/// Sizes of all units over one denominator. They are the sizes of a basis, each rounded, except
+/// that each row whose range is a point has one unit that meets that row exactly.
 #[derive(Drop)]
 pub struct ShortSizes {
     rows: Vec<Met>,
@@ -36,7 +37,7 @@ pub struct ShortSizes {
 }
 
 impl Met {
-    /// Whether the rounded sizes leave over what they may, or the row is to be met by no unit of its own.
+    /// Whether the rounded sizes leave over what they may, or the row needs no unit of its own.
     fn is_met(&self) -> bool {
         match self.point {
             Some(end) => end == self.balance,
@@ -44,7 +45,8 @@ impl Met {
         }
     }
 
-    /// The size that meets the row, over the absolute rate of its unit, where that has this size now.
+    /// The size of its unit that meets the row, times the absolute rate of the unit, if the unit
+    /// has this size now.
     fn meeting(&self, size: i64) -> i128 {
         let end = match self.point {
             Some(end) => end,
@@ -83,7 +85,8 @@ fn only_point(rows: &[Met], rates: &[Rate]) -> Option<Rate> {
 }
 
 impl ShortSizes {
-    /// Makes room for problems with so many units and materials. `Err` comes for want of memory alone.
+    /// Makes room for problems with so many units and materials. `Err` comes only when memory runs
+    /// out.
     pub fn open(alloc: Global, units: u32, materials: u32) -> Result<ShortSizes, AllocError> {
         let (width, height) = (units as usize, materials as usize);
         Ok(ShortSizes {
@@ -94,8 +97,9 @@ impl ShortSizes {
         })
     }
 
-    /// Takes the sizes of the basis that was found by `look_inside`. No where a row with a point for its range has no unit that could
-    /// meet it. Linear in the number of rates; takes no memory.
+    /// Takes the sizes of the basis that was found by `look_inside`. `false` if a row with a point
+    /// for its range has no unit that could meet it. Linear in the number of rates. It takes no
+    /// memory.
     pub fn take(&mut self, guess: &Guess, numbers: &Numbers) -> bool {
         guess.round_sizes(&mut self.rounded);
         self.set_rows(guess, numbers);
@@ -136,7 +140,7 @@ impl ShortSizes {
         }
     }
 
-    /// A number that the rate of each unit divides that is to meet a row.
+    /// A number that the rate of each unit that is to meet a row divides.
     fn factor(&self) -> Option<i64> {
         let mut factor = 1i64;
         for row in &self.rows {
@@ -175,7 +179,8 @@ impl ShortSizes {
     }
 }
 
-/// Offers a unit to the row that it could meet: that takes the one whose size is furthest from its ends.
+/// Offers a unit to the row that it could meet. The row takes the unit whose size is furthest from
+/// its ends.
 fn offer(rows: &mut [Met], rates: &[Rate], unit: usize, room: i64) {
     let Some(rate) = only_point(rows, rates) else {
         return;

@@ -1,11 +1,15 @@
 //! An equation in whole numbers.
+//!
+//! No product can wrap: `checked_mul` forms it. Nothing is checked only if all four factors of a
+//! difference of two products are below 2^62 in absolute value, since both products and the
+//! difference then have room.
 use crate::fractions::Value;
 use int_rows::gcd;
 use std::alloc::{AllocError, Global};
 use unit_sets::UnitSet;
 
-/// The coefficients of the unknowns, most of them 0, and the right side. A basis has at most as many unknowns as there are units, so
-/// a set of unknowns is one of numbers below 128.
+/// The coefficients of the unknowns, most of them 0, and the right side. A basis has at most as
+/// many unknowns as there are units, so a set of unknowns is one of numbers below 128.
 #[derive(Drop)]
 pub(crate) struct Equation {
     coefficients: Vec<i128>,
@@ -17,7 +21,7 @@ pub(crate) struct Equation {
     solved: Option<u32>,
 }
 
-/// p times the one number less q times the other, where that is in 128 bits.
+/// p times the one number less q times the other, if that fits 128 bits.
 fn difference(p: i128, x: i128, q: i128, y: i128) -> Option<i128> {
     // Most numbers are short, and their products need no check.
     if is_short(p) && is_short(x) && is_short(q) && is_short(y) {
@@ -26,7 +30,7 @@ fn difference(p: i128, x: i128, q: i128, y: i128) -> Option<i128> {
     p.checked_mul(x)?.checked_sub(q.checked_mul(y)?)
 }
 
-/// Whether the number has less than 63 bits.
+/// Whether the number has fewer than 63 bits.
 fn is_short(number: i128) -> bool {
     -SHORT < number && number < SHORT
 }
@@ -106,7 +110,7 @@ impl Equation {
         }
     }
 
-    /// The coefficient, or 0 behind the last.
+    /// The coefficient, or 0 after the last.
     fn at(&self, unknown: u32) -> i128 {
         match self.coefficients.get(unknown as usize) {
             Some(coefficient) => *coefficient,
@@ -133,7 +137,7 @@ impl Equation {
         self.solved = Some(unknown);
     }
 
-    /// The value of the unknown, where it has no other one.
+    /// The value of the unknown, if the equation has no other one.
     pub(crate) fn value(&self, unknown: u32) -> Value {
         Value::of(self.right, self.at(unknown))
     }
@@ -164,7 +168,7 @@ impl Equation {
         common
     }
 
-    /// Takes the unknown out by another equation. Gives up where a number leaves 128 bits.
+    /// Takes the unknown out by another equation. Gives up if a number leaves 128 bits.
     pub(crate) fn eliminate(&mut self, pivot: &Equation, unknown: u32) -> bool {
         let (own, other) = (self.at(unknown), pivot.at(unknown));
         let common = common_divisor(own, other);

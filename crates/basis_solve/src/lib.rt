@@ -1,21 +1,19 @@
-//! Unproved proposals: sizes and multipliers of a basis that was guessed. Every answer is judged by
-//! `scaled_flows`, or by the bounds and sums of `flow_program`; nothing rests on it.
+//! Unproved proposals: sizes and multipliers of a basis that was guessed.
 //!
-//! A basis is solved in whole scaled numbers: its sizes come over one denominator, and its
-//! multipliers over one scale.
+//! A basis is solved in whole scaled numbers: its sizes are over one denominator, and its
+//! multipliers over one scale. Each material whose balance is at an end gives an equation in the
+//! basic sizes. Each basic unit gives one in the multipliers of these materials. Both systems are
+//! square. They are eliminated in whole numbers, an equation with the fewest unknowns first, so
+//! that chains are peeled off and only recycles cost more.
 //!
-//! No product can wrap: `checked_mul` forms it, and the solver gives up where it leaves 128 bits.
-//! Only where all four factors of a difference of two products are below 2^62 in absolute value is
-//! nothing checked, since both products and the difference then have room.
+//! It is safe, it ends, and it takes no memory once [`Solver::open`] has made room; nothing else is
+//! promised. If a number leaves 128 bits, or the basis is none, the solver gives up.
+//! `scaled_flows`, or the bounds and sums of `flow_program`, judge every answer. So no result
+//! depends on it.
 //!
-//! Each material whose balance stands at an end gives an equation in the basic sizes, each basic unit one in the multipliers of these
-//! materials. Both systems are square, and are eliminated in whole numbers, an equation with the fewest unknowns first, so that chains
-//! are peeled off and only recycles cost more. Nothing is promised of what comes out but that it is found safely, in an end, and
-//! without memory once [`Solver::open`] has made room: where a number leaves 128 bits, or the basis is none, the solver gives up.
-//! Whoever uses sizes and multipliers checks them.
-//!
-//! Modules: `equation` (one equation in whole numbers), `system` (a square system and its elimination), `numbering` (the unknowns'
-//! places), `fractions` (values over one denominator), `solver` (the two systems of a basis).
+//! Modules: `equation` (one equation in whole numbers), `system` (a square system and its
+//! elimination), `numbering` (the unknowns' places), `fractions` (values over one denominator),
+//! `solver` (the two systems of a basis).
 #![tactic(auto)]
 
 mod equation;

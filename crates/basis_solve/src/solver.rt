@@ -10,7 +10,7 @@ use unit_sets::Node;
 #[derive(Drop)]
 pub struct Solver {
     system: System,
-    // The basic sizes, and the balances that stand at an end.
+    // The basic sizes, and the balances that are at an end.
     units: Numbering,
     materials: Numbering,
     standings: Vec<Standing>,
@@ -25,12 +25,13 @@ pub struct Solver {
     scale: i128,
 }
 
-/// The end at which a variable stands.
+/// The end at which a variable is.
 fn end_of(ends: Ends, at_high: bool) -> i128 {
     if at_high { ends.high } else { ends.low }
 }
 
-/// The end of a balance; that of a material that no unit of the node has is 0, and its range takes that in.
+/// The end of a balance. That of a material that no unit of the node has is 0, and its range takes
+/// that in.
 fn balance_end(numbers: &Numbers, material: usize, standing: Standing, at_high: bool) -> i128 {
     let end = end_of(numbers.balance_ends(material, standing), at_high);
     match standing {
@@ -55,8 +56,8 @@ fn bring_over(values: &[Value], counts: &[bool], list: &mut Vec<i128>) -> Option
     Some(d)
 }
 
-/// Puts the rates of the basic units into the equations of the materials; or, `across`, the rates of these materials into the
-/// equations of the units.
+/// Puts the rates of the basic units into the equations of the materials; or, `across`, the rates
+/// of these materials into the equations of the units.
 fn put_rates(
     system: &mut System,
     numbers: &Numbers,
@@ -115,7 +116,8 @@ fn read_values(system: &System, unknowns: &Numbering, values: &mut [Value]) -> b
 }
 
 impl Solver {
-    /// Makes room for problems with at most so many units and materials. `Err` comes for want of memory alone.
+    /// Makes room for problems with at most so many units and materials. `Err` comes only when
+    /// memory runs out.
     pub fn open(alloc: Global, units: u32, materials: u32) -> Result<Solver, AllocError> {
         let (width, height) = (units as usize, materials as usize);
         Ok(Solver {
@@ -134,15 +136,17 @@ impl Solver {
         })
     }
 
-    /// Solves the basis that has these columns outside, at the node, and keeps sizes and multipliers. `false` where a number leaves
-    /// 128 bits, or where the basis is none: what is kept is then of no use. Takes no memory.
+    /// Solves the basis that has these columns outside, at the node, and keeps sizes and
+    /// multipliers. `false` if a number leaves 128 bits, or if the basis is none: what is kept is
+    /// then of no use. It takes no memory.
     pub fn solve(&mut self, numbers: &Numbers, columns: &[Column], node: &Node) -> bool {
         self.find_sizes(numbers, columns, node)
             && self.solve_multipliers(numbers, node)
             && self.bring_multipliers()
     }
 
-    /// Solves the sizes of the basis alone, and keeps them; multipliers may be longer than they. As `solve` else.
+    /// Solves the sizes of the basis alone, and keeps them; multipliers may be longer than they
+    /// are. Otherwise it is as `solve`.
     pub fn find_sizes(&mut self, numbers: &Numbers, columns: &[Column], node: &Node) -> bool {
         numbers.stand(node, &mut self.standings);
         for (has_row, standing) in self.has_row.iter_mut().zip(&self.standings) {
@@ -171,7 +175,8 @@ impl Solver {
         self.scale
     }
 
-    /// Numbers the basic units, and the materials whose balances stand at an end. As many of them have to be there.
+    /// Numbers the basic units, and the materials whose balances are at an end. There have to be as
+    /// many of the one as of the other.
     fn number(&mut self, columns: &[Column]) -> bool {
         self.units.clear();
         self.materials.clear();
@@ -266,7 +271,8 @@ impl Solver {
             && read_values(&self.system, &self.materials, &mut self.multiplier_values)
     }
 
-    /// Brings the sizes over their denominator; those of units that the node's program does not have are dropped before.
+    /// Brings the sizes over their denominator. Those of units that the node's program does not
+    /// have are dropped before.
     fn bring_sizes(&mut self, node: &Node) -> bool {
         for (unit, has_unit) in self.has_unit.iter_mut().enumerate() {
             *has_unit = unit < 128 && !node.outside.has(unit as u32);
@@ -279,7 +285,8 @@ impl Solver {
         true
     }
 
-    /// Brings the multipliers over their denominator; those of materials that are no row of the node's program are dropped before.
+    /// Brings the multipliers over their denominator. Those of materials that are no row of the
+    /// node's program are dropped before.
     fn bring_multipliers(&mut self) -> bool {
         drop_others(&mut self.multiplier_values, &self.has_row);
         let Some(scale) = bring_over(

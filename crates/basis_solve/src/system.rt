@@ -56,7 +56,8 @@ impl System {
         }
     }
 
-    /// Solves each equation for one unknown. Gives up where a number leaves the range, or where the system has not one solution.
+    /// Solves each equation for one unknown. Gives up if a number leaves the range, or if the
+    /// system does not have exactly one solution.
     pub(crate) fn solve(&mut self) -> bool {
         for equation in self.equations.iter_mut().take(self.size) {
             equation.reduce();
@@ -146,7 +147,7 @@ impl System {
         next
     }
 
-    /// The unknown of the equation that stands in the fewest others, of those that are left.
+    /// The unknown of the equation that is in the fewest others, of those that are left.
     fn next_unknown(&self, r: usize) -> Option<u32> {
         let equation = self.equations.get(r)?;
         let mut next = None;

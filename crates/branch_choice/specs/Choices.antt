@@ -33,4 +33,5 @@ option_count (choices.Unit u) = 2
 abbrev pub ChoicesDecide : Type 0
 ChoicesDecide =
     (g : Shape) (n : Node) (c : Choice) → IsChoice g n c
-    → MayBranch g n (way_of c) × IsDecision g n (way_of c) × (length (options_at g n (way_of c)) ≡ option_count c)
+    → MayBranch g n (way_of c) × IsDecision g n (way_of c)
+    × (length (options_at g n (way_of c)) ≡ option_count c)

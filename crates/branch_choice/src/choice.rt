@@ -50,7 +50,8 @@ fn has_three_options(graph: &Graph, node: &Node, x: u32) -> bool
 fn least_with_three(graph: &Graph, node: &Node, needed: MatSet) -> Option<u32>
     requires { has needed ≡ is_needed (shape graph.now) (node_of node.now).inside }
     ensures undecided { IfSome result (λ x. IsUndecided (shape graph.now) (node_of node.now) x) }
-    ensures three { IfSome result (λ x. length (options (shape graph.now) (node_of node.now) x) ≡ 3) }
+    ensures three { IfSome result
+        (λ x. length (options (shape graph.now) (node_of node.now) x) ≡ 3) }
 {
     graph.is_proper();
     for x in needed {

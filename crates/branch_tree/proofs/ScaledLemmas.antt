@@ -1,4 +1,4 @@
--- The multipliers behind the scale are numbers of the list.
+-- The multipliers after the scale are numbers of the list.
 use Rattle.std.proofs.Common.{◌≡◌, ℕ, suc, ◌<◌, List, [], ◌∷◌, ℤ, length, sym, subst, arith}
 use Rattle.integer_laws.specs.Range.{AllInRange}
 use Rattle.branch_tree.specs.Scaled.{Scaled, scaled_of}
@@ -7,5 +7,7 @@ rest_in_range : (numbers : List ℤ) → AllInRange numbers → AllInRange (scal
 rest_in_range [] h k d l = absurd (omega arith)
 rest_in_range (x ∷ numbers) h k d l = h (suc k) d (omega arith)
 
-pub multipliers_in_range : (numbers : List ℤ) (s : Scaled) → scaled_of numbers ≡ s → AllInRange numbers → AllInRange s.ys
-multipliers_in_range numbers s is h = subst (λ (t : Scaled). AllInRange t.ys) is (rest_in_range numbers h)
+pub multipliers_in_range : (numbers : List ℤ) (s : Scaled) → scaled_of numbers ≡ s
+    → AllInRange numbers → AllInRange s.ys
+multipliers_in_range numbers s is h =
+    subst (λ (t : Scaled). AllInRange t.ys) is (rest_in_range numbers h)

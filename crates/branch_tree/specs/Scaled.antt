@@ -6,7 +6,7 @@ pub record Scaled : Type 0 where
   pub d : ℤ
   pub ys : List ℤ
 
--- the scale stands first
+-- the scale comes first
 abbrev pub scaled_of : List ℤ → Scaled
 scaled_of [] = record { d = pos 0; ys = [] }
 scaled_of (d ∷ ys) = record { d = d; ys = ys }

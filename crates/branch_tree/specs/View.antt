@@ -5,7 +5,8 @@ use Rattle.tree_rules.specs.Leaf as leaves
 use Rattle.tree_rules.specs.Claim as claims
 use Rattle.tree_rules.specs.Tail as tails
 use Rattle.branch_tree.specs.declared.end.End.{End}
-use Rattle.branch_tree.specs.declared.end.End.TheVariants.{Dead, Clash, Refuted, Bound, Branch, Either, Open}
+use Rattle.branch_tree.specs.declared.end.End.TheVariants.{Dead, Clash, Refuted, Bound, Branch}
+use Rattle.branch_tree.specs.declared.end.End.TheVariants.{Either, Open}
 use Rattle.branch_tree.specs.declared.claim.Claim.{Claim}
 use Rattle.branch_tree.specs.declared.claim.Claim.TheVariants.{Network, Infeasible, Unknown}
 use Rattle.branch_tree.specs.declared.tail.Tail.{Tail}

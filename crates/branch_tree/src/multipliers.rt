@@ -44,7 +44,7 @@ impl Multipliers {
         self.numbers
     }
 
-    /// Each number is in range. A call tells a proof so, and does nothing.
+    /// Each number is in range. A call gives this to a proof, and does nothing.
     pub fn are_in_range(&self)
         ensures { AllInRange self.now }
     {

@@ -7,8 +7,9 @@ ghost use Rattle.branch_tree.specs.Sized.{IsKept};
 use std::marker::Model;
 use unit_sets::UnitSet;
 
-/// Units with a size for each in rising order of units, and the cost. Sizes are in millionths over d, and the cost over d and
-/// the payout period is in 10^-18 of the money unit. d is at least 1, and all numbers are in range.
+/// Units with a size for each in rising order of units, and the cost. Sizes are in millionths over
+/// d. The cost over d and the payout period is in 10^-18 of the money unit. d is at least 1, and
+/// all numbers are in range.
 #[derive(Drop)]
 pub struct Network {
     units: UnitSet,
@@ -25,7 +26,8 @@ impl Model for Network {
 
     ghost view = { λ w. record { units = w.units; sizes = w.sizes.items; d = w.d; cost = w.cost } };
 
-    ghost invariant = { λ w. IsKept (record { units = w.units; sizes = w.sizes.items; d = w.d; cost = w.cost }) };
+    ghost invariant = { λ w. IsKept
+        (record { units = w.units; sizes = w.sizes.items; d = w.d; cost = w.cost }) };
 }
 
 impl Network {
@@ -82,7 +84,8 @@ impl Network {
         self.sizes
     }
 
-    /// There is a size for each unit, d is at least 1, and all numbers are in range. A call tells a proof so, and does nothing.
+    /// There is a size for each unit, d is at least 1, and all numbers are in range. A call gives
+    /// this to a proof, and does nothing.
     pub fn is_sized(&self)
         ensures sized { IsSized self.now }
         ensures kept { IsKept self.now }

@@ -4,7 +4,8 @@ use crate::steps::Steps;
 use std::marker::Model;
 use unit_sets::UnitSet;
 
-/// A node: the units that are taken in as one option of the parent's branching, the steps that follow from them, and the end.
+/// A node: the units that are taken in as one option of the parent's branch, the steps that follow
+/// from them, and the end.
 #[derive(Drop)]
 pub struct TreeNode {
     pub option: UnitSet,

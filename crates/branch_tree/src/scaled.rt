@@ -6,8 +6,9 @@ ghost use Rattle.branch_tree.specs.Scaled.{scaled_of};
 use std::alloc::{AllocError, Global};
 use std::marker::Model;
 
-/// A scale d, and one number for each row of a node's program, in rising order of rows: the bound that the numbers give is over d.
-/// All are in range. They stand in one list, the scale first, so that a tree of many bounds stays small.
+/// A scale d, and one number for each row of a node's program, in rising order of rows. The bound
+/// that the numbers give is over d. All are in range. They are in one list, the scale first, so
+/// that a tree of many bounds stays small.
 #[derive(Drop)]
 pub struct Scaled {
     numbers: Vec<i128>,
@@ -35,7 +36,7 @@ impl Scaled {
         Scaled { numbers }
     }
 
-    /// A copy of the multipliers behind their scale.
+    /// A copy of the multipliers, after their scale.
     pub fn of(alloc: Global, d: i128, ys: &[i128]) -> Result<Scaled, AllocError>
         requires scale { InRange d }
         requires multipliers { AllInRange ys.now }
@@ -61,7 +62,7 @@ impl Scaled {
         &self.numbers[1..]
     }
 
-    /// The scale, and behind it the multipliers.
+    /// The scale, and then the multipliers.
     pub fn numbers(&self) -> &[i128]
         ensures is { scaled_of result.now ≡ self.now }
         ensures some { 0 < length result.now }
@@ -70,7 +71,7 @@ impl Scaled {
         &self.numbers
     }
 
-    /// All numbers are in range. A call tells a proof so, and does nothing.
+    /// All numbers are in range. A call gives this to a proof, and does nothing.
     pub fn are_in_range(&self)
         ensures scale { InRange self.now.d }
         ensures multipliers { AllInRange self.now.ys }

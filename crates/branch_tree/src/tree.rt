@@ -5,8 +5,8 @@ ghost use Rattle.tree_rules.specs.Tree.{IsTree};
 use crate::node::TreeNode;
 use std::marker::Model;
 
-/// The nodes of a branch tree in preorder: the root, which has no option, and behind each node that is branched as many subtrees
-/// as it has children, at least one.
+/// The nodes of a branch tree in preorder. The root has no option. After each node that is branched
+/// come as many subtrees as it has children, at least one.
 #[derive(Drop)]
 pub struct Tree {
     nodes: Vec<TreeNode>,
@@ -46,7 +46,7 @@ impl Tree {
         self.nodes
     }
 
-    /// The nodes are one whole tree. A call tells a proof so, and does nothing.
+    /// The nodes are one whole tree. A call gives this to a proof, and does nothing.
     pub fn is_tree(&self)
         ensures { IsTree self.now }
     {

@@ -14,23 +14,28 @@ use Rattle.call_laws.specs.RangeCalls.{CallsCost, StableAgrees}
 use Rattle.call_laws.specs.Ranges.{EditedCosts, RangesAreSolved}
 
 -- what a call put out is what is kept of it
-kept_text : (held : Option (Option (List ℕ))) (text other : List ℕ) → held ≡ Some (Some text) → text ≡ other → held ≡ Some (Some other)
+kept_text : (held : Option (Option (List ℕ))) (text other : List ℕ) → held ≡ Some (Some text)
+    → text ≡ other → held ≡ Some (Some other)
 kept_text held text other is same = is ∙ ap (λ (t : List ℕ). Some (Some t)) same
 
-calls_cost : (bytes : List ℕ) (edit : Edit) (q : Problem) (much : CostOver) → EditedCosts bytes edit q much → CallsCost bytes edit q much
-calls_cost bytes edit q much costs editing solving file script edited budget changed solved edits puts here is solves prints keeps =
+calls_cost : (bytes : List ℕ) (edit : Edit) (q : Problem) (much : CostOver)
+    → EditedCosts bytes edit q much → CallsCost bytes edit q much
+calls_cost bytes edit q much costs editing solving file script edited budget changed solved edits
+    puts here is solves prints keeps =
     let e = answered editing (Editing file script) changed edits puts in
     let s = answered solving (Solving edited budget) solved solves prints in (
       s.lines,
       s.text_is,
-      costs editing.shelf_before.held solving.shelf_before.held file script edited Done e.lines s.lines budget here is e.answers
+      costs editing.shelf_before.held solving.shelf_before.held file script edited Done e.lines
+          s.lines budget here is e.answers
           (kept_text (solving.shelf_before.held edited) changed _ keeps e.text_is) s.answers,
     )
 
 pub stable_agrees : RangesAreSolved → StableAgrees
 stable_agrees law ranging file bytes tree kind name budget text calls puts here =
     let r = answered ranging (Ranging file tree kind name budget) text calls puts in
-    let x = law ranging.shelf_before.held file bytes tree kind name budget r.lines here r.answers in (
+    let x =
+    law ranging.shelf_before.held file bytes tree kind name budget r.lines here r.answers in (
       r.lines,
       r.text_is,
       record {
@@ -42,7 +47,9 @@ stable_agrees law ranging file bytes tree kind name budget text calls puts here 
     )
 
 pub check_certifies_periods : PeriodsAreCertified → CheckAcceptsSolved → CheckCertifiesPeriods
-check_certifies_periods law accepts expanding solving planning checking file plan kept tree budget other bytes script wide solved planned expands puts here is solves prints keeps plans tells there its checks same holds =
+check_certifies_periods law accepts expanding solving planning checking file plan kept tree budget
+    other bytes script wide solved planned expands puts here is solves prints keeps plans tells
+    there its checks same holds =
     let e = answered expanding (Expanding file plan) wide expands puts in
     let s = answered solving (Solving kept budget) solved solves prints in
     let x = answered planning (Planning file plan other) planned plans tells in (
@@ -51,8 +58,11 @@ check_certifies_periods law accepts expanding solving planning checking file pla
         period_lines = x.lines;
         solved_is = s.text_is;
         planned_is = x.text_is;
-        certifies = law expanding.shelf_before.held solving.shelf_before.held planning.shelf_before.held file bytes plan script kept budget other e.lines s.lines x.lines
-            here is e.answers (kept_text (solving.shelf_before.held kept) wide _ keeps e.text_is) s.answers there its x.answers;
+        certifies =
+            law expanding.shelf_before.held solving.shelf_before.held planning.shelf_before.held
+            file bytes plan script kept budget other e.lines s.lines x.lines
+            here is e.answers (kept_text (solving.shelf_before.held kept) wide _ keeps e.text_is)
+            s.answers there its x.answers;
       },
       accepts solving checking kept tree budget solved solves prints checks
           (wide, solves.call.keeps.held kept ∙ keeps, same) holds,

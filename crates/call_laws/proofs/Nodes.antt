@@ -10,12 +10,14 @@ use Rattle.number_sets.proofs.SetLemmas.{has-listed}
 use Rattle.number_sets.proofs.OptionLists.{in_option}
 use Rattle.pns_rules.specs.Shape.{Shape, IsProper}
 use Rattle.pns_rules.specs.Structure.{makers}
-use Rattle.pns_rules.specs.Nodes.{Node, Step, raw, rival, starve, loose, sole, is_free, IsPossible}
+use Rattle.pns_rules.specs.Nodes.{Node, Step, raw, rival, starve, loose, sole, is_free}
+use Rattle.pns_rules.specs.Nodes.{IsPossible}
 use Rattle.pns_rules.specs.Nodes.{after, base_makers, free_makers}
 use Rattle.pns_rules.proofs.OptionLemmas.{makers_apart, base_set, free_set}
 use Rattle.tree_rules.specs.Ways.{Way, at_material, either, MayBranch, decides, options_at}
 use Rattle.tree_rules.specs.Ways.{child_at}
-use Rattle.tree_rules.specs.Tree.{End, branch, leaf, TreeNode, StepsPass, after_all, below, Stands}
+use Rattle.tree_rules.specs.Tree.{End, branch, leaf, TreeNode, StepsPass, after_all, below}
+use Rattle.tree_rules.specs.Tree.{Stands}
 use Rattle.tree_rules.specs.Tree.{EndPasses, Pass}
 use Rattle.tree_laws.proofs.WayLemmas.{only}
 
@@ -70,7 +72,9 @@ module _ (g : Shape) (proper : IsProper g) where
   option_small n (at_material x c) t may i v e =
       let o = in_option g.units (base_makers g n x) (free_makers g n x) (base_set g n x)
       (free_set g n x) (makers_apart g n x) t i in
-      elim (or_cases (has (base_makers g n x) v) (has (free_makers g n x) v) (o.between.within v e)) [
+      elim
+      (or_cases (has (base_makers g n x) v) (has (free_makers g n x) v)
+      (o.between.within v e)) [
         | inl b ↦ listed_small (makers g n.inside x) v b
         | inr f ↦ listed_small (λ u. is_free g n u && g.makes u x) v f
       ]
@@ -93,7 +97,8 @@ module _ (g : Shape) (proper : IsProper g) where
   join_small (n ∷ ns) ms a b = (a.0, join_small ns ms a.1 b)
 
   children_small : (n : Node) (w : Way) → MayBranch g n w → AreUnits n → (ts : List (List ℕ))
-      → ((t : List ℕ) → IsIn t ts → IsIn t (options_at g n w)) → AllUnits (map (child_at g n w) ts)
+      → ((t : List ℕ) → IsIn t ts → IsIn t (options_at g n w))
+      → AllUnits (map (child_at g n w) ts)
   children_small n w may h [] all = tt
   children_small n w may h (t ∷ ts) all = (
     record {

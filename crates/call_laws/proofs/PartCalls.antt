@@ -130,8 +130,13 @@ taken_text name text s lines (inr h) = inr
 
 takes : (c : Call) (name text : List ℕ) (status : Status) (said : List ℕ) → EndsWith c status said
     → IsTakenText name text status said → Takes c name text
-takes c name text status said ends (inl h) = inl
-    (h.0, (said, (ends.0 ∙ h.1, writes_as c.out_before c.out_after status Done said said h.1 refl ends.1)))
+takes c name text status said ends (inl h) = inl (
+  h.0,
+  (
+    said,
+    (ends.0 ∙ h.1, writes_as c.out_before c.out_after status Done said said h.1 refl ends.1),
+  ),
+)
 takes c name text status said ends (inr h) = inr (
   h.0,
   (
@@ -231,8 +236,10 @@ module _ (once : PartsAreReadOnce) (stand : OpenLeavesStand) (whole_too : Accept
           let tree_for_merge : GivesTree p tree_same.0 claim nodes =
           subst (λ (b : List ℕ). GivesTree p b claim nodes)
           (is_held (splitting.shelf_before.held tree) tree_same.0 own tree_same.1 its) gives in
-          taken p merging parting file_same.0 tree_same.0 file tree part inside outside text claim nodes
+          taken p merging parting file_same.0 tree_same.0 file tree part inside outside text claim
+          nodes
           before behind number for_merge file_same.2 tree_for_merge tree_same.2 here
           work.0 (is ∙ ap text_of work.1)
-          (part_found p parting file file_kept.0 inside outside text file_kept.2 for_part finds parts)
+          (part_found p parting file file_kept.0 inside outside text file_kept.2 for_part finds
+          parts)
           merges

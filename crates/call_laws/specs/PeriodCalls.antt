@@ -17,9 +17,13 @@ pub record TextCertifies (bytes script solved planned : List ℕ) : Type 0 where
 -- the cost of what `periods` put out, and `check` accepts it.
 abbrev pub CheckCertifiesPeriods : Type 0
 CheckCertifiesPeriods =
-    (expanding solving planning checking : Call) (file plan kept tree : List ℕ) (budget other : ℕ) (bytes script wide solved planned : List ℕ)
-    → Calls expanding (Expanding file plan) → Puts expanding wide → Holds expanding file bytes → Holds expanding plan script
+    (expanding solving planning checking : Call) (file plan kept tree : List ℕ) (budget other : ℕ)
+    (bytes script wide solved planned : List ℕ)
+    → Calls expanding (Expanding file plan) → Puts expanding wide → Holds expanding file bytes
+    → Holds expanding plan script
     → Calls solving (Solving kept budget) → Puts solving solved → Holds solving kept wide
-    → Calls planning (Planning file plan other) → Puts planning planned → Holds planning file bytes → Holds planning plan script
+    → Calls planning (Planning file plan other) → Puts planning planned → Holds planning file bytes
+    → Holds planning plan script
     → Calls checking (Checking kept tree) → Holds checking kept wide → Holds checking tree solved
-    → TextCertifies bytes script solved planned × (Accepts checking tree solved ⊎ HasFailed checking)
+    → TextCertifies bytes script solved planned
+    × (Accepts checking tree solved ⊎ HasFailed checking)

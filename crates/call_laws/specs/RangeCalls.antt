@@ -16,13 +16,17 @@ use Rattle.call_laws.specs.Ranges.{RangeIsSolved}
 abbrev pub CallsCost : List ℕ → Edit → Problem → CostOver → Type 0
 CallsCost bytes edit q much =
     (editing solving : Call) (file script edited : List ℕ) (budget : ℕ) (changed solved : List ℕ)
-    → Calls editing (Editing file script) → Puts editing changed → Holds editing file bytes → Holds editing script (script_text (edit ∷ []))
+    → Calls editing (Editing file script) → Puts editing changed → Holds editing file bytes
+    → Holds editing script (script_text (edit ∷ []))
     → Calls solving (Solving edited budget) → Puts solving solved → Holds solving edited changed
     → (lines : List (List ℕ)) × (solved ≡ text_of lines) × PrintsCost q much lines
 
 -- Each range that a call of `stable` puts out is solved so.
 abbrev pub StableAgrees : Type 0
 StableAgrees =
-    (ranging : Call) (file bytes tree : List ℕ) (kind : SpotKind) (name : List ℕ) (budget : ℕ) (text : List ℕ)
-    → Calls ranging (Ranging file tree kind name budget) → Puts ranging text → Holds ranging file bytes
-    → (lines : List (List ℕ)) × (text ≡ text_of lines) × RangeIsSolved CallsCost ranging.shelf_before.held bytes tree kind name lines
+    (ranging : Call) (file bytes tree : List ℕ) (kind : SpotKind) (name : List ℕ) (budget : ℕ)
+    (text : List ℕ)
+    → Calls ranging (Ranging file tree kind name budget) → Puts ranging text
+    → Holds ranging file bytes
+    → (lines : List (List ℕ)) × (text ≡ text_of lines)
+    × RangeIsSolved CallsCost ranging.shelf_before.held bytes tree kind name lines

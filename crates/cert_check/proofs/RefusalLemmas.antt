@@ -9,30 +9,45 @@ use Rattle.tree_rules.specs.declared.why.Why.{Why}
 use Rattle.tree_rules.specs.Claim as rules
 use Rattle.tree_rules.specs.Accepted.{Tree, first_node, Proves, NodeIsFault}
 use Rattle.tree_rules.specs.Costs.{CostsEnough}
-use Rattle.tree_laws.specs.Laws.{AcceptedIsOptimal, PassingClaimHasNoFault, ClaimHasOneFault, PassingTreeHasNoFault, TreeHasOneFault}
+use Rattle.tree_laws.specs.Laws.{AcceptedIsOptimal, PassingClaimHasNoFault, ClaimHasOneFault}
+use Rattle.tree_laws.specs.Laws.{PassingTreeHasNoFault, TreeHasOneFault}
 use Rattle.tree_rules.specs.declared.refusal.Refusal.{Refusal}
 use Rattle.tree_rules.specs.declared.refusal.Refusal.TheVariants.{Memory, Claim}
 use Rattle.tree_rules.specs.declared.refusal.Refusal.TheVariants as refusals
 use Rattle.tree_rules.specs.Refusals.{Refuses}
 use Rattle.cert_check.specs.Refusals.{IsOkOrMemory, IsRefusalOrMemory}
 
-module _ {A : Type 0} (partial : Bool) (p : Problem) (start : Node) (claim : rules.Claim) (tree : Tree) where
-  pub accepts : PassingClaimHasNoFault → PassingTreeHasNoFault → (r : Result A Refusal) → IfErr r (Refuses partial p start claim tree) → Proves partial p start claim tree → IsOkOrMemory r
+module _ {A : Type 0} (partial : Bool) (p : Problem) (start : Node) (claim : rules.Claim)
+    (tree : Tree) where
+  pub accepts : PassingClaimHasNoFault → PassingTreeHasNoFault → (r : Result A Refusal)
+      → IfErr r (Refuses partial p start claim tree) → Proves partial p start claim tree
+      → IsOkOrMemory r
   accepts no_fault no_node (Ok x) f h = tt
   accepts no_fault no_node (Err Memory) f h = refl
   accepts no_fault no_node (Err (Claim why)) f h = absurd (no_fault partial p claim why h.claimed f)
-  accepts no_fault no_node (Err (refusals.Node k why)) f h = absurd (no_node partial p start claim tree k why h f.1)
+  accepts no_fault no_node (Err (refusals.Node k why)) f h =
+      absurd (no_node partial p start claim tree k why h f.1)
 
-  pub names_claim : PassingClaimHasNoFault → ClaimHasOneFault → (r : Result A Refusal) → OnOk r (Proves partial p start claim tree) → IfErr r (Refuses partial p start claim tree) → (why : Why) → rules.ClaimFails partial p claim why → IsRefusalOrMemory (Claim why) r
+  pub names_claim : PassingClaimHasNoFault → ClaimHasOneFault → (r : Result A Refusal)
+      → OnOk r (Proves partial p start claim tree) → IfErr r (Refuses partial p start claim tree)
+      → (why : Why) → rules.ClaimFails partial p claim why → IsRefusalOrMemory (Claim why) r
   names_claim no_fault one (Ok x) h f why fails = no_fault partial p claim why h.claimed fails
   names_claim no_fault one (Err Memory) h f why fails = inr refl
-  names_claim no_fault one (Err (Claim other)) h f why fails = inl (ap (λ (w : Why). Claim w) (one partial p claim other why f fails))
-  names_claim no_fault one (Err (refusals.Node k other)) h f why fails = absurd (no_fault partial p claim why f.0 fails)
+  names_claim no_fault one (Err (Claim other)) h f why fails =
+      inl (ap (λ (w : Why). Claim w) (one partial p claim other why f fails))
+  names_claim no_fault one (Err (refusals.Node k other)) h f why fails =
+      absurd (no_fault partial p claim why f.0 fails)
 
-  pub names_node : PassingClaimHasNoFault → PassingTreeHasNoFault → TreeHasOneFault → (r : Result A Refusal) → OnOk r (Proves partial p start claim tree) → IfErr r (Refuses partial p start claim tree) → (k : ℕ) (why : Why) → rules.ClaimPasses partial p claim → NodeIsFault partial p start claim tree k why → IsRefusalOrMemory (refusals.Node k why) r
-  names_node no_fault no_node one (Ok x) h f k why passes fault = no_node partial p start claim tree k why h fault
+  pub names_node : PassingClaimHasNoFault → PassingTreeHasNoFault → TreeHasOneFault
+      → (r : Result A Refusal) → OnOk r (Proves partial p start claim tree)
+      → IfErr r (Refuses partial p start claim tree) → (k : ℕ) (why : Why)
+      → rules.ClaimPasses partial p claim → NodeIsFault partial p start claim tree k why
+      → IsRefusalOrMemory (refusals.Node k why) r
+  names_node no_fault no_node one (Ok x) h f k why passes fault =
+      no_node partial p start claim tree k why h fault
   names_node no_fault no_node one (Err Memory) h f k why passes fault = inr refl
-  names_node no_fault no_node one (Err (Claim other)) h f k why passes fault = absurd (no_fault partial p claim other passes f)
+  names_node no_fault no_node one (Err (Claim other)) h f k why passes fault =
+      absurd (no_fault partial p claim other passes f)
   names_node no_fault no_node one (Err (refusals.Node j other)) h f k why passes fault =
       let same = one partial p start claim tree j k other why f.1 fault in
       inl (ap₂ (λ (i : ℕ) (w : Why). refusals.Node i w) same.0 same.1)
@@ -56,10 +71,15 @@ module _ {A : Type 0} where
   answer_or_memory (Ok x) h = tt
   answer_or_memory (Err e) h = h
 
-  pub answer_refused : (wanted : Refusal) (r : Result A Refusal) → IsRefusalOrMemory wanted r → IsRefusalOrMemory wanted (answer_of r)
+  pub answer_refused : (wanted : Refusal) (r : Result A Refusal) → IsRefusalOrMemory wanted r
+      → IsRefusalOrMemory wanted (answer_of r)
   answer_refused wanted (Ok x) h = h
   answer_refused wanted (Err e) h = h
 
-pub least : {A : Type 0} (p : Problem) (claim : rules.Claim) (tree : Tree) → AcceptedIsOptimal → IsValid p → (r : Result A Refusal) → OnOk r (Proves false p first_node claim tree) → OnOk r ((s : ℕ → Bool) → IsStructure (shape_of p) s → IsAllowed (shape_of p) s → CostsEnough p (rules.claimed_cost claim) s)
-least p claim tree optimal valid (Ok x) h = λ s structure allowed. optimal p valid claim tree h s structure allowed
+pub least : {A : Type 0} (p : Problem) (claim : rules.Claim) (tree : Tree) → AcceptedIsOptimal
+    → IsValid p → (r : Result A Refusal) → OnOk r (Proves false p first_node claim tree)
+    → OnOk r ((s : ℕ → Bool) → IsStructure (shape_of p) s → IsAllowed (shape_of p) s
+    → CostsEnough p (rules.claimed_cost claim) s)
+least p claim tree optimal valid (Ok x) h =
+    λ s structure allowed. optimal p valid claim tree h s structure allowed
 least p claim tree optimal valid (Err e) h = tt

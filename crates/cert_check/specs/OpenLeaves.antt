@@ -26,7 +26,8 @@ NoneBefore k [] = Unit {0}
 NoneBefore k (l ∷ ls) = (k ≤ l.number) × NoneBefore k ls
 
 -- these are all open leaves of a tree before node k
-pub record AreThoseBefore (g : Shape) (starts : List Node) (tree : Tree) (k : ℕ) (found : List OpenAt) : Type 0 where
+pub record AreThoseBefore (g : Shape) (starts : List Node) (tree : Tree) (k : ℕ)
+    (found : List OpenAt) : Type 0 where
   pub others : List OpenAt
   pub all : open_leaves g starts tree 0 ≡ found ++ others
   pub before : AllBefore k found

@@ -15,7 +15,8 @@ use Rattle.tree_rules.specs.declared.refusal.Refusal.TheVariants as refusals
 
 -- of the subtrees of the nodes, the first that fails is the one that the refusal names, for its
 -- cause
-abbrev pub NamesFault : Shape → (Node → Leaf → Type 0) → (Node → Leaf → Why → Type 0) → List Node → Tree → Refusal → Type 0
+abbrev pub NamesFault : Shape → (Node → Leaf → Type 0) → (Node → Leaf → Why → Type 0) → List Node
+    → Tree → Refusal → Type 0
 NamesFault g P F starts tree Memory = Unit {0}
 NamesFault g P F starts tree (Claim why) = ⊥
 NamesFault g P F starts tree (refusals.Node k why) = IsFirstFault g P F starts tree k why
@@ -37,7 +38,9 @@ NamesClaim partial p claim answer =
 
 -- if the claim passes, the answer says which node is the first that fails, and for which cause, or
 -- is `Memory`
-abbrev pub NamesNode : {A : Type 0} → Bool → Problem → Node → rules.Claim → Tree → Result A Refusal → Type 0
+abbrev pub NamesNode : {A : Type 0} → Bool → Problem → Node → rules.Claim → Tree → Result A Refusal
+    → Type 0
 NamesNode partial p start claim tree answer =
-    (k : ℕ) (why : Why) → rules.ClaimPasses partial p claim → NodeIsFault partial p start claim tree k why
+    (k : ℕ) (why : Why) → rules.ClaimPasses partial p claim
+    → NodeIsFault partial p start claim tree k why
     → IsRefusalOrMemory (refusals.Node k why) answer

@@ -33,7 +33,8 @@ BranchPasses g n w behind = MayBranch g n w × (roots (width w) behind ≡ optio
 
 -- the node passes, with the list `behind` after it, and the nodes of its children are put before
 -- those that were left
-pub record IsVisited (g : Shape) (P : Node → Leaf → Type 0) (n : Node) (t : TreeNode Leaf) (behind : Tree) (before after : List Node) : Type 0 where
+pub record IsVisited (g : Shape) (P : Node → Leaf → Type 0) (n : Node) (t : TreeNode Leaf)
+    (behind : Tree) (before after : List Node) : Type 0 where
   pub steps : StepsPass g n t.steps
   pub end : EndPasses g P (after_all g n t.steps) t.end behind
   pub children : after ≡ below g (after_all g n t.steps) t.end ++ before

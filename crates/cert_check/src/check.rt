@@ -1,5 +1,6 @@
 //! Claims with their trees.
-ghost use Rattle.std.specs.Prelude.{◌≡◌, ◌<◌, ◌^◌, ◌∷◌, [], ℕ, Bool, true, false, length, OnOk, IfOk, IfErr};
+ghost use Rattle.std.specs.Prelude.{◌≡◌, ◌<◌, ◌^◌, ◌∷◌, [], ℕ, Bool, true, false, length, OnOk};
+ghost use Rattle.std.specs.Prelude.{IfOk, IfErr};
 ghost use Rattle.pns_rules.specs.Shape.{shape_of};
 ghost use Rattle.pns_rules.specs.Structure.{IsStructure, IsAllowed};
 ghost use Rattle.tree_rules.specs.Tree.{Pass};
@@ -42,11 +43,16 @@ pub fn check_from(
     requires few { length tree.now < 2 ^ 32 }
     // `Ok` comes only if the tree proves the claim. If it does, the only other answer is that there
     // is no memory.
-    ensures proves { OnOk result (Proves partial site.now (node_of start.now) (claim_of claim.now) tree.now) }
-    ensures accepts { Proves partial site.now (node_of start.now) (claim_of claim.now) tree.now → IsOkOrMemory result }
-    ensures leaves { IfOk result (λ v. leaves_at v.items ≡ open_leaves (shape_of site.now) (node_of start.now ∷ []) tree.now 0) }
+    ensures proves { OnOk result
+        (Proves partial site.now (node_of start.now) (claim_of claim.now) tree.now) }
+    ensures accepts { Proves partial site.now (node_of start.now) (claim_of claim.now) tree.now
+        → IsOkOrMemory result }
+    ensures leaves { IfOk result
+        (λ v. leaves_at v.items
+        ≡ open_leaves (shape_of site.now) (node_of start.now ∷ []) tree.now 0) }
     // A refusal names the first fault. A first fault is named, unless there is no memory.
-    ensures refuses { IfErr result (Refuses partial site.now (node_of start.now) (claim_of claim.now) tree.now) }
+    ensures refuses { IfErr result
+        (Refuses partial site.now (node_of start.now) (claim_of claim.now) tree.now) }
     ensures names_claim { NamesClaim partial site.now (claim_of claim.now) result }
     ensures names_node { NamesNode partial site.now (node_of start.now) (claim_of claim.now)
         tree.now result }
@@ -79,10 +85,19 @@ pub fn check_nodes(
 ) -> Result<Vec<OpenLeaf>, Stop>
     requires known { KnowsInside (shape_of site.now) (node_of start.now) }
     requires few { length tree.now < 2 ^ 32 }
-    ensures passes { OnOk result (Pass (shape_of site.now) (LeafPasses true site.now (cost_over undercut)) (node_of start.now ∷ []) tree.now) }
-    ensures leaves { IfOk result (λ v. leaves_at v.items ≡ open_leaves (shape_of site.now) (node_of start.now ∷ []) tree.now 0) }
-    ensures fault { IfErr result (λ stop. NamesFault (shape_of site.now) (LeafPasses true site.now (cost_over undercut)) (LeafFails true site.now (cost_over undercut)) (node_of start.now ∷ []) tree.now stop.refusal) }
-    ensures before { IfErr result (λ stop. AreBefore (shape_of site.now) (node_of start.now ∷ []) tree.now stop.refusal (leaves_at stop.leaves.items)) }
+    ensures passes { OnOk result
+        (Pass (shape_of site.now) (LeafPasses true site.now (cost_over undercut))
+        (node_of start.now ∷ []) tree.now) }
+    ensures leaves { IfOk result
+        (λ v. leaves_at v.items
+        ≡ open_leaves (shape_of site.now) (node_of start.now ∷ []) tree.now 0) }
+    ensures fault { IfErr result
+        (λ stop. NamesFault (shape_of site.now) (LeafPasses true site.now (cost_over undercut))
+        (LeafFails true site.now (cost_over undercut)) (node_of start.now ∷ []) tree.now
+        stop.refusal) }
+    ensures before { IfErr result
+        (λ stop. AreBefore (shape_of site.now) (node_of start.now ∷ []) tree.now stop.refusal
+        (leaves_at stop.leaves.items)) }
 {
     tree.is_tree();
     let judge = Judge {
@@ -100,16 +115,21 @@ pub fn check_tree(alloc: Global, site: &Site<'_>, claim: &Claim, tree: &Tree) ->
     // `Ok` comes only if the tree proves the claim. If it does, the only other answer is that there
     // is no memory.
     ensures accepted { OnOk result (IsAccepted site.now first_node (claim_of claim.now) tree.now) }
-    ensures accepts { IsAccepted site.now first_node (claim_of claim.now) tree.now → IsOkOrMemory result }
+    ensures accepts { IsAccepted site.now first_node (claim_of claim.now) tree.now
+        → IsOkOrMemory result }
     // A refusal names the first fault. A first fault is named, unless there is no memory.
-    ensures refused { IfErr result (Refuses false site.now first_node (claim_of claim.now) tree.now) }
+    ensures refused { IfErr result
+        (Refuses false site.now first_node (claim_of claim.now) tree.now) }
     ensures names_claim { NamesClaim false site.now (claim_of claim.now) result }
     ensures names_node { NamesNode false site.now first_node (claim_of claim.now) tree.now result }
     // With any flows, each clash-free solution structure costs at least what is claimed. If the
     // claim has no network, none has flows.
-    ensures least { OnOk result ((s : ℕ → Bool) → IsStructure (shape_of site.now) s → IsAllowed (shape_of site.now) s → CostsEnough site.now (rules.claimed_cost (claim_of claim.now)) s) }
+    ensures least { OnOk result
+        ((s : ℕ → Bool) → IsStructure (shape_of site.now) s → IsAllowed (shape_of site.now) s
+        → CostsEnough site.now (rules.claimed_cost (claim_of claim.now)) s) }
     // The network of a claim is clash-free and has flows of the claimed cost.
-    ensures feasible { OnOk result ((w : rules.Network) → claim_of claim.now ≡ rules.network w → rules.IsFeasible site.now w) }
+    ensures feasible { OnOk result
+        ((w : rules.Network) → claim_of claim.now ≡ rules.network w → rules.IsFeasible site.now w) }
 {
     site.problem();
     accepted_is_optimal();

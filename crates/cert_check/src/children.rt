@@ -19,7 +19,10 @@ pub(crate) fn push_children(
     stack: &mut Vec<Node>,
 ) -> Result<(), AllocError>
     requires { material < (shape graph.now).materials }
-    ensures { OnOk result (stack_of stack.new.items ≡ map (child (shape graph.now) (node_of node.now) material) options.now ++ stack_of stack.old.items) }
+    ensures { OnOk result
+        (stack_of stack.new.items
+        ≡ map (child (shape graph.now) (node_of node.now) material) options.now
+        ++ stack_of stack.old.items) }
 {
     let mut left = options.len();
     'put: while left > 0 {

@@ -53,7 +53,8 @@ pub(crate) fn judge_claim(site: &Site<'_>, claim: &Claim, partial: bool) -> Resu
 /// is no network. Else the cause is that of the first line that fails. It takes no memory.
 pub fn check_claim(site: &Site<'_>, claim: &Claim) -> Result<(), Why>
     ensures passes { IsOk result ↔ ClaimPasses false site.now (claim_of claim.now) }
-    ensures fails { (why : Why) → (result ≡ Err why) ↔ ClaimFails false site.now (claim_of claim.now) why }
+    ensures fails { (why : Why) → (result ≡ Err why)
+        ↔ ClaimFails false site.now (claim_of claim.now) why }
 {
     claim_has_one_fault();
     judge_claim(site, claim, false)

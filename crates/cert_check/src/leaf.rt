@@ -24,8 +24,12 @@ pub(crate) fn judge_leaf(
     end: &End,
 ) -> Result<(), Why>
     requires known { KnowsInside (shape_of site.now) (node_of node.now) }
-    ensures passes { OnOk result ((l : Leaf) → end_of end.now ≡ leaf l → LeafPasses partial site.now (cost_over claimed) (node_of node.now) l) }
-    ensures fails { IfErr result (λ why. (l : Leaf) → end_of end.now ≡ leaf l → LeafFails partial site.now (cost_over claimed) (node_of node.now) l why) }
+    ensures passes { OnOk result
+        ((l : Leaf) → end_of end.now ≡ leaf l
+        → LeafPasses partial site.now (cost_over claimed) (node_of node.now) l) }
+    ensures fails { IfErr result
+        (λ why. (l : Leaf) → end_of end.now ≡ leaf l
+        → LeafFails partial site.now (cost_over claimed) (node_of node.now) l why) }
 {
     match end {
         End::Dead(x) => judge_dead(site, node, *x),

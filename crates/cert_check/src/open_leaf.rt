@@ -24,7 +24,9 @@ pub(crate) fn note_end(
     node: Node,
     end: &End,
 ) -> Result<(), AllocError>
-    ensures { OnOk result (leaves_at leaves.new.items ≡ leaves_at leaves.old.items ++ open_here number (node_of node) (end_of end.now)) }
+    ensures { OnOk result
+        (leaves_at leaves.new.items ≡ leaves_at leaves.old.items
+        ++ open_here number (node_of node) (end_of end.now)) }
 {
     match end {
         End::Open => {

@@ -14,7 +14,8 @@ ghost use Rattle.pgraph.specs.View.{node_of};
 ghost use Rattle.branch_tree.specs.View.{end_of};
 ghost use Rattle.cert_parts.specs.Known.{KnowsInside};
 ghost use Rattle.cert_check.specs.Subtrees.{rest_of, HasEnds, stack_of};
-ghost use Rattle.cert_check.specs.Visits.{leaf_passes, leaf_fails, BranchPasses, IsVisited, Halts};
+ghost use Rattle.cert_check.specs.Visits.{leaf_passes, leaf_fails, BranchPasses, IsVisited};
+ghost use Rattle.cert_check.specs.Visits.{Halts};
 
 use crate::children::push_children;
 use crate::leaf::judge_leaf;
@@ -55,10 +56,19 @@ fn visit_branch(
     stack: &mut Vec<Node>,
 ) -> Result<(), Halt>
     requires { HasEnds behind.now }
-    ensures needed { OnOk result (is_needed (shape graph.now) (has node.now.inside) material ≡ true) }
-    ensures options { OnOk result (trees.roots children (rest_of behind.now) ≡ options (shape graph.now) (node_of node.now) material) }
-    ensures stack { OnOk result (stack_of stack.new.items ≡ map (child (shape graph.now) (node_of node.now) material) (options (shape graph.now) (node_of node.now) material) ++ stack_of stack.old.items) }
-    ensures halts { IfErr result (Halts (λ why. (why ≡ causes.Options) × (BranchPasses (shape graph.now) (node_of node.now) (at_material material children) (rest_of behind.now) → ⊥))) }
+    ensures needed { OnOk result
+        (is_needed (shape graph.now) (has node.now.inside) material ≡ true) }
+    ensures options { OnOk result
+        (trees.roots children (rest_of behind.now)
+        ≡ options (shape graph.now) (node_of node.now) material) }
+    ensures stack { OnOk result
+        (stack_of stack.new.items
+        ≡ map (child (shape graph.now) (node_of node.now) material)
+        (options (shape graph.now) (node_of node.now) material) ++ stack_of stack.old.items) }
+    ensures halts { IfErr result
+        (Halts (λ why. (why ≡ causes.Options)
+        × (BranchPasses (shape graph.now) (node_of node.now) (at_material material children)
+        (rest_of behind.now) → ⊥))) }
 {
     graph.is_proper();
     let Ok(()) = roots(behind.nodes, behind.ends, behind.from, children, found) else {
@@ -86,9 +96,16 @@ fn visit_either(
 ) -> Result<(), Halt>
     requires { HasEnds behind.now }
     ensures may { OnOk result (MayBranch (shape graph.now) (node_of node.now) (either unit)) }
-    ensures options { OnOk result (trees.roots 2 (rest_of behind.now) ≡ options_at (shape graph.now) (node_of node.now) (either unit)) }
-    ensures stack { OnOk result (stack_of stack.new.items ≡ children_at (shape graph.now) (node_of node.now) (either unit) ++ stack_of stack.old.items) }
-    ensures halts { IfErr result (Halts (λ why. (why ≡ causes.Options) × (BranchPasses (shape graph.now) (node_of node.now) (either unit) (rest_of behind.now) → ⊥))) }
+    ensures options { OnOk result
+        (trees.roots 2 (rest_of behind.now)
+        ≡ options_at (shape graph.now) (node_of node.now) (either unit)) }
+    ensures stack { OnOk result
+        (stack_of stack.new.items ≡ children_at (shape graph.now) (node_of node.now) (either unit)
+        ++ stack_of stack.old.items) }
+    ensures halts { IfErr result
+        (Halts (λ why. (why ≡ causes.Options)
+        × (BranchPasses (shape graph.now) (node_of node.now) (either unit) (rest_of behind.now)
+        → ⊥))) }
 {
     graph.is_proper();
     let Ok(()) = roots(behind.nodes, behind.ends, behind.from, 2, found) else {
@@ -118,9 +135,17 @@ fn visit_end(
 ) -> Result<(), Halt>
     requires known { KnowsInside (shape_of judge.now.site.now) (node_of node.now) }
     requires ends { HasEnds behind.now }
-    ensures passes { OnOk result (EndPasses (shape_of judge.now.site.now) (leaf_passes judge.now) (node_of node.now) (end_of end.now) (rest_of behind.now)) }
-    ensures children { OnOk result (stack_of stack.new.items ≡ below (shape_of judge.now.site.now) (node_of node.now) (end_of end.now) ++ stack_of stack.old.items) }
-    ensures halts { IfErr result (Halts (EndFails (shape_of judge.now.site.now) (leaf_fails judge.now) (node_of node.now) (end_of end.now) (rest_of behind.now))) }
+    ensures passes { OnOk result
+        (EndPasses (shape_of judge.now.site.now) (leaf_passes judge.now) (node_of node.now)
+        (end_of end.now) (rest_of behind.now)) }
+    ensures children { OnOk result
+        (stack_of stack.new.items
+        ≡ below (shape_of judge.now.site.now) (node_of node.now) (end_of end.now)
+        ++ stack_of stack.old.items) }
+    ensures halts { IfErr result
+        (Halts
+        (EndFails (shape_of judge.now.site.now) (leaf_fails judge.now) (node_of node.now)
+        (end_of end.now) (rest_of behind.now))) }
 {
     match end {
         End::Branch { material, children } => visit_branch(
@@ -152,9 +177,18 @@ pub(crate) fn visit(
 ) -> Result<Node, Halt>
     requires known { KnowsInside (shape_of judge.now.site.now) (node_of node.now) }
     requires ends { HasEnds behind.now }
-    ensures visited { OnOk result (IsVisited (shape_of judge.now.site.now) (leaf_passes judge.now) (node_of node.now) item.now (rest_of behind.now) (stack_of stack.old.items) (stack_of stack.new.items)) }
-    ensures reached { IfOk result (λ n. node_of n ≡ after_all (shape_of judge.now.site.now) (node_of node.now) item.now.steps) }
-    ensures halts { IfErr result (Halts (NodeFails (shape_of judge.now.site.now) (leaf_fails judge.now) (node_of node.now) item.now (rest_of behind.now))) }
+    ensures visited { OnOk result
+        (IsVisited (shape_of judge.now.site.now) (leaf_passes judge.now) (node_of node.now)
+        item.now
+        (rest_of behind.now) (stack_of stack.old.items) (stack_of stack.new.items)) }
+    ensures reached { IfOk result
+        (λ n. node_of n ≡ after_all (shape_of judge.now.site.now) (node_of node.now)
+        item.now.steps) }
+    ensures halts { IfErr result
+        (Halts
+        (NodeFails (shape_of judge.now.site.now) (leaf_fails judge.now) (node_of node.now)
+        item.now
+        (rest_of behind.now))) }
 {
     let steps = item.steps.steps();
     let Some(reached) = after_steps(judge.site.graph(), node, steps) else {

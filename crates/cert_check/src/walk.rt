@@ -69,10 +69,18 @@ pub(crate) fn walk_to(
     requires known { KnowsInside (shape_of judge.now.site.now) (node_of start.now) }
     requires forest { IsForest 1 nodes.now }
     requires few { length nodes.now < 2 ^ 32 }
-    ensures passes { OnOk result (Pass (shape_of judge.now.site.now) (leaf_passes judge.now) (node_of start.now ∷ []) nodes.now) }
-    ensures leaves { IfOk result (λ v. leaves_at v.items ≡ open_leaves (shape_of judge.now.site.now) (node_of start.now ∷ []) nodes.now 0) }
-    ensures fault { IfErr result (λ stop. NamesFault (shape_of judge.now.site.now) (leaf_passes judge.now) (leaf_fails judge.now) (node_of start.now ∷ []) nodes.now stop.refusal) }
-    ensures before { IfErr result (λ stop. AreBefore (shape_of judge.now.site.now) (node_of start.now ∷ []) nodes.now stop.refusal (leaves_at stop.leaves.items)) }
+    ensures passes { OnOk result
+        (Pass (shape_of judge.now.site.now) (leaf_passes judge.now) (node_of start.now ∷ [])
+        nodes.now) }
+    ensures leaves { IfOk result
+        (λ v. leaves_at v.items
+        ≡ open_leaves (shape_of judge.now.site.now) (node_of start.now ∷ []) nodes.now 0) }
+    ensures fault { IfErr result
+        (λ stop. NamesFault (shape_of judge.now.site.now) (leaf_passes judge.now)
+        (leaf_fails judge.now) (node_of start.now ∷ []) nodes.now stop.refusal) }
+    ensures before { IfErr result
+        (λ stop. AreBefore (shape_of judge.now.site.now) (node_of start.now ∷ []) nodes.now
+        stop.refusal (leaves_at stop.leaves.items)) }
 {
     let mut leaves = Vec::new(alloc);
     let Ok(ends) = ends_of(alloc, nodes) else {
@@ -114,9 +122,15 @@ pub(crate) fn walk(
     requires known { KnowsInside (shape_of judge.now.site.now) (node_of start.now) }
     requires forest { IsForest 1 nodes.now }
     requires few { length nodes.now < 2 ^ 32 }
-    ensures passes { OnOk result (Pass (shape_of judge.now.site.now) (leaf_passes judge.now) (node_of start.now ∷ []) nodes.now) }
-    ensures leaves { IfOk result (λ v. leaves_at v.items ≡ open_leaves (shape_of judge.now.site.now) (node_of start.now ∷ []) nodes.now 0) }
-    ensures fault { IfErr result (NamesFault (shape_of judge.now.site.now) (leaf_passes judge.now) (leaf_fails judge.now) (node_of start.now ∷ []) nodes.now) }
+    ensures passes { OnOk result
+        (Pass (shape_of judge.now.site.now) (leaf_passes judge.now) (node_of start.now ∷ [])
+        nodes.now) }
+    ensures leaves { IfOk result
+        (λ v. leaves_at v.items
+        ≡ open_leaves (shape_of judge.now.site.now) (node_of start.now ∷ []) nodes.now 0) }
+    ensures fault { IfErr result
+        (NamesFault (shape_of judge.now.site.now) (leaf_passes judge.now) (leaf_fails judge.now)
+        (node_of start.now ∷ []) nodes.now) }
 {
     match walk_to(alloc, judge, start, nodes) {
         Ok(leaves) => Ok(leaves),

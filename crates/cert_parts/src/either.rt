@@ -26,7 +26,9 @@ fn are_in_and_out(u: u32, found: &[UnitSet]) -> bool
 /// Whether the unit is one of the graph, neither taken in nor left out, and these are the options
 /// of branching at it.
 pub fn are_options_of_unit(graph: &Graph, node: &Node, u: u32, found: &[UnitSet]) -> bool
-    ensures { IsTrue result ↔ (MayBranch (shape graph.now) (node_of node.now) (either u) × (found.now ≡ options_at (shape graph.now) (node_of node.now) (either u))) }
+    ensures { IsTrue result
+        ↔ (MayBranch (shape graph.now) (node_of node.now) (either u)
+        × (found.now ≡ options_at (shape graph.now) (node_of node.now) (either u))) }
 {
     graph.is_proper();
     if !is_free(graph, node, u) {

@@ -1,11 +1,13 @@
 //! The leaves of a tree, each judged at its node.
-ghost use Rattle.std.specs.Prelude.{◌≡◌, ◌↔◌, ◌≤ℤ◌, ℕ, pos, Bool, length, Option, IsTrue, OnOk, IfErr};
+ghost use Rattle.std.specs.Prelude.{◌≡◌, ◌↔◌, ◌≤ℤ◌, ℕ, pos, Bool, length, Option, IsTrue, OnOk};
+ghost use Rattle.std.specs.Prelude.{IfErr};
 ghost use Rattle.pns_rules.specs.Shape.{shape_of};
 ghost use Rattle.pns_rules.specs.Structure.{Clashes};
 ghost use Rattle.flow_rules.specs.Net.{net_of};
 ghost use Rattle.flow_rules.specs.Relaxed.{rows};
 ghost use Rattle.tree_rules.specs.Claim as claims;
-ghost use Rattle.tree_rules.specs.Leaf.{dead, clash, refuted, bounded, untried, IsOneEach, LeafPasses, LeafFails};
+ghost use Rattle.tree_rules.specs.Leaf.{dead, clash, refuted, bounded, untried, IsOneEach};
+ghost use Rattle.tree_rules.specs.Leaf.{LeafPasses, LeafFails};
 ghost use Rattle.pgraph.specs.Tables.{shape};
 ghost use Rattle.pgraph.specs.View.{node_of};
 ghost use Rattle.cert_parts.specs.Known.{KnowsInside};
@@ -22,8 +24,12 @@ use unit_sets::Node;
 
 /// A leaf that is dead at the material.
 pub fn judge_dead(site: &Site<'_>, node: &Node, x: u32) -> Result<(), Why>
-    ensures passes { OnOk result ((partial : Bool) (claimed : Option claims.CostOver) → LeafPasses partial site.now claimed (node_of node.now) (dead x)) }
-    ensures fails { IfErr result (λ why. (partial : Bool) (claimed : Option claims.CostOver) → LeafFails partial site.now claimed (node_of node.now) (dead x) why) }
+    ensures passes { OnOk result
+        ((partial : Bool) (claimed : Option claims.CostOver)
+        → LeafPasses partial site.now claimed (node_of node.now) (dead x)) }
+    ensures fails { IfErr result
+        (λ why. (partial : Bool) (claimed : Option claims.CostOver)
+        → LeafFails partial site.now claimed (node_of node.now) (dead x) why) }
 {
     if is_dead(site.graph(), node, x) {
         Ok(())
@@ -47,8 +53,12 @@ fn clashes(graph: &Graph, node: &Node, k: u32) -> bool
 
 /// A leaf that clashes at the exclusion.
 pub fn judge_clash(site: &Site<'_>, node: &Node, k: u32) -> Result<(), Why>
-    ensures passes { OnOk result ((partial : Bool) (claimed : Option claims.CostOver) → LeafPasses partial site.now claimed (node_of node.now) (clash k)) }
-    ensures fails { IfErr result (λ why. (partial : Bool) (claimed : Option claims.CostOver) → LeafFails partial site.now claimed (node_of node.now) (clash k) why) }
+    ensures passes { OnOk result
+        ((partial : Bool) (claimed : Option claims.CostOver)
+        → LeafPasses partial site.now claimed (node_of node.now) (clash k)) }
+    ensures fails { IfErr result
+        (λ why. (partial : Bool) (claimed : Option claims.CostOver)
+        → LeafFails partial site.now claimed (node_of node.now) (clash k) why) }
 {
     if clashes(site.graph(), node, k) {
         Ok(())
@@ -70,8 +80,12 @@ fn is_one_each(site: &Site<'_>, node: &Node, ys: &[i128]) -> bool
 /// A leaf at which the multipliers are to show that no structure has flows.
 pub fn judge_refutation(site: &Site<'_>, node: &Node, ys: &[i128]) -> Result<(), Why>
     requires known { KnowsInside (shape_of site.now) (node_of node.now) }
-    ensures passes { OnOk result ((partial : Bool) (claimed : Option claims.CostOver) → LeafPasses partial site.now claimed (node_of node.now) (refuted ys.now)) }
-    ensures fails { IfErr result (λ why. (partial : Bool) (claimed : Option claims.CostOver) → LeafFails partial site.now claimed (node_of node.now) (refuted ys.now) why) }
+    ensures passes { OnOk result
+        ((partial : Bool) (claimed : Option claims.CostOver)
+        → LeafPasses partial site.now claimed (node_of node.now) (refuted ys.now)) }
+    ensures fails { IfErr result
+        (λ why. (partial : Bool) (claimed : Option claims.CostOver)
+        → LeafFails partial site.now claimed (node_of node.now) (refuted ys.now) why) }
 {
     if !is_one_each(site, node, ys) {
         return Err(Why::Refuted);
@@ -99,8 +113,13 @@ pub fn judge_bound(
     ys: &[i128],
 ) -> Result<(), Why>
     requires known { KnowsInside (shape_of site.now) (node_of node.now) }
-    ensures passes { OnOk result ((partial : Bool) → LeafPasses partial site.now (cost_over claimed) (node_of node.now) (bounded d ys.now)) }
-    ensures fails { IfErr result (λ why. (partial : Bool) → LeafFails partial site.now (cost_over claimed) (node_of node.now) (bounded d ys.now) why) }
+    ensures passes { OnOk result
+        ((partial : Bool)
+        → LeafPasses partial site.now (cost_over claimed) (node_of node.now) (bounded d ys.now)) }
+    ensures fails { IfErr result
+        (λ why. (partial : Bool)
+        → LeafFails partial site.now (cost_over claimed) (node_of node.now) (bounded d ys.now)
+        why) }
 {
     let Some(least) = claimed else {
         return Err(Why::Bound);
@@ -123,8 +142,12 @@ pub fn judge_bound(
 
 /// A leaf that is open, which a partial tree may have.
 pub fn judge_open(problem: &Problem, node: &Node, partial: bool) -> Result<(), Why>
-    ensures passes { OnOk result ((claimed : Option claims.CostOver) → LeafPasses partial problem.now claimed (node_of node.now) untried) }
-    ensures fails { IfErr result (λ why. (claimed : Option claims.CostOver) → LeafFails partial problem.now claimed (node_of node.now) untried why) }
+    ensures passes { OnOk result
+        ((claimed : Option claims.CostOver)
+        → LeafPasses partial problem.now claimed (node_of node.now) untried) }
+    ensures fails { IfErr result
+        (λ why. (claimed : Option claims.CostOver)
+        → LeafFails partial problem.now claimed (node_of node.now) untried why) }
 {
     if partial { Ok(()) } else { Err(Why::Open) }
 }

@@ -21,7 +21,8 @@ pub(crate) fn is_needed(graph: &Graph, set: UnitSet, x: u32) -> bool
 /// The units that make the material and are not left out.
 pub(crate) fn makers_left(graph: &Graph, node: &Node, x: u32) -> UnitSet
     requires { x < (shape graph.now).materials }
-    ensures { (u : ℕ) → (has result u ≡ true) ↔ (((shape graph.now).makes u x ≡ true) × (has node.now.outside u ≡ false)) }
+    ensures { (u : ℕ) → (has result u ≡ true)
+        ↔ (((shape graph.now).makes u x ≡ true) × (has node.now.outside u ≡ false)) }
 {
     graph.producers(x).minus(node.outside)
 }
@@ -29,7 +30,8 @@ pub(crate) fn makers_left(graph: &Graph, node: &Node, x: u32) -> UnitSet
 /// The units that use the material and are not left out.
 pub(crate) fn users_left(graph: &Graph, node: &Node, x: u32) -> UnitSet
     requires { x < (shape graph.now).materials }
-    ensures { (u : ℕ) → (has result u ≡ true) ↔ (((shape graph.now).uses u x ≡ true) × (has node.now.outside u ≡ false)) }
+    ensures { (u : ℕ) → (has result u ≡ true)
+        ↔ (((shape graph.now).uses u x ≡ true) × (has node.now.outside u ≡ false)) }
 {
     graph.consumers(x).minus(node.outside)
 }

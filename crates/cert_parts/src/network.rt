@@ -27,8 +27,12 @@ pub fn judge_network(
 ) -> Result<(), Why>
     requires sizes { length sizes.now ≡ length units }
     requires positive { pos 1 ≤ℤ d }
-    ensures passes { OnOk result (IsFeasible site.now (record { units = units; sizes = sizes.now; d = d; cost = cost })) }
-    ensures fails { IfErr result (λ why. (partial : Bool) → ClaimFails partial site.now (network (record { units = units; sizes = sizes.now; d = d; cost = cost })) why) }
+    ensures passes { OnOk result
+        (IsFeasible site.now (record { units = units; sizes = sizes.now; d = d; cost = cost })) }
+    ensures fails { IfErr result
+        (λ why. (partial : Bool)
+        → ClaimFails partial site.now
+        (network (record { units = units; sizes = sizes.now; d = d; cost = cost })) why) }
 {
     let problem = site.problem();
     let graph = site.graph();

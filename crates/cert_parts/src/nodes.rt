@@ -50,10 +50,13 @@ pub(crate) fn after(graph: &Graph, node: &Node, step: &Step) -> Node
 /// possible when its turn comes.
 pub fn after_steps(graph: &Graph, node: &Node, steps: &[Step]) -> Option<Node>
     requires { KnowsInside (shape graph.now) (node_of node.now) }
-    ensures possible { IfSome result (λ m. StepsPass (shape graph.now) (node_of node.now) (map step_of steps.now)) }
-    ensures leads { IfSome result (λ m. node_of m ≡ after_all (shape graph.now) (node_of node.now) (map step_of steps.now)) }
+    ensures possible { IfSome result
+        (λ m. StepsPass (shape graph.now) (node_of node.now) (map step_of steps.now)) }
+    ensures leads { IfSome result
+        (λ m. node_of m ≡ after_all (shape graph.now) (node_of node.now) (map step_of steps.now)) }
     ensures known { IfSome result (λ m. KnowsInside (shape graph.now) (node_of m)) }
-    ensures impossible { IfNone result (StepsPass (shape graph.now) (node_of node.now) (map step_of steps.now) → ⊥) }
+    ensures impossible { IfNone result
+        (StepsPass (shape graph.now) (node_of node.now) (map step_of steps.now) → ⊥) }
 {
     graph.is_proper();
     let mut at = *node;
@@ -69,7 +72,9 @@ pub fn after_steps(graph: &Graph, node: &Node, steps: &[Step]) -> Option<Node>
 
 /// Whether the material is needed at the node and these are all its options, in numeric order.
 pub fn are_all_options(graph: &Graph, node: &Node, x: u32, found: &[UnitSet]) -> bool
-    ensures { IsTrue result ↔ ((is_needed (shape graph.now) (has node.now.inside) x ≡ true) × (found.now ≡ options (shape graph.now) (node_of node.now) x)) }
+    ensures { IsTrue result
+        ↔ ((is_needed (shape graph.now) (has node.now.inside) x ≡ true)
+        × (found.now ≡ options (shape graph.now) (node_of node.now) x)) }
 {
     graph.is_proper();
     if !is_needed(graph, node.inside, x) {

@@ -40,7 +40,8 @@ pub(crate) fn is_alone(set: UnitSet, u: u32) -> bool
 
 /// The units of the graph that are not left out.
 pub(crate) fn units_left(graph: &Graph, node: &Node) -> UnitSet
-    ensures { (u : ℕ) → (has result u ≡ true) ↔ ((u < (shape graph.now).units) × (has node.now.outside u ≡ false)) }
+    ensures { (u : ℕ) → (has result u ≡ true)
+        ↔ ((u < (shape graph.now).units) × (has node.now.outside u ≡ false)) }
 {
     graph.is_proper();
     UnitSet::below(graph.unit_count()).minus(node.outside)
@@ -48,7 +49,9 @@ pub(crate) fn units_left(graph: &Graph, node: &Node) -> UnitSet
 
 /// The units of the graph that are neither taken in nor left out.
 pub(crate) fn free_units(graph: &Graph, node: &Node) -> UnitSet
-    ensures { (u : ℕ) → (has result u ≡ true) ↔ ((u < (shape graph.now).units) × (is_free (shape graph.now) (node_of node.now) u ≡ true)) }
+    ensures { (u : ℕ) → (has result u ≡ true)
+        ↔ ((u < (shape graph.now).units)
+        × (is_free (shape graph.now) (node_of node.now) u ≡ true)) }
 {
     units_left(graph, node).minus(node.inside)
 }

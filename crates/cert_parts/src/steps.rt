@@ -12,7 +12,9 @@ use unit_sets::{Node, Step, UnitSet};
 
 /// Whether the unit is one of the graph, neither taken in nor left out.
 pub(crate) fn is_free(graph: &Graph, node: &Node, u: u32) -> bool
-    ensures { IsTrue result ↔ ((u < (shape graph.now).units) × (is_free (shape graph.now) (node_of node.now) u ≡ true)) }
+    ensures { IsTrue result
+        ↔ ((u < (shape graph.now).units)
+        × (is_free (shape graph.now) (node_of node.now) u ≡ true)) }
 {
     graph.is_proper();
     u < graph.unit_count() && !node.inside.has(u) && !node.outside.has(u)

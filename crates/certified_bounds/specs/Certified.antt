@@ -19,7 +19,8 @@ use Rattle.certified_bounds.specs.declared.certified.LowBound.{LowBound}
 use Rattle.certified_bounds.specs.declared.certified.FirstBound.{FirstBound}
 use Rattle.certified_bounds.specs.declared.certified.FirstBound.TheVariants as looks
 use Rattle.certified_bounds.specs.declared.certified.Certified.{Certified}
-use Rattle.certified_bounds.specs.declared.certified.Certified.TheVariants.{Least, Flows, Refuted, Nothing}
+use Rattle.certified_bounds.specs.declared.certified.Certified.TheVariants.{Least, Flows, Refuted}
+use Rattle.certified_bounds.specs.declared.certified.Certified.TheVariants.{Nothing}
 
 -- a mixed number as a cost
 abbrev pub cost_over : Mixed → CostOver
@@ -34,7 +35,8 @@ pub record IsLeastBound (p : Problem) (n : Node) (b : LeastBound) : Type 0 where
 
 -- no relaxed flows of the node cost less than `low`, as the multipliers prove
 pub record IsLowBound (p : Problem) (n : Node) (b : LowBound) : Type 0 where
-  pub under : (z : ℕ → ℤ) (d : ℤ) → IsRelaxed (net_of p) n z d → (numerator b.low *ℤ d) ≤ℤ (relaxed_cost (net_of p) n z d *ℤ denominator b.low)
+  pub under : (z : ℕ → ℤ) (d : ℤ) → IsRelaxed (net_of p) n z d
+      → (numerator b.low *ℤ d) ≤ℤ (relaxed_cost (net_of p) n z d *ℤ denominator b.low)
   pub bounded : IsBounded p (Some (cost_over b.low)) n b.scaled.d b.scaled.ys
 
 -- A first look answers with a bound or with multipliers that refute the node; it may answer nothing
@@ -64,6 +66,7 @@ HasUnits n w = (u : ℕ) → n.inside u ≡ has w.units u
 -- nothing for each.
 abbrev pub IsCertified : Problem → Node → Bool → Certified → Type 0
 IsCertified p n decided (Least b) = (decided ≡ false) × IsLeastBound p n b
-IsCertified p n decided (Flows b w) = (decided ≡ true) × IsLeastBound p n b × IsNetworkAt p b.value w × (b.low ≡ b.value) × HasUnits n w
+IsCertified p n decided (Flows b w) = (decided ≡ true) × IsLeastBound p n b
+    × IsNetworkAt p b.value w × (b.low ≡ b.value) × HasUnits n w
 IsCertified p n decided (Refuted ys) = IsRefuted p n ys
 IsCertified p n decided Nothing = Unit {0}

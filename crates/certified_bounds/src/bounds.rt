@@ -177,7 +177,9 @@ impl CertifiedBounds {
     fn value(&self, site: &Site<'_>, node: &Node) -> Option<Mixed>
         requires own { AreDivisors (net_of site.now) self.now }
         requires sound { IsSound (shape_of site.now) (node_of node.now) }
-        ensures { IfSome result (λ value. IsLeastCost site.now (node_of node.now) (numerator value) (denominator value)) }
+        ensures { IfSome result
+            (λ value. IsLeastCost site.now (node_of node.now) (numerator value)
+            (denominator value)) }
     {
         let guessed = self.proposals.guessed();
         let (problem, graph) = (site.problem(), site.graph());
@@ -209,7 +211,8 @@ impl CertifiedBounds {
         requires own { AreDivisors (net_of site.now) self.old }
         requires sound { IsSound (shape_of site.now) (node_of node.now) }
         ensures same { self.new ≡ self.old }
-        ensures reached { IfSome result (λ cost. HasCheaper site.now (node_of node.now) (numerator cost) (denominator cost)) }
+        ensures reached { IfSome result
+            (λ cost. HasCheaper site.now (node_of node.now) (numerator cost) (denominator cost)) }
     {
         if self.proposals.propose_sizes(node) {
             let d = self.proposals.write_least();
@@ -229,7 +232,8 @@ impl CertifiedBounds {
         requires own { AreDivisors (net_of site.now) self.old }
         requires sound { IsSound (shape_of site.now) (node_of node.now) }
         ensures same { self.new ≡ self.old }
-        ensures reached { IfSome result (λ cost. HasCheaper site.now (node_of node.now) (numerator cost) (denominator cost)) }
+        ensures reached { IfSome result
+            (λ cost. HasCheaper site.now (node_of node.now) (numerator cost) (denominator cost)) }
     {
         let d = d?;
         let cost = self.reached(site, node, d)?;
@@ -241,7 +245,8 @@ impl CertifiedBounds {
     fn reached(&self, site: &Site<'_>, node: &Node, d: i128) -> Option<Mixed>
         requires own { AreDivisors (net_of site.now) self.now }
         requires sound { IsSound (shape_of site.now) (node_of node.now) }
-        ensures { IfSome result (λ cost. HasCheaper site.now (node_of node.now) (numerator cost) (denominator cost)) }
+        ensures { IfSome result
+            (λ cost. HasCheaper site.now (node_of node.now) (numerator cost) (denominator cost)) }
     {
         let sizes = self.proposals.list();
         let (problem, graph) = (site.problem(), site.graph());
@@ -259,7 +264,11 @@ impl CertifiedBounds {
     ) -> Result<Option<Scaled>, AllocError>
         requires sound { IsSound (shape_of site.now) (node_of node) }
         ensures same { self.new ≡ self.old }
-        ensures proved { IfOk result (λ found. IfSome found (λ s. IsBounded site.now (Some (record { cost = network.now.cost; d = network.now.d })) (node_of node) s.d s.ys)) }
+        ensures proved { IfOk result
+            (λ found. IfSome found
+            (λ s. IsBounded site.now
+            (Some (record { cost = network.now.cost; d = network.now.d }))
+            (node_of node) s.d s.ys)) }
     {
         network.is_sized();
         let goal = Mixed::of(network.cost(), network.d());

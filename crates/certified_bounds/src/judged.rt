@@ -22,7 +22,8 @@ use unit_sets::Node;
 /// How many rows the program of the node has.
 fn row_count(graph: &Graph, node: &Node) -> usize
     requires { (u : ℕ) → has node.now.inside u ≡ true → u < (shape graph.now).units }
-    ensures { (p : Problem) → shape graph.now ≡ shape_of p → result ≡ length (rows (net_of p) (node_of node.now)) }
+    ensures { (p : Problem) → shape graph.now ≡ shape_of p
+        → result ≡ length (rows (net_of p) (node_of node.now)) }
 {
     sets_of(graph, node).rows.count() as usize
 }
@@ -37,7 +38,9 @@ pub(crate) fn low_of(
     multipliers: &[i128],
 ) -> Option<Mixed>
     requires known { (u : ℕ) → has node.now.inside u ≡ true → u < (shape_of site.now).units }
-    ensures { IfSome result (λ low. IsBounded site.now (Some (cost_over low)) (node_of node.now) scale multipliers.now) }
+    ensures { IfSome result
+        (λ low. IsBounded site.now (Some (cost_over low)) (node_of node.now) scale
+        multipliers.now) }
 {
     sums_are_last();
     let (problem, graph) = (site.problem(), site.graph());
@@ -62,7 +65,8 @@ pub(crate) fn reaches(
     goal: Mixed,
 ) -> bool
     requires known { (u : ℕ) → has node.now.inside u ≡ true → u < (shape_of site.now).units }
-    ensures { IsTrue result → IsBounded site.now (Some (cost_over goal)) (node_of node.now) scale multipliers.now }
+    ensures { IsTrue result
+        → IsBounded site.now (Some (cost_over goal)) (node_of node.now) scale multipliers.now }
 {
     match low_of(site, node, scale, multipliers) {
         Some(low) => goal <= low,
@@ -94,7 +98,9 @@ pub(crate) fn cost_of_network(site: &Site<'_>, node: &Node, sizes: &[i128], d: i
     requires decided { IsDecided (shape_of site.now) (node_of node.now) }
     ensures positive { IfSome result (λ cost. pos 1 ≤ℤ d) }
     ensures count { IfSome result (λ cost. length sizes.now ≡ length node.now.inside) }
-    ensures feasible { IfSome result (λ cost. IsFeasible site.now (record { units = node.now.inside; sizes = sizes.now; d = d; cost = cost })) }
+    ensures feasible { IfSome result
+        (λ cost. IsFeasible site.now
+        (record { units = node.now.inside; sizes = sizes.now; d = d; cost = cost })) }
     ensures in_range { IfSome result InRange }
 {
     node.inside.rises();

@@ -8,7 +8,8 @@ ghost use Rattle.mixed_numbers.specs.Number.{numerator, denominator};
 ghost use Rattle.scaled_flows.specs.LeastCost.{IsLeastCost};
 ghost use Rattle.tree_rules.specs.Leaf.{IsBounded};
 ghost use Rattle.tree_rules.specs.Lean.{HasCheaper};
-ghost use Rattle.certified_bounds.specs.Certified.{cost_over, IsBetween, IsCertified, IsFirstBound};
+ghost use Rattle.certified_bounds.specs.Certified.{cost_over, IsBetween, IsCertified};
+ghost use Rattle.certified_bounds.specs.Certified.{IsFirstBound};
 
 use crate::certified::{Between, Certified, FirstBound, LeastBound, LowBound};
 use crate::judged::{low_of, reaches};
@@ -38,7 +39,9 @@ struct Low {
 /// What multipliers prove that are written in this way.
 fn low_by(site: &Site<'_>, node: &Node, proposals: &mut Proposals, way: Way) -> Option<Low>
     requires known { (u : ℕ) → has node.now.inside u ≡ true → u < (shape_of site.now).units }
-    ensures { IfSome result (λ l. IsBounded site.now (Some (cost_over l.low)) (node_of node.now) l.scale proposals.new) }
+    ensures { IfSome result
+        (λ l. IsBounded site.now (Some (cost_over l.low)) (node_of node.now) l.scale
+        proposals.new) }
 {
     let scale = proposals.write(way)?;
     let low = low_of(site, node, scale, proposals.list())?;
@@ -48,7 +51,9 @@ fn low_by(site: &Site<'_>, node: &Node, proposals: &mut Proposals, way: Way) -> 
 /// What multipliers prove: short exact ones, else rounded ones, else exact ones of any length.
 fn short_low(site: &Site<'_>, node: &Node, proposals: &mut Proposals) -> Option<Low>
     requires known { (u : ℕ) → has node.now.inside u ≡ true → u < (shape_of site.now).units }
-    ensures { IfSome result (λ l. IsBounded site.now (Some (cost_over l.low)) (node_of node.now) l.scale proposals.new) }
+    ensures { IfSome result
+        (λ l. IsBounded site.now (Some (cost_over l.low)) (node_of node.now) l.scale
+        proposals.new) }
 {
     if let Some(low) = low_by(site, node, proposals, Way::Exact(SHORT)) {
         return Some(low);
@@ -67,7 +72,13 @@ fn bound_with(
     proposals: &Proposals,
 ) -> Result<LeastBound, AllocError>
     requires { InRange low.scale }
-    ensures { IfOk result (λ b. b ≡ record { value = value; low = low.low; scaled = record { d = low.scale; ys = proposals.now } }) }
+    ensures { IfOk result
+        (λ b. b ≡ record {
+          value = value;
+          low = low.low;
+          scaled =
+              record { d = low.scale; ys = proposals.now };
+        }) }
 {
     proposals.are_in_range();
     let scaled = Scaled::of(alloc, low.scale, proposals.list())?;
@@ -108,7 +119,9 @@ fn reaching(
     goal: Mixed,
 ) -> Result<Option<Scaled>, AllocError>
     requires known { (u : ℕ) → has node.now.inside u ≡ true → u < (shape_of site.now).units }
-    ensures { IfOk result (λ found. IfSome found (λ s. IsBounded site.now (Some (cost_over goal)) (node_of node.now) s.d s.ys)) }
+    ensures { IfOk result
+        (λ found. IfSome found
+        (λ s. IsBounded site.now (Some (cost_over goal)) (node_of node.now) s.d s.ys)) }
 {
     let Some(scale) = proposals.write(way) else {
         return Ok(None);
@@ -130,7 +143,9 @@ pub(crate) fn exact(
     goal: Mixed,
 ) -> Result<Option<Scaled>, AllocError>
     requires known { (u : ℕ) → has node.now.inside u ≡ true → u < (shape_of site.now).units }
-    ensures { IfOk result (λ found. IfSome found (λ s. IsBounded site.now (Some (cost_over goal)) (node_of node.now) s.d s.ys)) }
+    ensures { IfOk result
+        (λ found. IfSome found
+        (λ s. IsBounded site.now (Some (cost_over goal)) (node_of node.now) s.d s.ys)) }
 {
     reaching(alloc, site, node, proposals, Way::Exact(i128::MAX), goal)
 }
@@ -145,7 +160,9 @@ pub(crate) fn proving(
     goal: Mixed,
 ) -> Result<Option<Scaled>, AllocError>
     requires known { (u : ℕ) → has node.now.inside u ≡ true → u < (shape_of site.now).units }
-    ensures { IfOk result (λ found. IfSome found (λ s. IsBounded site.now (Some (cost_over goal)) (node_of node.now) s.d s.ys)) }
+    ensures { IfOk result
+        (λ found. IfSome found
+        (λ s. IsBounded site.now (Some (cost_over goal)) (node_of node.now) s.d s.ys)) }
 {
     'scales: for bits in [30u32, 40] {
         if let Some(scaled) = reaching(alloc, site, node, proposals, Way::Rounded(bits), goal)? {
@@ -159,7 +176,9 @@ pub(crate) fn proving(
 /// three scales at which no number overflows.
 fn nearest_low(site: &Site<'_>, node: &Node, proposals: &mut Proposals) -> Option<Low>
     requires known { (u : ℕ) → has node.now.inside u ≡ true → u < (shape_of site.now).units }
-    ensures { IfSome result (λ l. IsBounded site.now (Some (cost_over l.low)) (node_of node.now) l.scale proposals.new) }
+    ensures { IfSome result
+        (λ l. IsBounded site.now (Some (cost_over l.low)) (node_of node.now) l.scale
+        proposals.new) }
 {
     'scales: for bits in [30u32, 20, 10] {
         if let Some(low) = low_by(site, node, proposals, Way::Near(bits)) {
@@ -173,7 +192,9 @@ fn nearest_low(site: &Site<'_>, node: &Node, proposals: &mut Proposals) -> Optio
 /// into a tree.
 fn quick_low(site: &Site<'_>, node: &Node, proposals: &mut Proposals) -> Option<Low>
     requires known { (u : ℕ) → has node.now.inside u ≡ true → u < (shape_of site.now).units }
-    ensures { IfSome result (λ l. IsBounded site.now (Some (cost_over l.low)) (node_of node.now) l.scale proposals.new) }
+    ensures { IfSome result
+        (λ l. IsBounded site.now (Some (cost_over l.low)) (node_of node.now) l.scale
+        proposals.new) }
 {
     if let Some(low) = low_by(site, node, proposals, Way::Near(SHORT_BITS)) {
         return Some(low);
@@ -189,7 +210,13 @@ fn low_with(
     basis: Vec<u16>,
 ) -> Result<LowBound, AllocError>
     requires { InRange low.scale }
-    ensures { IfOk result (λ b. b ≡ record { low = low.low; scaled = record { d = low.scale; ys = proposals.now }; basis = basis }) }
+    ensures { IfOk result
+        (λ b. b ≡ record {
+          low = low.low;
+          scaled =
+              record { d = low.scale; ys = proposals.now };
+          basis = basis;
+        }) }
 {
     proposals.are_in_range();
     let scaled = Scaled::of(alloc, low.scale, proposals.list())?;
@@ -229,7 +256,8 @@ pub(crate) fn low_to(
     reached: Mixed,
 ) -> Result<Option<Between>, AllocError>
     requires known { (u : ℕ) → has node.now.inside u ≡ true → u < (shape_of site.now).units }
-    requires reached { HasCheaper site.now (node_of node.now) (numerator reached) (denominator reached) }
+    requires reached { HasCheaper site.now (node_of node.now) (numerator reached)
+        (denominator reached) }
     ensures { IfOk result (λ found. IfSome found (IsBetween site.now (node_of node.now))) }
 {
     let Some(low) = nearest_low(site, node, proposals) else {

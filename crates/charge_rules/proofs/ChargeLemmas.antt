@@ -1,11 +1,13 @@
 -- The charge of a node is a bound: its rows, what is paid by sets, and its units, put together.
-use Rattle.std.proofs.Common.{◌≡◌, ℕ, refl, sym, subst, ap, ◌∙◌, arith, pos, ℤ, ◌+ℤ◌, ◌-ℤ◌, ◌*ℤ◌, ◌≤ℤ◌, List, Bool, true, false, cond, map}
+use Rattle.std.proofs.Common.{◌≡◌, ℕ, refl, sym, subst, ap, ◌∙◌, arith, pos, ℤ, ◌+ℤ◌, ◌-ℤ◌, ◌*ℤ◌}
+use Rattle.std.proofs.Common.{◌≤ℤ◌, List, Bool, true, false, cond, map}
 use Rattle.std.specs.Prelude.{int_lt, not, ◌&&◌}
 use Rattle.std.specs.List.{AllByRecursion}
 use Rattle.std.proofs.lemmas.Int.{ints}
 use Rattle.integer_laws.specs.Total.{total}
 use Rattle.integer_laws.proofs.Ring.{ring_z}
-use Rattle.integer_laws.proofs.Order.{mul_nonneg, mul-le_left, le_trans_z, int_min-le_left, int_min-le_right}
+use Rattle.integer_laws.proofs.Order.{mul_nonneg, mul-le_left, le_trans_z, int_min-le_left}
+use Rattle.integer_laws.proofs.Order.{int_min-le_right}
 use Rattle.integer_laws.proofs.Totals.{total-add, total-sub, total-mul, total-exchange, total-le}
 use Rattle.integer_laws.proofs.Duality.{reduced_costs}
 use Rattle.number_sets.specs.Sets.{listed, IsWithin}
@@ -19,9 +21,11 @@ use Rattle.flow_rules.proofs.NetLemmas.{IsNet}
 use Rattle.flow_rules.proofs.RelaxedLemmas.{flows_are_relaxed}
 use Rattle.charge_rules.specs.Facts.{Facts, AreFacts, Fit}
 use Rattle.charge_rules.specs.Cover.{Cover, paid, weights}
-use Rattle.charge_rules.specs.Charge.{has_knee, knee_of, knees, owed, unit_charge, or_none, unit_part, charge}
+use Rattle.charge_rules.specs.Charge.{has_knee, knee_of, knees, owed, unit_charge, or_none}
+use Rattle.charge_rules.specs.Charge.{unit_part, charge}
 use Rattle.charge_rules.specs.Laws.{AreCovers}
-use Rattle.charge_rules.proofs.KneeLemmas.{excess, least_owed_bent, total-sorted, total-map, All-sorted, All-map}
+use Rattle.charge_rules.proofs.KneeLemmas.{excess, least_owed_bent, total-sorted, total-map}
+use Rattle.charge_rules.proofs.KneeLemmas.{All-sorted, All-map}
 use Rattle.charge_rules.proofs.CoverLemmas.{weights_paid}
 use Rattle.charge_rules.proofs.RowLemmas.{beyond, row_with_knees}
 
@@ -48,7 +52,7 @@ same_balance net n s between z d flows j =
 
 -- ---- one unit
 
--- a knee stands at a row, and its worth is not below 0
+-- a knee is at a row, and its worth is not below 0
 knee_is_row : (m r a b : Bool) → (m && not r && a && b) ≡ true
     → (m ≡ true) × (a ≡ true) × (b ≡ true)
 knee_is_row true false true true e = (refl, refl, refl)

@@ -1,5 +1,6 @@
 -- What the covers pay: the units of a structure are paid at least the weights.
-use Rattle.std.proofs.Common.{◌≡◌, ℕ, ◌≤◌, ◌==◌, zero, suc, refl, sym, subst, ap, arith, pos, ℤ, ◌+ℤ◌, ◌-ℤ◌, ◌≤ℤ◌, List, [], ◌∷◌, Bool, true, false, cond}
+use Rattle.std.proofs.Common.{◌≡◌, ℕ, ◌≤◌, ◌==◌, zero, suc, refl, sym, subst, ap, arith, pos, ℤ}
+use Rattle.std.proofs.Common.{◌+ℤ◌, ◌-ℤ◌, ◌≤ℤ◌, List, [], ◌∷◌, Bool, true, false, cond}
 use Rattle.std.specs.Prelude.{Option, Some, None, IfSome, ◌&&◌, ◌||◌}
 use Rattle.std.specs.List.{AllByRecursion}
 use Rattle.std.proofs.lemmas.Int.{ints}
@@ -29,7 +30,7 @@ either_zero : (b : Bool) → cond b (pos 0) (pos 0) ≡ pos 0
 either_zero true = refl
 either_zero false = refl
 
--- where s has a unit of t, its units are paid the weight at least once
+-- if s has a unit of t, its units are paid the weight at least once
 some_below : (n : ℕ) (s t : ℕ → Bool) (w : ℤ) → pos 0 ≤ℤ w → any_below n (λ u. s u && t u) ≡ true
     → w ≤ℤ total_below n (λ i. cond (s i) (cond (t i) w (pos 0)) (pos 0))
 some_below zero s t w p e = cc

@@ -1,13 +1,15 @@
 -- The knees of a unit: at each size what is owed after them is at most what was owed before them
 -- and the worth of what is made beyond the knees.
-use Rattle.std.proofs.Common.{◌≡◌, refl, ap, ◌∙◌, arith, pos, ℤ, ◌+ℤ◌, ◌-ℤ◌, ◌*ℤ◌, ◌≤ℤ◌, ◌<ℤ◌, neg_ℤ, List, [], ◌∷◌, Bool, true, false, cond, map}
+use Rattle.std.proofs.Common.{◌≡◌, refl, ap, ◌∙◌, arith, pos, ℤ, ◌+ℤ◌, ◌-ℤ◌, ◌*ℤ◌, ◌≤ℤ◌, ◌<ℤ◌}
+use Rattle.std.proofs.Common.{neg_ℤ, List, [], ◌∷◌, Bool, true, false, cond, map}
 use Rattle.std.specs.Prelude.{int_lt, int_le, ◌&&◌}
 use Rattle.std.specs.List.{AllByRecursion}
 use Rattle.std.specs.Int.{int_min, int_max}
 use Rattle.std.proofs.lemmas.Int.{ints, clamps, by_lt_z}
 use Rattle.integer_laws.specs.Total.{total}
 use Rattle.integer_laws.proofs.Ring.{ring_z, V, ◌⊖◌, ◌⊗◌, ring}
-use Rattle.integer_laws.proofs.Order.{mul_nonneg, mul-le_right, le_trans_z, left-le_int_max, right-le_int_max}
+use Rattle.integer_laws.proofs.Order.{mul_nonneg, mul-le_right, le_trans_z, left-le_int_max}
+use Rattle.integer_laws.proofs.Order.{right-le_int_max}
 use Rattle.integer_laws.proofs.Boxes.{box_least}
 use Rattle.charge_rules.specs.Charge.{Knee, inserted, sorted, Owed, counted, bend, bent, least_owed}
 

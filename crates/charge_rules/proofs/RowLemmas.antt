@@ -1,13 +1,15 @@
 -- A row with its knees: its balance, times the multiplier, less the worth of what is made beyond
 -- the knees, is at least what the row gives to the charge.
-use Rattle.std.proofs.Common.{◌≡◌, ℕ, ◌<◌, ◌⊎◌, inl, inr, refl, sym, ap, ◌∙◌, arith, pos, ℤ, ◌+ℤ◌, ◌-ℤ◌, ◌*ℤ◌, ◌≤ℤ◌, ◌<ℤ◌, neg_ℤ, List, [], ◌∷◌, Bool, true, false, cond}
+use Rattle.std.proofs.Common.{◌≡◌, ℕ, ◌<◌, ◌⊎◌, inl, inr, refl, sym, ap, ◌∙◌, arith, pos, ℤ, ◌+ℤ◌}
+use Rattle.std.proofs.Common.{◌-ℤ◌, ◌*ℤ◌, ◌≤ℤ◌, ◌<ℤ◌, neg_ℤ, List, [], ◌∷◌, Bool, true, false, cond}
 use Rattle.std.specs.Prelude.{int_lt, not, ◌&&◌}
 use Rattle.std.specs.List.{AllByRecursion}
 use Rattle.std.specs.Int.{int_min, int_max}
 use Rattle.std.proofs.lemmas.Int.{ints, clamps, by_lt_z}
 use Rattle.integer_laws.specs.Total.{total}
 use Rattle.integer_laws.proofs.Ring.{ring_z, V, ◌⊖◌, ◌⊗◌, ring}
-use Rattle.integer_laws.proofs.Order.{mul_nonneg, mul-le_left, mul-le_right, int_min-le_left, right-le_int_max}
+use Rattle.integer_laws.proofs.Order.{mul_nonneg, mul-le_left, mul-le_right, int_min-le_left}
+use Rattle.integer_laws.proofs.Order.{right-le_int_max}
 use Rattle.integer_laws.proofs.Boxes.{box_least}
 use Rattle.integer_laws.proofs.Totals.{total-sub, total-mul, total-zero, total-agree}
 use Rattle.number_sets.specs.Sets.{IsWithin}
@@ -21,9 +23,10 @@ use Rattle.flow_rules.proofs.NetLemmas.{IsNet}
 use Rattle.charge_rules.specs.Facts.{Facts, AreFacts, Fit, use_rate, use_of}
 use Rattle.charge_rules.specs.Charge.{users_most, at_most, useful, rounded_up, has_knee, knee_of}
 use Rattle.charge_rules.proofs.KneeLemmas.{excess}
-use Rattle.charge_rules.proofs.UsefulLemmas.{rounded_up_nonneg, rounded_up_most, use_of_under, useful_nonneg}
+use Rattle.charge_rules.proofs.UsefulLemmas.{rounded_up_nonneg, rounded_up_most, use_of_under}
+use Rattle.charge_rules.proofs.UsefulLemmas.{useful_nonneg}
 
--- d times the worth of what unit i makes of material j beyond its knee, 0 where it has none
+-- d times the worth of what unit i makes of material j beyond its knee; 0 if it has none
 abbrev pub beyond : Net → Node → Facts → (ℕ → ℤ) → (ℕ → ℤ) → ℤ → ℕ → ℕ → ℤ
 beyond net n f y z d i j =
     cond (has_knee net n y i j) (excess (z i) d (knee_of net n f y i j)) (pos 0)

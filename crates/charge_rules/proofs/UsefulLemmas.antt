@@ -1,6 +1,8 @@
 -- What is useful of a material: the size of a knee makes no less, and the units of a structure use
 -- no more.
-use Rattle.std.proofs.Common.{◌≡◌, ℕ, ◌<◌, ◌≤◌, ◌+◌, ◌*◌, ◌/◌, ◌%◌, zero, suc, ◌⊎◌, inl, inr, refl, sym, subst, ap, arith, pos, negsuc, ℤ, ◌+ℤ◌, ◌-ℤ◌, ◌*ℤ◌, ◌≤ℤ◌, ◌<ℤ◌, neg_ℤ, List, [], ◌∷◌, Bool, true, false, cond}
+use Rattle.std.proofs.Common.{◌≡◌, ℕ, ◌<◌, ◌≤◌, ◌+◌, ◌*◌, ◌/◌, ◌%◌, zero, suc, ◌⊎◌, inl, inr, refl}
+use Rattle.std.proofs.Common.{sym, subst, ap, arith, pos, negsuc, ℤ, ◌+ℤ◌, ◌-ℤ◌, ◌*ℤ◌, ◌≤ℤ◌, ◌<ℤ◌}
+use Rattle.std.proofs.Common.{neg_ℤ, List, [], ◌∷◌, Bool, true, false, cond}
 use Rattle.std.specs.Prelude.{int_div, int_lt, Option, Some, None, IfSome, ◌||◌}
 use Rattle.std.specs.List.{AllByRecursion}
 use Rattle.std.specs.Int.{int_min}
@@ -9,7 +11,8 @@ use Rattle.std.proofs.lemmas.Bool.{cases_cond}
 use Rattle.std.proofs.Math.Nat.{div-add-mod, mod-lt}
 use Rattle.integer_laws.specs.Total.{total}
 use Rattle.integer_laws.proofs.Ring.{ring_z}
-use Rattle.integer_laws.proofs.Order.{mul_nonneg, mul-le_left, mul-le_right, le_trans_z, left-le_int_max, le-int_min}
+use Rattle.integer_laws.proofs.Order.{mul_nonneg, mul-le_left, mul-le_right, le_trans_z}
+use Rattle.integer_laws.proofs.Order.{left-le_int_max, le-int_min}
 use Rattle.integer_laws.proofs.Totals.{total-le, total-mul_right}
 use Rattle.number_sets.specs.Sets.{IsWithin, listed}
 use Rattle.flow_rules.specs.Net.{Net, million, units_of}
@@ -90,7 +93,7 @@ under_most : (v : Option ℤ) (most d x : ℤ) → IfSome v (λ w. x ≤ℤ (mil
 under_most None most d x h p = p
 under_most (Some v) most d x h p = under_least (million *ℤ v) most d x h p
 
--- a sum over a set is at most the same sum over a larger set, where no term is below 0
+-- a sum over a set is at most the same sum over a larger set, if no term is below 0
 total-larger : (g : ℕ → ℤ) (s t : ℕ → Bool) (n : ℕ) → IsWithin s t
     → ((i : ℕ) → i < n → pos 0 ≤ℤ g i)
     → total g (listed n s) ≤ℤ total g (listed n t)

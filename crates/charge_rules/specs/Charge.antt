@@ -1,6 +1,8 @@
--- The charge of a node: a bound in which a free unit owes its whole fixed cost or nothing, each cover
--- makes one unit owe, and what is made of a material beyond what can be used of it is worth nothing.
-use Rattle.std.specs.Prelude.{ℕ, ℤ, pos, neg_ℤ, ◌+ℤ◌, ◌-ℤ◌, ◌*ℤ◌, int_lt, int_le, int_div, Bool, cond, not, ◌&&◌, List, [], ◌∷◌, map, Option, Some, None}
+-- The charge of a node is a bound in which a free unit owes its whole fixed cost or nothing. Each
+-- cover makes one unit owe. What is made of a material beyond what can be used of it is worth
+-- nothing.
+use Rattle.std.specs.Prelude.{ℕ, ℤ, pos, neg_ℤ, ◌+ℤ◌, ◌-ℤ◌, ◌*ℤ◌, int_lt, int_le, int_div, Bool}
+use Rattle.std.specs.Prelude.{cond, not, ◌&&◌, List, [], ◌∷◌, map, Option, Some, None}
 use Rattle.std.specs.Int.{int_min}
 use Rattle.integer_laws.specs.Total.{total}
 use Rattle.number_sets.specs.Sets.{listed}
@@ -25,7 +27,7 @@ at_most (Some v) most = int_min (million *ℤ v) most
 abbrev pub useful : Net → Node → Facts → ℕ → ℤ
 useful net n f j = row_low net n j +ℤ at_most (f.used j) (users_most net n f j)
 
--- x over y rounded up, where x is at least 0 and y above 0
+-- x over y rounded up, for an x of at least 0 and a y above 0
 abbrev pub rounded_up : ℤ → ℤ → ℤ
 rounded_up x y = int_div (x +ℤ (y -ℤ pos 1)) y
 
@@ -55,7 +57,8 @@ sorted [] = []
 sorted (k ∷ ks) = inserted k (sorted ks)
 
 abbrev pub knees : Net → Node → Facts → (ℕ → ℤ) → ℕ → List Knee
-knees net n f y i = sorted (map (knee_of net n f y i) (listed net.graph.materials (has_knee net n y i)))
+knees net n f y i =
+    sorted (map (knee_of net n f y i) (listed net.graph.materials (has_knee net n y i)))
 
 -- ---- the part of a unit
 
@@ -64,8 +67,9 @@ pub record Owed : Type 0 where
   pub each : ℤ
   pub once : ℤ
 
--- how much of a knee's worth counts: all of it where the knee is at most the least size, else what is
--- wanted to bring the cost of a size up to 0
+-- How much of a knee's worth counts. If the knee is at most the least size, all of it. Else, if the
+-- cost of a size is below 0 and the knee below the greatest size, as much as brings that cost up to
+-- 0, or all if that is less. Else nothing.
 abbrev pub counted : ℤ → ℤ → ℤ → Knee → ℤ
 counted low high each k =
     cond (int_le k.at low) k.worth

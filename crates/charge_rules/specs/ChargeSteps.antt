@@ -1,6 +1,7 @@
 -- The steps of a charge: the rows, the weights of the covers, what these pay, and then the units of
 -- the program, in rising order. A sum is formed for each row, weight and unit that adds something.
-use Rattle.std.specs.Prelude.{ℕ, ℤ, pos, ◌+ℤ◌, ◌-ℤ◌, ◌*ℤ◌, int_lt, Bool, cond, List, [], ◌∷◌, ◌++◌, map, Option, Some, None}
+use Rattle.std.specs.Prelude.{ℕ, ℤ, pos, ◌+ℤ◌, ◌-ℤ◌, ◌*ℤ◌, int_lt, Bool, cond, List, [], ◌∷◌, ◌++◌}
+use Rattle.std.specs.Prelude.{map, Option, Some, None}
 use Rattle.std.specs.Ordering.{int_eq}
 use Rattle.std.specs.Int.{int_min}
 use Rattle.integer_laws.specs.Total.{total}
@@ -10,7 +11,8 @@ use Rattle.flow_rules.specs.Relaxed.{units, rows, row_part}
 use Rattle.flow_rules.specs.BoundSteps.{rows_steps, rows_at, reduced_steps}
 use Rattle.charge_rules.specs.Facts.{Facts}
 use Rattle.charge_rules.specs.Cover.{Cover, added, paid_by, paid, weights}
-use Rattle.charge_rules.specs.Charge.{Knee, Owed, knees, counted, bend, owed, owed_bent, least_owed, unit_charge, unit_part}
+use Rattle.charge_rules.specs.Charge.{Knee, Owed, knees, counted, bend, owed, owed_bent, least_owed}
+use Rattle.charge_rules.specs.Charge.{unit_charge, unit_part}
 
 -- the sum with each weight that is added
 abbrev pub added_steps : Option ℕ → ℤ → ℤ → List ℤ
@@ -48,9 +50,10 @@ abbrev pub size_steps : ℤ → ℤ → Owed → List ℤ
 size_steps low high o =
     int_min (o.each *ℤ low) (o.each *ℤ high) ∷ least_owed low high o ∷ []
 
--- the sum with the part, which is formed where the unit is taken in or the part is below 0
+-- the sum with the part, which is formed if the unit is taken in or the part is below 0
 abbrev pub sum_steps : Bool → ℤ → ℤ → List ℤ
-sum_steps is_in part sum = cond is_in ((sum +ℤ part) ∷ []) (cond (int_lt part (pos 0)) ((sum +ℤ part) ∷ []) [])
+sum_steps is_in part sum =
+    cond is_in ((sum +ℤ part) ∷ []) (cond (int_lt part (pos 0)) ((sum +ℤ part) ∷ []) [])
 
 abbrev pub unit_steps : Net → Node → Facts → ℤ → (ℕ → ℤ) → List Cover → ℕ → ℤ → List ℤ
 unit_steps net n f scale y covers i sum =

@@ -1,13 +1,14 @@
--- Covers: sets of units of which each structure of a node has one, so that one unit at least pays.
-use Rattle.std.specs.Prelude.{◌≡◌, ℕ, ◌<◌, ◌==◌, ℤ, pos, ◌-ℤ◌, Bool, true, false, cond, ◌&&◌, List, [], Option, Some, None, IfSome}
+-- Covers: sets of units of which each structure of a node has one, so that at least one unit pays.
+use Rattle.std.specs.Prelude.{◌≡◌, ℕ, ◌<◌, ◌==◌, ℤ, pos, ◌-ℤ◌, Bool, true, false, cond, ◌&&◌, List}
+use Rattle.std.specs.Prelude.{[], Option, Some, None, IfSome}
 use Rattle.integer_laws.specs.Total.{total}
 use Rattle.number_sets.specs.Sets.{has, IsSet, any_below}
 use Rattle.pns_rules.specs.Shape.{Shape}
 use Rattle.pns_rules.specs.Structure.{IsBetween}
 use Rattle.pns_rules.specs.Nodes.{Node}
 
--- a set of units with the weight that it gets; where a unit is `beside` it, the set speaks of the
--- structures that have this unit
+-- a set of units with its weight; if a unit is `beside` it, the set covers only the structures that
+-- have this unit
 pub record Cover : Type 0 where
   pub weight : ℤ
   pub beside : Option ℕ
@@ -27,8 +28,8 @@ pub record IsCover (g : Shape) (n : Node) (c : Cover) : Type 0 where
   pub beside_free : IfSome c.beside (IsFree g n)
   pub apart : IfSome c.beside (λ u. has c.units u ≡ false)
 
--- each solution structure of the node, allowed or not, that has the unit beside the set has a unit of
--- the set
+-- each solution structure of the node, clash-free or not, that has the unit beside the set has a
+-- unit of the set
 abbrev pub Covers : Shape → Node → Cover → Type 0
 Covers g n c =
     (s : ℕ → Bool) → IsBetween g n.inside n.outside s → IfSome c.beside (λ u. s u ≡ true)
@@ -47,8 +48,8 @@ paid_by c i = cond (has c.units i) c.weight (pos 0) -ℤ cond (is_beside c.besid
 abbrev pub paid : List Cover → ℕ → ℤ
 paid cs i = total (λ c. paid_by c i) cs
 
--- what a set adds to the charge: its weight where it speaks of each structure, and nothing where it
--- has a unit beside it, which pays for it
+-- what a set adds to the charge: its weight if it covers each structure, and nothing if it has a
+-- unit beside it, which pays for it
 abbrev pub added : Option ℕ → ℤ → ℤ
 added None weight = weight
 added (Some u) weight = pos 0

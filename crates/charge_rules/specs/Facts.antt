@@ -1,6 +1,7 @@
 -- What is known of the flows that matter at a node: between which sizes a unit is, and how much is
 -- used of a material at most. All numbers are whole millionths.
-use Rattle.std.specs.Prelude.{◌≡◌, ℕ, ◌<◌, ℤ, pos, neg_ℤ, ◌*ℤ◌, ◌≤ℤ◌, Bool, true, Option, None, IfSome}
+use Rattle.std.specs.Prelude.{◌≡◌, ℕ, ◌<◌, ℤ, pos, neg_ℤ, ◌*ℤ◌, ◌≤ℤ◌, Bool, true, Option, None}
+use Rattle.std.specs.Prelude.{IfSome}
 use Rattle.std.specs.Int.{int_max}
 use Rattle.integer_laws.specs.Total.{total}
 use Rattle.flow_rules.specs.Net.{Net, million, units_of}
@@ -20,7 +21,7 @@ pub record AreFacts (net : Net) (f : Facts) : Type 0 where
   pub ordered : (i : ℕ) → i < net.graph.units → f.least i ≤ℤ f.most i
   pub some_used : (j : ℕ) → j < net.graph.materials → IfSome (f.used j) (λ v. pos 0 ≤ℤ v)
 
--- the rate at which unit i uses material j, 0 where it makes it
+-- the rate at which unit i uses material j; 0 if it does not use it
 abbrev pub use_rate : Net → ℕ → ℕ → ℤ
 use_rate net j i = int_max (pos 0) (neg_ℤ (net.rate j i))
 
@@ -32,4 +33,5 @@ use_of net s z j = total (λ i. use_rate net j i *ℤ z i) (units_of net s)
 pub record Fit (net : Net) (f : Facts) (s : ℕ → Bool) (z : ℕ → ℤ) (d : ℤ) : Type 0 where
   pub at_least : (i : ℕ) → i < net.graph.units → s i ≡ true → (f.least i *ℤ d) ≤ℤ z i
   pub at_most : (i : ℕ) → i < net.graph.units → s i ≡ true → z i ≤ℤ (f.most i *ℤ d)
-  pub used : (j : ℕ) → j < net.graph.materials → IfSome (f.used j) (λ v. use_of net s z j ≤ℤ (million *ℤ v *ℤ d))
+  pub used : (j : ℕ) → j < net.graph.materials
+      → IfSome (f.used j) (λ v. use_of net s z j ≤ℤ (million *ℤ v *ℤ d))

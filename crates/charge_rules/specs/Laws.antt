@@ -16,20 +16,23 @@ use Rattle.charge_rules.specs.Charge.{charge}
 abbrev pub AreCovers : Shape → Node → List Cover → Type 0
 AreCovers g n covers = AllByRecursion (λ c. (pos 0 ≤ℤ c.weight) × Covers g n c) covers
 
--- flows that fit the facts, of a solution structure, allowed or not, that has the units taken in and
--- none that is left out, cost no less than the node's charge, compared by cross products
+-- flows that fit the facts cost no less than the node's charge, compared by cross products; they
+-- are flows of a solution structure, clash-free or not, that has the units taken in and none that
+-- is left out
 abbrev pub ChargeDuality : Type 0
 ChargeDuality =
-    (p : Problem) → IsValid p → (n : Node) (s : ℕ → Bool) → IsBetween (shape_of p) n.inside n.outside s
+    (p : Problem) → IsValid p → (n : Node) (s : ℕ → Bool)
+    → IsBetween (shape_of p) n.inside n.outside s
     → (f : Facts) → AreFacts (net_of p) f → (z : ℕ → ℤ) (d : ℤ) → IsFlows (net_of p) s z d
     → Fit (net_of p) f s z d → (covers : List Cover) → AreCovers (shape_of p) n covers
     → (scale : ℤ) → pos 0 ≤ℤ scale → (y : ℕ → ℤ)
     → (d *ℤ charge (net_of p) n f scale y covers) ≤ℤ (scale *ℤ cost (net_of p) s z d)
 
--- where the charge without a cost is above 0, no such structure has flows that fit
+-- if the charge without a cost is above 0, no such structure has flows that fit
 abbrev pub ChargeRefutes : Type 0
 ChargeRefutes =
-    (p : Problem) → IsValid p → (n : Node) (s : ℕ → Bool) → IsBetween (shape_of p) n.inside n.outside s
+    (p : Problem) → IsValid p → (n : Node) (s : ℕ → Bool)
+    → IsBetween (shape_of p) n.inside n.outside s
     → (f : Facts) → AreFacts (net_of p) f → (covers : List Cover) → AreCovers (shape_of p) n covers
     → (y : ℕ → ℤ) → pos 0 <ℤ charge (net_of p) n f (pos 0) y covers
     → (z : ℕ → ℤ) (d : ℤ) → IsFlows (net_of p) s z d → Fit (net_of p) f s z d → ⊥

@@ -1,11 +1,11 @@
 -- A leaf that charges a node, with facts that are known of the flows: when it passes, and why it is
 -- refused.
 --
--- The causes come in the order in which a reader of a tree meets what is judged: first the scale
--- and the multipliers, which the line of the leaf has, then the covers, which the lines after it
--- have, then the numbers of the sum, and last what the charge reaches. A scale of 1 or more counts
--- a cost, so a cost has to be claimed. Where none is, the leaf fails for its scale, before its sum
--- is formed: no sum could let it pass.
+-- The causes come in the order in which a reader of a tree meets what is judged. First come the
+-- scale and the multipliers, which are in the line of the leaf, then the covers in the lines after
+-- it, then the numbers of the sum, and last what the charge reaches. A scale of 1 or more counts a
+-- cost, so a cost has to be claimed. If none is, the leaf fails for its scale, before its sum is
+-- formed: no sum could let it pass.
 use Rattle.std.specs.Prelude.{◌≡◌, ◌⊎◌, ℕ, ℤ, pos, ◌≤ℤ◌, ◌<ℤ◌, List, length}
 use Rattle.std.specs.List.{AllByRecursion}
 use Rattle.problem_rules.specs.Problem.{Problem}
@@ -21,14 +21,13 @@ use Rattle.charge_rules.specs.ChargeSteps.{charge_steps}
 use Rattle.charge_rules.specs.declared.charge_why.ChargeWhy.{ChargeWhy}
 use Rattle.charge_rules.specs.declared.charge_why.ChargeWhy.TheVariants as causes
 
--- what a leaf hands in: the scale of the cost, a multiplier for each row in rising order, and
--- covers
+-- what a leaf gives: the scale of the cost, a multiplier for each row in rising order, and covers
 pub record Handed : Type 0 where
   pub d : ℤ
   pub ys : List ℤ
   pub covers : List Cover
 
--- ---- what is asked of it
+-- ---- the conditions
 
 -- the cost is not counted, or it is, and a cost is claimed
 abbrev pub IsScale : Type 0 → ℤ → Type 0
@@ -58,7 +57,7 @@ IsFormed p n f h = AreInRange (charge_steps (net_of p) n f h.d (multiplier p n h
 abbrev pub charge_of : Problem → Node → Facts → Handed → ℤ
 charge_of p n f h = charge (net_of p) n f h.d (multiplier p n h) h.covers
 
--- a charge over d, where d is at least 1, reaches the claimed cost; one without a cost is above 0
+-- a charge over a d of at least 1 reaches the claimed cost; one without a cost is above 0
 abbrev pub ChargeReaches : (ℤ → ℤ → Type 0) → ℤ → ℤ → Type 0
 ChargeReaches Reaches x d = ((pos 1 ≤ℤ d) × Reaches x d) ⊎ ((d ≡ pos 0) × (pos 0 <ℤ x))
 
@@ -76,7 +75,7 @@ pub record ChargePasses
 
 -- ---- which fail, and why
 
--- a condition that fails for its cause, or holds where one of those below it fails
+-- a condition fails for its cause, or it holds and one of those below it fails
 abbrev pub FailsFor : {W : Type 0} → Type 0 → W → Type 0 → W → Type 0
 FailsFor Condition cause Below why = ((why ≡ cause) × ¬ Condition) ⊎ (Condition × Below)
 

@@ -1,10 +1,9 @@
-//! The charge of a node: a bound that is stronger than the relaxed one, the numbers that its sum
-//! forms on the way, and the laws that make it a bound.
+//! No flows that fit what is known cost less than the charge; not used yet.
 //!
-//! The relaxed bound lets a free unit pay for its size in place of its fixed cost. A charge lets it
-//! owe the whole fixed cost or nothing. So that units owe at all, `Cover`s are handed in: sets of
-//! units of which each structure of the node has one. And what is made of a material beyond all
-//! that can be used of it is worth nothing (`Knee`).
+//! The relaxed bound lets a free unit pay for its size instead of its fixed cost. A charge lets it
+//! owe the whole fixed cost or nothing, so it is stronger. For units to owe at all, a charge takes
+//! `Cover`s: sets of units of which each structure of the node has one. What is made of a material
+//! beyond all that can be used of it is worth nothing (`Knee`).
 //!
 //! The definitions are in `specs/`: `Facts` (what is known of sizes and uses), `Cover`, `Charge`,
 //! `ChargeSteps` (which number of the sum is the first out of range), `Leaf` (which leaves of a

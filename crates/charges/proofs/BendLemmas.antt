@@ -1,12 +1,15 @@
 -- The walk over the knees of a unit.
-use Rattle.std.proofs.Common.{◌≡◌, ℕ, ◌+◌, ◌*◌, ◌-◌, ◌≤◌, Bool, true, false, cond, refl, sym, ap, ◌∙◌, arith, pos, ℤ, ◌+ℤ◌, ◌-ℤ◌, ◌*ℤ◌, List, [], ◌∷◌, ◌++◌, length, map}
+use Rattle.std.proofs.Common.{◌≡◌, ℕ, ◌+◌, ◌*◌, ◌-◌, ◌≤◌, Bool, true, false, cond, refl, sym, ap}
+use Rattle.std.proofs.Common.{◌∙◌, arith, pos, ℤ, ◌+ℤ◌, ◌-ℤ◌, ◌*ℤ◌, List, [], ◌∷◌, ◌++◌, length}
+use Rattle.std.proofs.Common.{map}
 use Rattle.std.specs.Prelude.{not, ◌==◌}
 use Rattle.std.specs.Ordering.{int_eq}
 use Rattle.std.proofs.lemmas.Int.{ints}
 use Rattle.std.proofs.lemmas.Bool.{both_ways}
 use Rattle.number_sets.specs.Sets.{kept, IsRising}
 use Rattle.flow_rules.specs.Steps.{AreInRange, IsFirstPast}
-use Rattle.flow_rules.proofs.LeadingLemmas.{Leads, leads_none, leads_part, leads_past_in, leads_all, leads_same}
+use Rattle.flow_rules.proofs.LeadingLemmas.{Leads, leads_none, leads_part, leads_past_in, leads_all}
+use Rattle.flow_rules.proofs.LeadingLemmas.{leads_same}
 use Rattle.flow_rules.proofs.ZeroLemmas.{int_eq_zero, int_eq_other, zero_from}
 use Rattle.charge_rules.specs.Charge.{Knee, Owed, sorted, counted, bend, bent}
 use Rattle.charge_rules.specs.ChargeSteps.{knee_steps}

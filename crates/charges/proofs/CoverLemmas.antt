@@ -1,4 +1,4 @@
--- A set covers a node where no structure has the unit beside it and none of its units.
+-- A set covers a node if no structure has the unit beside it and none of its units.
 use Rattle.std.proofs.Common.{◌≡◌, ℕ, Bool, true, false, refl, sym, subst, ◌∙◌, Option, Some, None}
 use Rattle.std.specs.Prelude.{◌||◌, ◌&&◌, IfSome}
 use Rattle.std.proofs.lemmas.Bool.{both_ways, eq-eqb, eqb-true}

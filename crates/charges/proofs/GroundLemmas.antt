@@ -1,6 +1,8 @@
 -- The steps and the part of a unit, over its rates as a table has them, are those of the
 -- definition.
-use Rattle.std.proofs.Common.{◌≡◌, ℕ, zero, suc, ◌+◌, ◌-◌, ◌<◌, ◌≤◌, ◌⊎◌, inl, inr, Bool, true, false, refl, sym, ap, ◌∙◌, subst, arith, pos, ℤ, ◌+ℤ◌, ◌-ℤ◌, ◌*ℤ◌, List, [], ◌∷◌, ◌++◌, length, map, append_assoc}
+use Rattle.std.proofs.Common.{◌≡◌, ℕ, zero, suc, ◌+◌, ◌-◌, ◌<◌, ◌≤◌, ◌⊎◌, inl, inr, Bool, true}
+use Rattle.std.proofs.Common.{false, refl, sym, ap, ◌∙◌, subst, arith, pos, ℤ, ◌+ℤ◌, ◌-ℤ◌, ◌*ℤ◌}
+use Rattle.std.proofs.Common.{List, [], ◌∷◌, ◌++◌, length, map, append_assoc}
 use Rattle.std.specs.Prelude.{◌==◌, not, ◌&&◌, ◌||◌, nat_lt, int_lt}
 use Rattle.std.proofs.lemmas.Bool.{both_ways, eqb-true}
 use Rattle.std.proofs.lemmas.Int.{ints}
@@ -17,7 +19,8 @@ use Rattle.flow_rules.specs.Net.{Net, net_of, trillion, size_cost}
 use Rattle.flow_rules.specs.Relaxed.{stays, rows}
 use Rattle.flow_rules.specs.Steps.{AreInRange, IsFirstPast}
 use Rattle.flow_rules.specs.BoundSteps.{rows_at, reduced_steps}
-use Rattle.flow_rules.proofs.LeadingLemmas.{Leads, leads_none, leads_part, leads_past_in, leads_all, leads_same, IsFirstPast-left}
+use Rattle.flow_rules.proofs.LeadingLemmas.{Leads, leads_none, leads_part, leads_past_in, leads_all}
+use Rattle.flow_rules.proofs.LeadingLemmas.{leads_same, IsFirstPast-left}
 use Rattle.flow_rules.proofs.SameLemmas.{all_had, reduced-same}
 use Rattle.flow_rules.proofs.LastLemmas.{total_at_rows}
 use Rattle.flow_program.specs.Columns.{left_of}
@@ -28,8 +31,10 @@ use Rattle.flow_program.proofs.BoundSumLemmas.{materials_are_rows}
 use Rattle.charge_rules.specs.Facts.{Facts}
 use Rattle.charge_rules.specs.Cover.{Cover, paid}
 use Rattle.charge_rules.specs.Charge as rules
-use Rattle.charge_rules.specs.Charge.{Knee, Owed, useful, has_knee, knee_of, knees, sorted, bent, owed, owed_bent, unit_charge, unit_part, or_none}
-use Rattle.charge_rules.specs.ChargeSteps.{knee_steps, size_steps, sum_steps, unit_steps, units_steps}
+use Rattle.charge_rules.specs.Charge.{Knee, Owed, useful, has_knee, knee_of, knees, sorted, bent}
+use Rattle.charge_rules.specs.Charge.{owed, owed_bent, unit_charge, unit_part, or_none}
+use Rattle.charge_rules.specs.ChargeSteps.{knee_steps, size_steps, sum_steps, unit_steps}
+use Rattle.charge_rules.specs.ChargeSteps.{units_steps}
 use Rattle.charges.specs.declared.knees.Knees.{Knees}
 use Rattle.charges.specs.declared.useful.Useful.{Useful}
 use Rattle.charges.specs.declared.unit.Terms.{Terms}
@@ -337,7 +342,8 @@ module _ (net : Net) (n : Node) (f : Facts) (d : ℤ) (y : ℕ → ℤ) (covers 
   pub charge_unit_past : (k : ℕ) → at ≤ k → IsFirstPast (unit_steps net n f d y covers u so_far)
       (k - at) → IsFirstPast (units_steps net n f d y covers set sum) (k - start)
   charge_unit_past k le p = let from = h.steps.from_start in
-      leads_past_in (units_steps net n f d y covers set sum) (unit_steps net n f d y covers u so_far)
+      leads_past_in (units_steps net n f d y covers set sum)
+      (unit_steps net n f d y covers u so_far)
       (units_steps net n f d y covers rest (so_far +ℤ unit_part net n f d y covers u)) start at
       (k - at) (k - start) unit_leads p (omega arith)
 
@@ -356,7 +362,8 @@ module _ (net : Net) (n : Node) (f : Facts) (d : ℤ) (y : ℕ → ℤ) (covers 
         (λ (m : ℕ). Leads (units_steps net n f d y covers set sum)
         (units_steps net n f d y covers rest (so_far +ℤ unit_part net n f d y covers u)) start m)
         (sym count)
-        (leads_part (units_steps net n f d y covers set sum) (unit_steps net n f d y covers u so_far)
+        (leads_part (units_steps net n f d y covers set sum)
+        (unit_steps net n f d y covers u so_far)
         (units_steps net n f d y covers rest (so_far +ℤ unit_part net n f d y covers u)) start at
         unit_leads fit));
   }

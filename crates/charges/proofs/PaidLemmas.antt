@@ -1,13 +1,19 @@
 -- The walks over what the covers add to a charge and pay to its units.
-use Rattle.std.proofs.Common.{◌≡◌, ◌≢◌, ℕ, zero, suc, ◌+◌, ◌*◌, ◌-◌, ◌<◌, ◌≤◌, Bool, true, false, cond, refl, sym, ap, ◌∙◌, subst, arith, pos, ℤ, ◌+ℤ◌, ◌-ℤ◌, List, [], ◌∷◌, ◌++◌, length, map, drop, get_or, set, replicate, Option, Some, None, inl, inr, append_assoc}
+use Rattle.std.proofs.Common.{◌≡◌, ◌≢◌, ℕ, zero, suc, ◌+◌, ◌*◌, ◌-◌, ◌<◌, ◌≤◌, Bool, true, false}
+use Rattle.std.proofs.Common.{cond, refl, sym, ap, ◌∙◌, subst, arith, pos, ℤ, ◌+ℤ◌, ◌-ℤ◌, List, []}
+use Rattle.std.proofs.Common.{◌∷◌, ◌++◌, length, map, drop, get_or, set, replicate, Option, Some}
+use Rattle.std.proofs.Common.{None, inl, inr, append_assoc}
 use Rattle.std.specs.List.{AllByRecursion}
-use Rattle.std.proofs.lemmas.List.{length-append, drop_more, get_or-set_same, get_or-set_other, length-set}
+use Rattle.std.proofs.lemmas.List.{length-append, drop_more, get_or-set_same, get_or-set_other}
+use Rattle.std.proofs.lemmas.List.{length-set}
 use Rattle.std.proofs.lemmas.Bool.{eq-eqb, ne_eqb, cases_eq}
 use Rattle.std.proofs.lemmas.Int.{ints}
 use Rattle.integer_laws.specs.Range.{InRange}
 use Rattle.number_sets.specs.Sets.{has, IsWithin}
 use Rattle.flow_rules.specs.Steps.{AreInRange, IsFirstPast}
-use Rattle.flow_rules.proofs.LeadingLemmas.{Leads, leads_none, leads_one, leads_part, leads_past, leads_past_in, leads_all, leads_same, IsFirstPast-right, AreInRange-append}
+use Rattle.flow_rules.proofs.LeadingLemmas.{Leads, leads_none, leads_one, leads_part, leads_past}
+use Rattle.flow_rules.proofs.LeadingLemmas.{leads_past_in, leads_all, leads_same, IsFirstPast-right}
+use Rattle.flow_rules.proofs.LeadingLemmas.{AreInRange-append}
 use Rattle.flow_program.proofs.WalkLemmas.{IsNext, has_next, passed, rest_within}
 use Rattle.charge_rules.specs.Cover as rules
 use Rattle.charge_rules.specs.Cover.{is_beside, paid_by, paid, added, weights}

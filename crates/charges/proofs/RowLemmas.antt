@@ -1,5 +1,6 @@
 -- The walks over the rows and over the weights of the covers.
-use Rattle.std.proofs.Common.{◌≡◌, ℕ, ◌+◌, ◌*◌, ◌-◌, ◌≤◌, sym, ap, ◌∙◌, arith, pos, ℤ, ◌+ℤ◌, List, [], ◌∷◌, ◌++◌, length}
+use Rattle.std.proofs.Common.{◌≡◌, ℕ, ◌+◌, ◌*◌, ◌-◌, ◌≤◌, sym, ap, ◌∙◌, arith, pos, ℤ, ◌+ℤ◌, List}
+use Rattle.std.proofs.Common.{[], ◌∷◌, ◌++◌, length}
 use Rattle.std.proofs.lemmas.Int.{ints}
 use Rattle.integer_laws.specs.Total.{total}
 use Rattle.number_sets.specs.Sets.{has, IsWithin}
@@ -8,7 +9,8 @@ use Rattle.flow_rules.specs.Net.{Net}
 use Rattle.flow_rules.specs.Relaxed.{row_low, row_high, row_part}
 use Rattle.flow_rules.specs.Steps.{AreInRange, IsFirstPast}
 use Rattle.flow_rules.specs.BoundSteps.{least_steps, rows_steps}
-use Rattle.flow_rules.proofs.LeadingLemmas.{Leads, leads_none, leads_part, leads_past_in, leads_all, leads_same}
+use Rattle.flow_rules.proofs.LeadingLemmas.{Leads, leads_none, leads_part, leads_past_in, leads_all}
+use Rattle.flow_rules.proofs.LeadingLemmas.{leads_same}
 use Rattle.flow_program.specs.Columns.{least_of}
 use Rattle.flow_program.proofs.WalkLemmas.{IsNext, rest_within}
 

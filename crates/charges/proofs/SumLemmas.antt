@@ -1,5 +1,6 @@
 -- A charge, put together from its parts.
-use Rattle.std.proofs.Common.{◌≡◌, ℕ, ◌+◌, ◌-◌, ◌≤◌, ◌∙◌, subst, arith, pos, ℤ, ◌+ℤ◌, List, ◌++◌, length}
+use Rattle.std.proofs.Common.{◌≡◌, ℕ, ◌+◌, ◌-◌, ◌≤◌, ◌∙◌, subst, arith, pos, ℤ, ◌+ℤ◌, List, ◌++◌}
+use Rattle.std.proofs.Common.{length}
 use Rattle.integer_laws.specs.Total.{total}
 use Rattle.pns_rules.specs.Nodes.{Node}
 use Rattle.flow_rules.specs.Net.{Net}

@@ -1,5 +1,7 @@
 -- What can be used of a material: sums over its users, and a table of them.
-use Rattle.std.proofs.Common.{◌≡◌, ◌≢◌, ℕ, ◌+◌, ◌*◌, ◌^◌, ◌<◌, ◌≤◌, ◌==◌, Bool, true, false, cond, refl, sym, ap, ◌∙◌, subst, arith, pos, ℤ, ◌+ℤ◌, ◌-ℤ◌, ◌*ℤ◌, ◌≤ℤ◌, neg_ℤ, List, [], ◌∷◌, length, get_or, set, inl, inr}
+use Rattle.std.proofs.Common.{◌≡◌, ◌≢◌, ℕ, ◌+◌, ◌*◌, ◌^◌, ◌<◌, ◌≤◌, ◌==◌, Bool, true, false, cond}
+use Rattle.std.proofs.Common.{refl, sym, ap, ◌∙◌, subst, arith, pos, ℤ, ◌+ℤ◌, ◌-ℤ◌, ◌*ℤ◌, ◌≤ℤ◌}
+use Rattle.std.proofs.Common.{neg_ℤ, List, [], ◌∷◌, length, get_or, set, inl, inr}
 use Rattle.std.specs.Prelude.{unsigned_abs, ◌&&◌, nat_lt}
 use Rattle.std.specs.Int.{int_max}
 use Rattle.std.proofs.lemmas.List.{get_or-set_same, get_or-set_other, length-set}
@@ -7,7 +9,8 @@ use Rattle.std.proofs.lemmas.Bool.{cases_eq, both_ways}
 use Rattle.std.proofs.lemmas.Int.{ints, clamps}
 use Rattle.integer_laws.specs.Total.{total}
 use Rattle.number_sets.specs.Sets.{has, meet, listed, IsRising, IsSet, IsWithin}
-use Rattle.number_sets.proofs.SetLemmas.{has-meet, has-listed, same_sets, IsRising-kept, IsRising-listed, length_below}
+use Rattle.number_sets.proofs.SetLemmas.{has-meet, has-listed, same_sets, IsRising-kept}
+use Rattle.number_sets.proofs.SetLemmas.{IsRising-listed, length_below}
 use Rattle.problem_rules.specs.Each.{Each}
 use Rattle.problem_rules.specs.Problem.{Problem, Term, unit_at, terms_have, rate_in, rate_of}
 use Rattle.problem_rules.specs.WellFormed.{IsWellFormed, IsWellFormedTerm}

@@ -1,4 +1,4 @@
--- The covers that the code hands in.
+-- The covers as the code has them.
 use Rattle.std.specs.Prelude.{ℕ, ◌<◌, ℤ, ◌+ℤ◌, ◌++◌, List, map, IfSome}
 use Rattle.std.specs.List.{AllByRecursion}
 use Rattle.charge_rules.specs.Cover as rules

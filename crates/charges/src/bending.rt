@@ -1,5 +1,6 @@
 //! What the knees of a unit leave of what it owes.
-ghost use Rattle.std.specs.Prelude.{◌≡◌, ◌<◌, ◌≤◌, ◌+◌, ◌-◌, ◌*◌, ◌^◌, ◌+ℤ◌, ◌-ℤ◌, ◌*ℤ◌, ◌<ℤ◌, ℕ, pos, neg_ℤ, not, length, IfOk, IfErr, OnOk};
+ghost use Rattle.std.specs.Prelude.{◌≡◌, ◌<◌, ◌≤◌, ◌+◌, ◌-◌, ◌*◌, ◌^◌, ◌+ℤ◌, ◌-ℤ◌, ◌*ℤ◌, ◌<ℤ◌, ℕ};
+ghost use Rattle.std.specs.Prelude.{pos, neg_ℤ, not, length, IfOk, IfErr, OnOk};
 ghost use Rattle.std.specs.Int.{int_min};
 ghost use Rattle.std.specs.Ordering.{int_eq};
 ghost use Rattle.flow_rules.specs.Steps.{AreInRange, IsFirstPast};

@@ -1,5 +1,6 @@
 //! The charge of a node, put together.
-ghost use Rattle.std.specs.Prelude.{◌≡◌, ◌<◌, ◌≤◌, ◌+◌, ◌-◌, ◌++◌, ◌+ℤ◌, ℕ, List, pos, true, length, IfOk, IfErr, OnOk};
+ghost use Rattle.std.specs.Prelude.{◌≡◌, ◌<◌, ◌≤◌, ◌+◌, ◌-◌, ◌++◌, ◌+ℤ◌, ℕ, List, pos, true};
+ghost use Rattle.std.specs.Prelude.{length, IfOk, IfErr, OnOk};
 ghost use Rattle.integer_laws.specs.Total.{total};
 ghost use Rattle.number_sets.specs.Sets.{has};
 ghost use Rattle.pns_rules.specs.Shape.{shape_of};
@@ -30,8 +31,8 @@ use flow_program::{PastSum, put_rates, sets_of};
 use pgraph::Site;
 use unit_sets::{Node, UnitSet};
 
-/// A charge that is handed in: the multiplier of the cost, one multiplier for each row of the node
-/// in rising order, and covers.
+/// What a charge is formed from: the multiplier of the cost, one multiplier for each row of the
+/// node in rising order, and covers.
 #[derive(Clone, Copy, Debug)]
 pub struct Charge<'a> {
     pub d: i128,
@@ -121,8 +122,8 @@ fn with_units(
     Ok(Running { sum, at })
 }
 
-/// The charge of a node, in the measure of costs times `d`; or the number of the first step of its
-/// sum that overflows. If `d` is not below 0, all covers cover the node and no weight is below 0,
+/// The charge of a node, in the measure of costs times `d`. Or the number of the first step of its
+/// sum that overflows. If `d` is at least 0, all covers cover the node and no weight is below 0,
 /// then no flows that fit the facts cost less than the charge over `d`. It takes no memory.
 pub fn charge_of(
     site: &Site<'_>,

@@ -11,8 +11,8 @@ use max_structure::maximal;
 use pgraph::Graph;
 use unit_sets::{Node, UnitSet};
 
-/// A set of units with the weight that it gets. If it has a unit `beside` it, it is only about the
-/// structures that have this unit.
+/// A set of units with its weight. If it has a unit `beside` it, it covers only the structures that
+/// have this unit.
 #[derive(Clone, Copy, Debug)]
 pub struct Cover {
     pub weight: i128,

@@ -1,5 +1,6 @@
 //! The sizes above which a unit's outputs are worth nothing.
-ghost use Rattle.std.specs.Prelude.{◌≡◌, ◌<◌, ◌≤◌, ◌^◌, ◌*ℤ◌, ◌<ℤ◌, ◌&&◌, ◌||◌, ◌==◌, ℕ, true, int_lt, pos, [], length, unsigned_abs, IfSome, IfNone};
+ghost use Rattle.std.specs.Prelude.{◌≡◌, ◌<◌, ◌≤◌, ◌^◌, ◌*ℤ◌, ◌<ℤ◌, ◌&&◌, ◌||◌, ◌==◌, ℕ, true};
+ghost use Rattle.std.specs.Prelude.{int_lt, pos, [], length, unsigned_abs, IfSome, IfNone};
 ghost use Rattle.integer_laws.specs.Range.{InRange};
 ghost use Rattle.number_sets.specs.Sets.{has};
 ghost use Rattle.flow_program.specs.Entry.{entry};

@@ -1,20 +1,17 @@
-//! The charge of a node, exactly. A charge is a bound that lets a free unit owe its whole fixed
-//! cost or nothing. Its definition, and the laws that make it a bound, are in `charge_rules`.
+//! A charge is exact, or names the first overflow; covers are exact; not used yet.
 //!
-//! [`charge_of`] gives the charge for a [`Charge`]: multipliers, and covers. It is the value of the
-//! definition exactly if no number that is formed on the way overflows. If one does, it returns the
-//! number of the first, as a `PastSum`. [`Facts`] are what is known of sizes and uses. A [`Cover`]
-//! is a set of units of which each structure of the node has one: [`covers_node`] tests whether a
-//! set covers a node, and [`is_cover`] whether it has the form of one. No call takes memory.
+//! A charge is a bound of a node that lets a free unit owe its whole fixed cost or nothing. Its
+//! definition, and the laws that make it a bound, are in `charge_rules`. [`charge_of`] gives the
+//! charge for a [`Charge`]: multipliers, and covers. If a number on the way overflows, it returns
+//! the place of the first, as a `PastSum`. [`Facts`] are what is known of sizes and uses. A
+//! [`Cover`] is a set of units of which each structure of the node has one: [`covers_node`] tests
+//! whether a set covers a node, and [`is_cover`] whether it has the form of one. No call takes
+//! memory.
 //!
-//! Modules:
-//! - `facts` and `cover`: what is known, and the sets that are handed in
-//! - `rows`: the sum over the rows; `paid`: what the covers add to it, and what they pay
-//! - `useful`: how much of a material can be used
-//! - `knees`: above which size an output of a unit is worth nothing
-//! - `bending`: what the knees leave of what a unit owes; `unit`: the part of a unit
-//! - `charge`: the whole sum
-//! - `tables`: multipliers by material; `products`: checked products
+//! Modules: `facts`, `cover`; `rows` and `paid` (sums over rows and covers); `useful` (how much of
+//! a material can be used); `knees` (above which size an output is worth nothing); `bending` (what
+//! the knees leave of what a unit owes); `unit` (the part of a unit); `charge` (the whole sum);
+//! `tables` (multipliers by material); `products`.
 #![tactic(auto)]
 
 mod bending;

@@ -1,11 +1,13 @@
 //! What the covers add to a charge and pay to its units.
-ghost use Rattle.std.specs.Prelude.{◌≡◌, ◌<◌, ◌≤◌, ◌+◌, ◌-◌, ◌*◌, ◌^◌, ◌+ℤ◌, ◌-ℤ◌, ℕ, pos, Bool, cond, length, map, IfSome, IfOk, IfErr, OnOk};
+ghost use Rattle.std.specs.Prelude.{◌≡◌, ◌<◌, ◌≤◌, ◌+◌, ◌-◌, ◌*◌, ◌^◌, ◌+ℤ◌, ◌-ℤ◌, ℕ, pos, Bool};
+ghost use Rattle.std.specs.Prelude.{cond, length, map, IfSome, IfOk, IfErr, OnOk};
 ghost use Rattle.number_sets.specs.Sets.{has};
 ghost use Rattle.flow_rules.specs.Steps.{AreInRange, IsFirstPast};
 ghost use Rattle.flow_program.specs.Entry.{entry};
 ghost use Rattle.charge_rules.specs.Cover.{added, weights, paid, paid_by};
 ghost use Rattle.charge_rules.specs.ChargeSteps.{added_steps, weight_steps, paid_steps};
-ghost use Rattle.charges.specs.Sets.{cover_of, covers_of, cover_steps, IsBesideSmall, AreBesideSmall};
+ghost use Rattle.charges.specs.Sets.{cover_of, covers_of, cover_steps, IsBesideSmall};
+ghost use Rattle.charges.specs.Sets.{AreBesideSmall};
 
 use crate::cover::Cover;
 use crate::running::Running;

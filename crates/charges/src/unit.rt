@@ -1,5 +1,6 @@
 //! The part of a unit in a charge.
-ghost use Rattle.std.specs.Prelude.{◌≡◌, ◌<◌, ◌≤◌, ◌+◌, ◌-◌, ◌*◌, ◌^◌, ◌+ℤ◌, ◌-ℤ◌, ◌*ℤ◌, ℕ, pos, int_lt, ◌||◌, [], ◌∷◌, length, unsigned_abs, IfOk, IfErr, OnOk};
+ghost use Rattle.std.specs.Prelude.{◌≡◌, ◌<◌, ◌≤◌, ◌+◌, ◌-◌, ◌*◌, ◌^◌, ◌+ℤ◌, ◌-ℤ◌, ◌*ℤ◌, ℕ, pos};
+ghost use Rattle.std.specs.Prelude.{int_lt, ◌||◌, [], ◌∷◌, length, unsigned_abs, IfOk, IfErr, OnOk};
 ghost use Rattle.pns_rules.specs.Shape.{shape_of};
 ghost use Rattle.flow_rules.specs.Net.{net_of, trillion, size_cost};
 ghost use Rattle.flow_rules.specs.Steps.{AreInRange, IsFirstPast};

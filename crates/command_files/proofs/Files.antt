@@ -1,5 +1,6 @@
 -- What the commands on a file say, from what is said of the file and of its problem.
-use Rattle.std.proofs.Common.{◌≡◌, ◌<◌, ℕ, List, Some, None, length, refl, arith, inl, inr, suc, replicate}
+use Rattle.std.proofs.Common.{◌≡◌, ◌<◌, ℕ, List, Some, None, length, refl, arith, inl, inr, suc}
+use Rattle.std.proofs.Common.{replicate}
 use Rattle.std.proofs.lemmas.List.{length-replicate}
 use Rattle.text_rules.specs.Outside.{Told, IfTold}
 use Rattle.io_rules.specs.State.{ShelfState}
@@ -10,19 +11,28 @@ use Rattle.studio_rules.specs.Reading.{AreHeld, FileFaults, GivesProblem, OnFile
 use Rattle.endings.proofs.Ending.{Says-map, Says-told}
 
 -- a file that is too long, also if the shelf knows nothing of it
-pub long_file : (held : Told) (limit : ℕ) → IfTold held (λ file. limit < length file) → (file : List ℕ) × AreHeld held file × (limit < length file)
-long_file None limit h = (replicate (suc limit) 0, tt, omega (arith, length-replicate {A = ℕ} (suc limit) 0))
+pub long_file : (held : Told) (limit : ℕ) → IfTold held (λ file. limit < length file)
+    → (file : List ℕ) × AreHeld held file × (limit < length file)
+long_file None limit h =
+    (replicate (suc limit) 0, tt, omega (arith, length-replicate {A = ℕ} (suc limit) 0))
 long_file (Some None) limit h = absurd h
 long_file (Some (Some file)) limit h = (file, refl, h)
 
 -- a command on a file says what its file says if that gives no problem
-pub on_file-faults : (work : Problem → Status → List (List ℕ) → Type 0) (old new : ShelfState) (name : List ℕ) (s : Status) (t : List ℕ) → Says (FileFaults old.held name) (λ other. other ≡ name) old new s t → FileSays work name old new s t
+pub on_file-faults : (work : Problem → Status → List (List ℕ) → Type 0) (old new : ShelfState)
+    (name : List ℕ) (s : Status) (t : List ℕ)
+    → Says (FileFaults old.held name) (λ other. other ≡ name) old new s t
+    → FileSays work name old new s t
 on_file-faults work old new name =
-    Says-map (FileFaults old.held name) (OnFile work old.held name) (λ other. other ≡ name) (λ other. other ≡ name) old new
+    Says-map (FileFaults old.held name) (OnFile work old.held name) (λ other. other ≡ name)
+    (λ other. other ≡ name) old new
     (λ s lines h. (h.0, h.1, inl h.2)) (λ other e. e)
 
 -- and else what its work on the problem says
-pub on_file-work : (work : Problem → Status → List (List ℕ) → Type 0) (old new : ShelfState) (name : List ℕ) (p : Problem) → (file : List ℕ) × AreHeld (old.held name) file × GivesProblem file p → (s : Status) (t : List ℕ) → Tells (work p) s t → FileSays work name old new s t
+pub on_file-work : (work : Problem → Status → List (List ℕ) → Type 0) (old new : ShelfState)
+    (name : List ℕ) (p : Problem) → (file : List ℕ) × AreHeld (old.held name) file
+    × GivesProblem file p → (s : Status) (t : List ℕ) → Tells (work p) s t
+    → FileSays work name old new s t
 on_file-work work old new name p given =
     Says-told (work p) (OnFile work old.held name) (λ other. other ≡ name) old new
     (λ s lines h. (given.0, given.1, inr (p, given.2, h)))

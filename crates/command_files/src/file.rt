@@ -24,7 +24,10 @@ pub fn bytes_of<F: Shelf, K: Sink, E: Sink>(
     ensures within { IfOk result (λ bytes. length bytes.items ≤ limit) }
     ensures silent { OnOk result (out.new ≡ out.old) }
     ensures keeps { Keeps (F.state shelf.old) (F.state shelf.new) }
-    ensures told { IfErr result (Ends (Says (LongFile (F.state shelf.old).held name.now limit) (λ other. other ≡ name.now) (F.state shelf.old) (F.state shelf.new)) out.old out.new) }
+    ensures told { IfErr result
+        (Ends
+        (Says (LongFile (F.state shelf.old).held name.now limit) (λ other. other ≡ name.now)
+        (F.state shelf.old) (F.state shelf.new)) out.old out.new) }
 {
     match read_all(alloc, shelf, name, limit) {
         Ok(bytes) => Ok(bytes),

@@ -59,7 +59,8 @@ fn say_plan_fault<K: Sink, E: Sink>(
     number: u32,
     kind: PlanKind,
 ) -> Status
-    ensures { Ends (OrMemory (Only BadPlan (line (plan_fault_line number kind)))) out.old out.new result }
+    ensures { Ends (OrMemory (Only BadPlan (line (plan_fault_line number kind)))) out.old out.new
+        result }
 {
     let source = Source {
         text,
@@ -81,11 +82,16 @@ pub fn plan_of<F: Shelf, K: Sink, E: Sink>(
     name: &str,
     problem: &Problem,
 ) -> Result<Plan, Status>
-    ensures plan { IfOk result (λ plan. (file : List ℕ) × AreHeld ((F.state shelf.old).held name.now) file × GivesPlan problem.now file plan) }
+    ensures plan { IfOk result
+        (λ plan. (file : List ℕ) × AreHeld ((F.state shelf.old).held name.now) file
+        × GivesPlan problem.now file plan) }
     ensures valid { IfOk result (IsPlan problem.now) }
     ensures silent { OnOk result (out.new ≡ out.old) }
     ensures keeps { Keeps (F.state shelf.old) (F.state shelf.new) }
-    ensures told { IfErr result (Ends (Says (PlanFaults (F.state shelf.old).held name.now problem.now) (λ other. other ≡ name.now) (F.state shelf.old) (F.state shelf.new)) out.old out.new) }
+    ensures told { IfErr result
+        (Ends
+        (Says (PlanFaults (F.state shelf.old).held name.now problem.now) (λ other. other ≡ name.now)
+        (F.state shelf.old) (F.state shelf.new)) out.old out.new) }
 {
     let bytes = match bytes_of(alloc, shelf, out, name, PLAN_LIMIT) {
         Ok(bytes) => bytes,

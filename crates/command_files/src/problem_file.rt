@@ -1,7 +1,8 @@
 //! A problem file: it is read and judged.
 ghost use Rattle.std.specs.Prelude.{◌≡◌, ℕ, List, IfOk, IfErr, OnOk, string_bytes};
 ghost use Rattle.studio_rules.specs.Lines.{line};
-ghost use Rattle.studio_rules.specs.Reading.{AreHeld, GivesProblem, FileFaults, fault_line, kind_word};
+ghost use Rattle.studio_rules.specs.Reading.{AreHeld, GivesProblem, FileFaults, fault_line};
+ghost use Rattle.studio_rules.specs.Reading.{kind_word};
 ghost use Rattle.studio_rules.specs.Ending.{Ends, Says, Only, OrMemory};
 ghost use Rattle.studio_rules.specs.Keeps.{Keeps};
 ghost use Rattle.studio_rules.specs.declared.status.Status.TheVariants.{BadProblem};
@@ -74,7 +75,8 @@ fn say_fault<K: Sink, E: Sink>(
     number: u32,
     kind: TextKind,
 ) -> Status
-    ensures { Ends (OrMemory (Only BadProblem (line (fault_line number kind)))) out.old out.new result }
+    ensures { Ends (OrMemory (Only BadProblem (line (fault_line number kind)))) out.old out.new
+        result }
 {
     let source = Source {
         text,
@@ -95,10 +97,15 @@ pub fn problem_of<F: Shelf, K: Sink, E: Sink>(
     out: &mut Outputs<K, E>,
     name: &str,
 ) -> Result<Problem, Status>
-    ensures problem { IfOk result (λ p. (file : List ℕ) × AreHeld ((F.state shelf.old).held name.now) file × GivesProblem file p) }
+    ensures problem { IfOk result
+        (λ p. (file : List ℕ) × AreHeld ((F.state shelf.old).held name.now) file
+        × GivesProblem file p) }
     ensures silent { OnOk result (out.new ≡ out.old) }
     ensures keeps { Keeps (F.state shelf.old) (F.state shelf.new) }
-    ensures told { IfErr result (Ends (Says (FileFaults (F.state shelf.old).held name.now) (λ other. other ≡ name.now) (F.state shelf.old) (F.state shelf.new)) out.old out.new) }
+    ensures told { IfErr result
+        (Ends
+        (Says (FileFaults (F.state shelf.old).held name.now) (λ other. other ≡ name.now)
+        (F.state shelf.old) (F.state shelf.new)) out.old out.new) }
 {
     let bytes = match bytes_of(alloc, shelf, out, name, FILE_LIMIT) {
         Ok(bytes) => bytes,

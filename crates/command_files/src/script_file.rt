@@ -2,7 +2,8 @@
 ghost use Rattle.std.specs.Prelude.{◌≡◌, ◌≤◌, ℕ, List, IfOk, IfErr, OnOk, length, string_bytes};
 ghost use Rattle.studio_rules.specs.Lines.{line};
 ghost use Rattle.studio_rules.specs.Reading.{AreHeld};
-ghost use Rattle.studio_rules.specs.Script.{IsEdited, ScriptFaults, edit_fault_line, edit_kind_word};
+ghost use Rattle.studio_rules.specs.Script.{IsEdited, ScriptFaults, edit_fault_line};
+ghost use Rattle.studio_rules.specs.Script.{edit_kind_word};
 ghost use Rattle.command_files.specs.Script.{TellsEdits};
 ghost use Rattle.studio_rules.specs.Ending.{Ends, Says, Only, OrMemory};
 ghost use Rattle.studio_rules.specs.Keeps.{Keeps};
@@ -63,7 +64,8 @@ fn say_edit_fault<K: Sink, E: Sink>(
     number: u32,
     kind: EditKind,
 ) -> Status
-    ensures { Ends (OrMemory (Only BadEdit (line (edit_fault_line number kind)))) out.old out.new result }
+    ensures { Ends (OrMemory (Only BadEdit (line (edit_fault_line number kind)))) out.old out.new
+        result }
 {
     let source = Source {
         text,
@@ -105,10 +107,15 @@ pub fn edited_of<F: Shelf, K: Sink, E: Sink>(
     name: &str,
     problem: &Problem,
 ) -> Result<(Problem, Script), Status>
-    ensures edited { IfOk result (λ edited. (file : List ℕ) × AreHeld ((F.state shelf.old).held name.now) file × IsEdited problem.now file edited.0 edited.1) }
+    ensures edited { IfOk result
+        (λ edited. (file : List ℕ) × AreHeld ((F.state shelf.old).held name.now) file
+        × IsEdited problem.now file edited.0 edited.1) }
     ensures silent { OnOk result (out.new ≡ out.old) }
     ensures keeps { Keeps (F.state shelf.old) (F.state shelf.new) }
-    ensures told { IfErr result (Ends (Says (ScriptFaults (F.state shelf.old).held name.now problem.now) (λ other. other ≡ name.now) (F.state shelf.old) (F.state shelf.new)) out.old out.new) }
+    ensures told { IfErr result
+        (Ends
+        (Says (ScriptFaults (F.state shelf.old).held name.now problem.now)
+        (λ other. other ≡ name.now) (F.state shelf.old) (F.state shelf.new)) out.old out.new) }
 {
     let bytes = match bytes_of(alloc, shelf, out, name, SCRIPT_LIMIT) {
         Ok(bytes) => bytes,

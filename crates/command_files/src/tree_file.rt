@@ -1,10 +1,12 @@
 //! A tree file: it is read and judged by its grammar.
-ghost use Rattle.std.specs.Prelude.{◌≡◌, ◌<◌, ◌^◌, ℕ, List, IfOk, IfErr, OnOk, length, string_bytes};
+ghost use Rattle.std.specs.Prelude.{◌≡◌, ◌<◌, ◌^◌, ℕ, List, IfOk, IfErr, OnOk, length};
+ghost use Rattle.std.specs.Prelude.{string_bytes};
 ghost use Rattle.tree_rules.specs.Known.{KnowsClaim, KnowsTree};
 ghost use Rattle.branch_tree.specs.View.{claim_of};
 ghost use Rattle.studio_rules.specs.Lines.{line};
 ghost use Rattle.studio_rules.specs.Reading.{AreHeld};
-ghost use Rattle.studio_rules.specs.TreeFile.{GivesTree, TreeFaults, tree_fault_line, tree_kind_word};
+ghost use Rattle.studio_rules.specs.TreeFile.{GivesTree, TreeFaults, tree_fault_line};
+ghost use Rattle.studio_rules.specs.TreeFile.{tree_kind_word};
 ghost use Rattle.studio_rules.specs.Ending.{Ends, Says, Only, OrMemory};
 ghost use Rattle.studio_rules.specs.Keeps.{Keeps};
 ghost use Rattle.studio_rules.specs.declared.status.Status.TheVariants.{BadTree};
@@ -59,7 +61,8 @@ pub fn say_tree_fault<K: Sink, E: Sink>(
     number: u32,
     kind: TreeKind,
 ) -> Status
-    ensures { Ends (OrMemory (Only BadTree (line (tree_fault_line number kind)))) out.old out.new result }
+    ensures { Ends (OrMemory (Only BadTree (line (tree_fault_line number kind)))) out.old out.new
+        result }
 {
     let notes = fault(alloc, source, number, tree_kind_word(kind));
     match tree_fault_line(alloc, number, kind) {
@@ -77,12 +80,18 @@ pub fn tree_of<F: Shelf, K: Sink, E: Sink>(
     name: &str,
     problem: &Problem,
 ) -> Result<(Claim, Tree), Status>
-    ensures tree { IfOk result (λ found. (file : List ℕ) × AreHeld ((F.state shelf.old).held name.now) file × GivesTree problem.now file (claim_of found.0) found.1) }
+    ensures tree { IfOk result
+        (λ found. (file : List ℕ) × AreHeld ((F.state shelf.old).held name.now) file
+        × GivesTree problem.now file (claim_of found.0) found.1) }
     ensures few { IfOk result (λ found. length found.1 < 2 ^ 32) }
-    ensures known { IfOk result (λ found. KnowsClaim problem.now (claim_of found.0) × KnowsTree problem.now found.1) }
+    ensures known { IfOk result
+        (λ found. KnowsClaim problem.now (claim_of found.0) × KnowsTree problem.now found.1) }
     ensures silent { OnOk result (out.new ≡ out.old) }
     ensures keeps { Keeps (F.state shelf.old) (F.state shelf.new) }
-    ensures told { IfErr result (Ends (Says (TreeFaults (F.state shelf.old).held name.now problem.now) (λ other. other ≡ name.now) (F.state shelf.old) (F.state shelf.new)) out.old out.new) }
+    ensures told { IfErr result
+        (Ends
+        (Says (TreeFaults (F.state shelf.old).held name.now problem.now) (λ other. other ≡ name.now)
+        (F.state shelf.old) (F.state shelf.new)) out.old out.new) }
 {
     let bytes = match bytes_of(alloc, shelf, out, name, TREE_LIMIT) {
         Ok(bytes) => bytes,

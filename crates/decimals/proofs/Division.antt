@@ -1,14 +1,18 @@
 -- A number that is divided by the factors of a product one after another.
-use Rattle.std.proofs.Common.{◌≡◌, ◌<◌, ◌≤◌, ◌+◌, ◌-◌, ◌*◌, ◌/◌, ◌%◌, ◌^◌, ◌==◌, ◌&&◌, ℕ, Bool, true, false, refl, sym, ap, ◌∙◌, arith}
+use Rattle.std.proofs.Common.{◌≡◌, ◌<◌, ◌≤◌, ◌+◌, ◌-◌, ◌*◌, ◌/◌, ◌%◌, ◌^◌, ◌==◌, ◌&&◌, ℕ, Bool}
+use Rattle.std.proofs.Common.{true, false, refl, sym, ap, ◌∙◌, arith}
 use Rattle.std.specs.Prelude.{ℤ, pos, unsigned_abs, int_lt, Result, Ok, Err, OnOk}
-use Rattle.report_rules.specs.Decimal.{rounded_text, decimal_text, signed_text, rounded, places_behind, six_digits}
+use Rattle.report_rules.specs.Decimal.{rounded_text, decimal_text, signed_text, rounded}
+use Rattle.report_rules.specs.Decimal.{places_behind, six_digits}
 use Rattle.std.proofs.lemmas.Nat.{pow-add}
 use Rattle.std.proofs.lemmas.Bool.{eq-eqb, ne_eqb, eqb-true, eqb-false}
-use Rattle.std.proofs.Math.Nat.{div-div-eq-div-mul, add-mul-div_right, mul-div-mul_right, mul-div_cancel, mul-mod_left, le-mul_of_pos_right, one-le-pow}
+use Rattle.std.proofs.Math.Nat.{div-div-eq-div-mul, add-mul-div_right, mul-div-mul_right}
+use Rattle.std.proofs.Math.Nat.{mul-div_cancel, mul-mod_left, le-mul_of_pos_right, one-le-pow}
 use Rattle.std.proofs.Math.Arith.{mod-mul}
 
 -- to round a quotient by a product is to divide by one factor, and to round the quotient of that
-pub rounded_by_parts : (a k h d : ℕ) → 0 < k → 0 < h → 0 < d → (2 * (a * k) + 2 * k * h * d) / (2 * (2 * k * h * d)) ≡ (a / d + h) / (2 * h)
+pub rounded_by_parts : (a k h d : ℕ) → 0 < k → 0 < h → 0 < d
+    → (2 * (a * k) + 2 * k * h * d) / (2 * (2 * k * h * d)) ≡ (a / d + h) / (2 * h)
 rounded_by_parts a k h d pk ph pd =
     let top : 2 * (a * k) + 2 * k * h * d ≡ (a + h * d) * (2 * k) = omega arith in
     let bottom : 2 * (2 * k * h * d) ≡ (d * (2 * h)) * (2 * k) = omega arith in
@@ -18,7 +22,8 @@ rounded_by_parts a k h d pk ph pd =
     ∙ ap (λ n. n / (2 * h)) (add-mul-div_right a h pd)
 
 -- the product divides without a rest if and only if both factors do
-pub exact_by_parts : (a k h d : ℕ) → 0 < k → 0 < h → 0 < d → (a * k % (2 * k * h * d) == 0) ≡ (a % d == 0 && (a / d) % (2 * h) == 0)
+pub exact_by_parts : (a k h d : ℕ) → 0 < k → 0 < h → 0 < d
+    → (a * k % (2 * k * h * d) == 0) ≡ (a % d == 0 && (a / d) % (2 * h) == 0)
 exact_by_parts a k h d pk ph pd =
     let order : 2 * k * h * d ≡ ((2 * h) * d) * k = omega arith in
     ap (λ n. n == 0)
@@ -44,36 +49,50 @@ exact_by_parts a k h d pk ph pd =
         some : q ≤ q * d
         some = le-mul_of_pos_right q pd
 
-        by : (b : Bool) → (r == 0) ≡ b → (e : Bool) → (q == 0) ≡ e → ((q * d + r) * k == 0) ≡ (b && e)
+        by : (b : Bool) → (r == 0) ≡ b → (e : Bool) → (q == 0) ≡ e
+            → ((q * d + r) * k == 0) ≡ (b && e)
         by true f true g =
             let r0 : r ≡ 0 = eqb-true r 0 f in
             let q0 : q ≡ 0 = eqb-true q 0 g in
             eq-eqb ((q * d + r) * k) 0 (rw (r0, q0) (omega arith))
-        by true f false g = ne_eqb ((q * d + r) * k) 0 (λ n. absurd (eqb-false q 0 g (omega (arith, grows, some, n))))
-        by false f e g = ne_eqb ((q * d + r) * k) 0 (λ n. absurd (eqb-false r 0 f (omega (arith, grows, some, n))))
+        by true f false g =
+            ne_eqb ((q * d + r) * k) 0
+            (λ n. absurd (eqb-false q 0 g (omega (arith, grows, some, n))))
+        by false f e g =
+            ne_eqb ((q * d + r) * k) 0
+            (λ n. absurd (eqb-false r 0 f (omega (arith, grows, some, n))))
 
 pub power_positive : (k : ℕ) → 0 < 10 ^ k
 power_positive k = let l : 1 ≤ 10 ^ k = one-le-pow k 10 (omega arith) in l
 
-pub quotient_text : (k h : ℕ) (num : ℤ) (d : ℕ) (exact : Bool) (n : ℕ) → 0 < h → 0 < d → exact ≡ (unsigned_abs num % d == 0 && (unsigned_abs num / d) % (2 * h) == 0) → n ≡ (unsigned_abs num / d + h) / (2 * h)
+pub quotient_text : (k h : ℕ) (num : ℤ) (d : ℕ) (exact : Bool) (n : ℕ) → 0 < h → 0 < d
+    → exact ≡ (unsigned_abs num % d == 0 && (unsigned_abs num / d) % (2 * h) == 0)
+    → n ≡ (unsigned_abs num / d + h) / (2 * h)
     → rounded_text k exact (int_lt num (pos 0)) n ≡ decimal_text k num (2 * 10 ^ k * h * d)
 quotient_text k h num d exact n ph pd e f = λ i.
-    rounded_text k ((e ∙ sym (exact_by_parts (unsigned_abs num) (10 ^ k) h d (power_positive k) ph pd)) i) (int_lt num (pos 0))
+    rounded_text k
+    ((e ∙ sym (exact_by_parts (unsigned_abs num) (10 ^ k) h d (power_positive k) ph pd)) i)
+    (int_lt num (pos 0))
     ((f ∙ sym (rounded_by_parts (unsigned_abs num) (10 ^ k) h d (power_positive k) ph pd)) i)
 
 -- six digits of a number over 2 * 10^6 * h * d
-pub six_text : (h : ℕ) (num : ℤ) (d k n : ℕ) → 0 < h → 0 < d → k ≤ 6 → k ≡ places_behind 6 ((unsigned_abs num / d) / (2000000 * h))
-    → n ≡ (unsigned_abs num / d + h * 10 ^ (6 - k)) / (2 * (h * 10 ^ (6 - k))) → signed_text k (int_lt num (pos 0)) n ≡ six_digits num (2 * 10 ^ 6 * h * d)
+pub six_text : (h : ℕ) (num : ℤ) (d k n : ℕ) → 0 < h → 0 < d → k ≤ 6
+    → k ≡ places_behind 6 ((unsigned_abs num / d) / (2000000 * h))
+    → n ≡ (unsigned_abs num / d + h * 10 ^ (6 - k)) / (2 * (h * 10 ^ (6 - k)))
+    → signed_text k (int_lt num (pos 0)) n ≡ six_digits num (2 * 10 ^ 6 * h * d)
 six_text h num d k n ph pd few e f = λ i. signed_text (places i) (int_lt num (pos 0)) (last i)
   where
     whole : (unsigned_abs num / d) / (2000000 * h) ≡ unsigned_abs num / (2 * 10 ^ 6 * h * d)
-    whole = let same : d * (2000000 * h) ≡ 2 * 10 ^ 6 * h * d = omega arith in div-div-eq-div-mul (unsigned_abs num) d (2000000 * h) ∙ ap (λ m. unsigned_abs num / m) same
+    whole = let same : d * (2000000 * h) ≡ 2 * 10 ^ 6 * h * d =
+        omega arith in div-div-eq-div-mul (unsigned_abs num) d (2000000 * h)
+        ∙ ap (λ m. unsigned_abs num / m) same
 
     places : k ≡ places_behind 6 (unsigned_abs num / (2 * 10 ^ 6 * h * d))
     places = e ∙ ap (places_behind 6) whole
 
     power : 10 ^ k * 10 ^ (6 - k) ≡ 10 ^ 6
-    power = let all : k + (6 - k) ≡ 6 = omega (arith, few) in sym (pow-add 10 k (6 - k)) ∙ ap (λ m. 10 ^ m) all
+    power = let all : k + (6 - k) ≡ 6 =
+        omega (arith, few) in sym (pow-add 10 k (6 - k)) ∙ ap (λ m. 10 ^ m) all
 
     bottom : 2 * 10 ^ k * (h * 10 ^ (6 - k)) * d ≡ 2 * 10 ^ 6 * h * d
     bottom = ring (10 ^ k) (10 ^ (6 - k)) ∙ ap (λ m. m * (2 * h * d)) power ∙ back (10 ^ 6)
@@ -85,11 +104,15 @@ six_text h num d k n ph pd few e f = λ i. signed_text (places i) (int_lt num (p
         back a = omega arith
 
     positive : 0 < h * 10 ^ (6 - k)
-    positive = let p = power_positive (6 - k) in let l : h ≤ h * 10 ^ (6 - k) = le-mul_of_pos_right h p in omega (arith, l, ph)
+    positive = let p = power_positive (6 - k) in let l : h ≤ h * 10 ^ (6 - k) =
+        le-mul_of_pos_right h p in omega (arith, l, ph)
 
-    last : n ≡ rounded (places_behind 6 (unsigned_abs num / (2 * 10 ^ 6 * h * d))) num (2 * 10 ^ 6 * h * d)
+    last : n ≡ rounded (places_behind 6 (unsigned_abs num / (2 * 10 ^ 6 * h * d))) num
+        (2 * 10 ^ 6 * h * d)
     last =
-        f ∙ sym (rounded_by_parts (unsigned_abs num) (10 ^ k) (h * 10 ^ (6 - k)) d (power_positive k) positive pd)
+        f ∙ sym
+        (rounded_by_parts (unsigned_abs num) (10 ^ k) (h * 10 ^ (6 - k)) d (power_positive k)
+        positive pd)
         ∙ (λ i. (2 * (unsigned_abs num * 10 ^ k) + bottom i) / (2 * bottom i))
         ∙ ap (λ m. rounded m num (2 * 10 ^ 6 * h * d)) places
 

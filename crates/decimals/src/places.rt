@@ -39,7 +39,8 @@ pub(crate) fn push_scaled(
     number: u128,
 ) -> Result<(), AllocError>
     requires { scale ≡ 10 ^ places }
-    ensures { OnOk result (string_bytes text.new ≡ string_bytes text.old ++ scaled_text places number) }
+    ensures { OnOk result
+        (string_bytes text.new ≡ string_bytes text.old ++ scaled_text places number) }
 {
     let scale = u128::from(scale);
     let whole = number / scale;

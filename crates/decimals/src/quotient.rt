@@ -1,5 +1,6 @@
 //! A quotient whose divisor is a product.
-ghost use Rattle.std.specs.Prelude.{◌≡◌, ◌≤ℤ◌, ◌<◌, ◌++◌, ◌*◌, ◌^◌, ◌==◌, ◌&&◌, ◌+◌, ◌/◌, ◌%◌, pos, unsigned_abs, OnOk, string_bytes};
+ghost use Rattle.std.specs.Prelude.{◌≡◌, ◌≤ℤ◌, ◌<◌, ◌++◌, ◌*◌, ◌^◌, ◌==◌, ◌&&◌, ◌+◌, ◌/◌, ◌%◌, pos};
+ghost use Rattle.std.specs.Prelude.{unsigned_abs, OnOk, string_bytes};
 ghost use Rattle.report_rules.specs.Decimal.{decimal_text, rounded, is_exact};
 
 use crate::signed::push_rounded;
@@ -41,7 +42,9 @@ pub fn push_quotient(
     requires scale { scale ≡ 10 ^ places }
     requires half { 0 < half }
     requires d { pos 1 ≤ℤ d }
-    ensures { OnOk result (string_bytes text.new ≡ string_bytes text.old ++ decimal_text places number (2 * 10 ^ places * half * unsigned_abs d)) }
+    ensures { OnOk result
+        (string_bytes text.new ≡ string_bytes text.old
+        ++ decimal_text places number (2 * 10 ^ places * half * unsigned_abs d)) }
 {
     let size = number.unsigned_abs();
     let over = d.unsigned_abs();

@@ -15,7 +15,8 @@ pub fn push_signed(
     number: u128,
 ) -> Result<(), AllocError>
     requires { scale ≡ 10 ^ places }
-    ensures { OnOk result (string_bytes text.new ≡ string_bytes text.old ++ signed_text places negative number) }
+    ensures { OnOk result
+        (string_bytes text.new ≡ string_bytes text.old ++ signed_text places negative number) }
 {
     if negative && number != 0 {
         text.push('-')?;
@@ -33,7 +34,9 @@ pub(crate) fn push_rounded(
     number: u128,
 ) -> Result<(), AllocError>
     requires { scale ≡ 10 ^ places }
-    ensures { OnOk result (string_bytes text.new ≡ string_bytes text.old ++ rounded_text places exact negative number) }
+    ensures { OnOk result
+        (string_bytes text.new ≡ string_bytes text.old
+        ++ rounded_text places exact negative number) }
 {
     if !exact {
         text.push('~')?;

@@ -1,5 +1,6 @@
 //! Six digits.
-ghost use Rattle.std.specs.Prelude.{◌≡◌, ◌≤◌, ◌≤ℤ◌, ◌<◌, ◌++◌, ◌+◌, ◌*◌, ◌/◌, ◌^◌, pos, unsigned_abs, OnOk, string_bytes};
+ghost use Rattle.std.specs.Prelude.{◌≡◌, ◌≤◌, ◌≤ℤ◌, ◌<◌, ◌++◌, ◌+◌, ◌*◌, ◌/◌, ◌^◌, pos};
+ghost use Rattle.std.specs.Prelude.{unsigned_abs, OnOk, string_bytes};
 ghost use Rattle.report_rules.specs.Decimal.{places_behind, six_digits};
 
 use crate::signed::push_signed;
@@ -65,7 +66,9 @@ pub fn push_six_digits(
 ) -> Result<(), AllocError>
     requires half { 0 < half }
     requires d { pos 1 ≤ℤ d }
-    ensures { OnOk result (string_bytes text.new ≡ string_bytes text.old ++ six_digits number (2 * 10 ^ 6 * half * unsigned_abs d)) }
+    ensures { OnOk result
+        (string_bytes text.new ≡ string_bytes text.old
+        ++ six_digits number (2 * 10 ^ 6 * half * unsigned_abs d)) }
 {
     let size = number.unsigned_abs();
     let over = d.unsigned_abs();

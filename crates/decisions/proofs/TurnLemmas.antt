@@ -19,11 +19,16 @@ module _ (g : Shape) (n before : Node) (same : n ≡ before) (u : ℕ) (after : 
 
   module _ (s : ℕ → Bool) (within : IsWithinNode g before s) where
     pub within_taken : after ≡ with_unit u n → s u ≡ true → IsWithinNode g after s
-    within_taken is e = subst (λ m. IsWithinNode g m s) (sym (taken_node is)) (narrow_in g before u s within e)
+    within_taken is e =
+        subst (λ m. IsWithinNode g m s) (sym (taken_node is)) (narrow_in g before u s within e)
 
     pub within_left : after ≡ without_unit u n → s u ≡ false → IsWithinNode g after s
-    within_left is e = subst (λ m. IsWithinNode g m s) (sym (left_node is)) (narrow_out g before u s within e)
+    within_left is e =
+        subst (λ m. IsWithinNode g m s) (sym (left_node is)) (narrow_out g before u s within e)
 
-pub turn_apart : (g : Shape) (t : Turn) → IsTurn g t → (before : Node) → t.position.decided.node ≡ before → (s o : ℕ → Bool) → IsWithinNode g before s → IsWithinNode g before o → s t.unit ≡ false → o t.unit ≡ true → IsBefore g s o
+pub turn_apart : (g : Shape) (t : Turn) → IsTurn g t → (before : Node)
+    → t.position.decided.node ≡ before → (s o : ℕ → Bool) → IsWithinNode g before s
+    → IsWithinNode g before o → s t.unit ≡ false → o t.unit ≡ true → IsBefore g s o
 turn_apart g t is before same s o a b =
-    is.apart s o (subst (λ m. IsWithinNode g m s) (sym same) a) (subst (λ m. IsWithinNode g m o) (sym same) b)
+    is.apart s o (subst (λ m. IsWithinNode g m s) (sym same) a)
+    (subst (λ m. IsWithinNode g m o) (sym same) b)

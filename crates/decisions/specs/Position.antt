@@ -1,15 +1,19 @@
--- A position in the decision of the units one by one (the decision mapping of Friedler, Tarjan, Huang and Fan 1992, with
--- the makers of a material decided one after another, the greatest number first).
-use Rattle.std.specs.Prelude.{◌≡◌, ℕ, ◌<◌, Bool, true, false, not, ◌||◌, List, length, Option, Some, None}
+-- A position in the decision of the units one by one. It is the decision mapping of Friedler,
+-- Tarjan, Huang and Fan 1992, but the makers of a material are decided one after another, the
+-- greatest number first.
+use Rattle.std.specs.Prelude.{◌≡◌, ℕ, ◌<◌, Bool, true, false, not, ◌||◌, List, length, Option, Some}
+use Rattle.std.specs.Prelude.{None}
 use Rattle.number_sets.specs.Sets.{has, listed, with_number}
 use Rattle.pns_rules.specs.Shape.{Shape}
 use Rattle.pns_rules.specs.Structure.{is_needed, IsBetween}
-use Rattle.pns_rules.specs.Trace.{Pair, is_done, units_of, next_material, IsWalk, HasMakers, IsBefore}
+use Rattle.pns_rules.specs.Trace.{Pair, is_done, units_of, next_material, IsWalk, HasMakers}
+use Rattle.pns_rules.specs.Trace.{IsBefore}
 use Rattle.unit_sets.specs.declared.node.Node.{Node}
 use Rattle.decisions.specs.declared.position.Position.{Position}
 use Rattle.decisions.specs.declared.turn.Turn.{Turn}
 
--- a solution structure, allowed or not, that contains the node's units and avoids those that it leaves out
+-- a solution structure, clash-free or not, that contains the units taken in at the node and avoids
+-- those left out
 abbrev pub IsWithinNode : Shape → Node → (ℕ → Bool) → Type 0
 IsWithinNode g n o = IsBetween g (has n.inside) (has n.outside) o
 
@@ -25,8 +29,8 @@ abbrev pub makes_it : Shape → Option ℕ → ℕ → Bool
 makes_it g None u = false
 makes_it g (Some x) u = g.makes u x
 
--- The pairs are how the trace of each structure of the node begins, and `at` is the material that comes next. The units
--- that are taken in are those of the pairs, and makers of `at`.
+-- The trace of each structure of the node begins with the pairs, and `at` is the material that
+-- comes next. The units that are taken in are those of the pairs, and makers of `at`.
 pub record IsPosition (g : Shape) (p : Position) : Type 0 where
   pub pairs : List Pair
   pub walk : IsWalk g pairs
@@ -35,16 +39,21 @@ pub record IsPosition (g : Shape) (p : Position) : Type 0 where
   pub wanted_is : (x : ℕ) → has p.wanted x ≡ is_needed g (has p.decided.node.inside) x
   pub next : next_material g pairs ≡ p.at
   pub from_pairs : (u : ℕ) → units_of pairs u ≡ true → has p.decided.node.inside u ≡ true
-  pub in_pairs : (u : ℕ) → has p.decided.node.inside u ≡ true → (units_of pairs u || makes_it g p.at u) ≡ true
+  pub in_pairs : (u : ℕ) → has p.decided.node.inside u ≡ true
+      → (units_of pairs u || makes_it g p.at u) ≡ true
   pub known : (u : ℕ) → has p.decided.node.inside u ≡ true → u < g.units
 
--- The unit is free, and of two structures of the node that differ in it the one without it is before the other.
+-- The unit is free. Of two structures of the node that differ in it, the one without it comes
+-- first.
 pub record IsTurn (g : Shape) (t : Turn) : Type 0 where
   pub position : IsPosition g t.position
   pub known : t.unit < g.units
   pub makes : makes_it g t.position.at t.unit ≡ true
-  pub free : (has t.position.decided.node.inside t.unit || has t.position.decided.node.outside t.unit) ≡ false
-  pub apart : (s o : ℕ → Bool) → IsWithinNode g t.position.decided.node s → IsWithinNode g t.position.decided.node o → s t.unit ≡ false → o t.unit ≡ true → IsBefore g s o
+  pub free : (has t.position.decided.node.inside t.unit || has t.position.decided.node.outside
+      t.unit) ≡ false
+  pub apart : (s o : ℕ → Bool) → IsWithinNode g t.position.decided.node s
+      → IsWithinNode g t.position.decided.node o → s t.unit ≡ false → o t.unit ≡ true
+      → IsBefore g s o
 
 -- no unit is left to be decided
 abbrev pub IsSettled : Shape → Node → Type 0

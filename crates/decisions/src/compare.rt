@@ -11,7 +11,7 @@ use pgraph::Graph;
 use std::cmp::Ordering;
 use unit_sets::UnitSet;
 
-/// Compares two solution structures by their traces. They are equal exactly where their units are.
+/// Compares two solution structures by their traces. They are equal exactly if their units are.
 pub fn compare_traces(graph: &Graph, a: UnitSet, b: UnitSet) -> Ordering
     requires a { IsStructure (shape graph.now) (has a) }
     requires b { IsStructure (shape graph.now) (has b) }

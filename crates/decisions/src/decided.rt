@@ -33,10 +33,11 @@ impl Decided {
         }
     }
 
-    /// The least needed material that is not done; `None` exactly where all needed materials are done.
+    /// The least needed material that is not done; `None` exactly if all needed materials are done.
     pub fn first_needed(&self, graph: &Graph) -> Option<u32>
         requires { (u : ℕ) → has self.now.node.inside u ≡ true → u < (shape graph.now).units }
-        ensures { result ≡ least_below (shape graph.now).materials (is_due (shape graph.now) (has self.now.node.inside) (has self.now.done)) }
+        ensures { result ≡ least_below (shape graph.now).materials
+            (is_due (shape graph.now) (has self.now.node.inside) (has self.now.done)) }
     {
         graph.is_proper();
         let due = graph.needed(self.node.inside).minus(self.done);
@@ -44,8 +45,9 @@ impl Decided {
         due.least()
     }
 
-    /// The base and the free makers of the material: those that are taken in, and those that are neither taken in nor left
-    /// out. Its options are the non-empty sets between the base and the two together.
+    /// The base and the free makers of the material: those that are taken in, and those that are
+    /// neither taken in nor left out. Its options are the non-empty sets between the base and both
+    /// together.
     pub fn options(&self, graph: &Graph, x: u32) -> (UnitSet, UnitSet)
         requires { x < (shape graph.now).materials }
         ensures base { result.0 ≡ base_makers (shape graph.now) (node_of self.now.node) x }
@@ -55,11 +57,12 @@ impl Decided {
         graph.options(self.node, x)
     }
 
-    /// The child in which the set, an option of the material, is its makers: they are taken in, its other makers are left
-    /// out, and it is done.
+    /// The child in which the set, an option of the material, is its makers: they are taken in, its
+    /// other makers are left out, and it is done.
     pub fn decide(&self, graph: &Graph, x: u32, set: UnitSet) -> Decided
         requires { x < (shape graph.now).materials }
-        ensures child { node_of result.node ≡ child (shape graph.now) (node_of self.now.node) x set }
+        ensures child { node_of result.node
+            ≡ child (shape graph.now) (node_of self.now.node) x set }
         ensures done { result.done ≡ with_number x self.now.done }
     {
         graph.is_proper();

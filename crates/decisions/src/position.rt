@@ -11,8 +11,9 @@ use crate::turn::Turn;
 use pgraph::Graph;
 use unit_sets::{MatSet, Node, UnitSet};
 
-/// What is decided, the materials that are needed, and the material under decision: while the makers of a material are
-/// decided, a unit that is taken in may need a lesser one, which has to wait.
+/// What is decided, the materials that are needed, and the material under decision. While the
+/// makers of a material are decided, a unit that is taken in may need a lesser material, which then
+/// has to wait.
 #[derive(Clone, Copy, Debug, PartialEq, Eq)]
 pub struct Position {
     pub decided: Decided,
@@ -21,7 +22,7 @@ pub struct Position {
 }
 
 impl Position {
-    /// The position at which nothing is decided but that some units are left out.
+    /// The position at which some units are left out and nothing else is decided.
     pub fn start(graph: &Graph, outside: UnitSet) -> Position
         ensures position { IsPosition (shape graph.now) result }
         ensures inside { result.decided.node.inside ≡ [] }
@@ -45,9 +46,9 @@ impl Position {
         }
     }
 
-    /// The unit that is to be decided next: the greatest maker of the material under decision that is neither taken in nor
-    /// left out. A material without such a maker is done, and the least needed one that is not done comes next. `None`
-    /// exactly where no unit is left to be decided.
+    /// The unit that is to be decided next: the greatest maker of the material under decision that
+    /// is neither taken in nor left out. A material without such a maker is done, and the least
+    /// needed one that is not done comes next. `None` exactly if no unit is left to be decided.
     pub fn turn(&self, graph: &Graph) -> Option<Turn>
         requires { IsPosition (shape graph.now) self.now }
         ensures turn { IfSome result (λ t. IsTurn (shape graph.now) t) }
@@ -71,14 +72,16 @@ impl Position {
         }
     }
 
-    /// The position at which the material under decision, all of whose makers are taken in or left out, is done.
+    /// All makers of the material under decision are taken in or left out: the position at which it
+    /// is done.
     fn passing(self, graph: &Graph, x: u32) -> Position
         requires position { IsPosition (shape graph.now) self }
         requires at { self.at ≡ Some x }
         requires none_free { free_makers (shape graph.now) (node_of self.decided.node) x ≡ [] }
         ensures position { IsPosition (shape graph.now) result }
         ensures node { result.decided.node ≡ self.decided.node }
-        ensures fewer { undone_count (shape graph.now) result < undone_count (shape graph.now) self }
+        ensures fewer { undone_count (shape graph.now) result
+            < undone_count (shape graph.now) self }
     {
         graph.is_proper();
         let Position {

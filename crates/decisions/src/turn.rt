@@ -8,7 +8,7 @@ use crate::position::Position;
 use pgraph::Graph;
 use unit_sets::Node;
 
-/// A unit that is to be decided, and where.
+/// A unit that is to be decided, and the position at which it is.
 #[derive(Clone, Copy, Debug, PartialEq, Eq)]
 pub struct Turn {
     pub position: Position,
@@ -16,12 +16,14 @@ pub struct Turn {
 }
 
 impl Turn {
-    /// The position in which the unit is left out. Its structures stand before those of `taking`.
+    /// The position in which the unit is left out. Its structures come before those of `taking`.
     pub fn leaving(&self, graph: &Graph) -> Position
         requires { IsTurn (shape graph.now) self.now }
         ensures position { IsPosition (shape graph.now) result }
-        ensures node { result.decided.node ≡ without_unit self.now.unit self.now.position.decided.node }
-        ensures fewer { free_count (shape graph.now) result.decided.node < free_count (shape graph.now) self.now.position.decided.node }
+        ensures node { result.decided.node
+            ≡ without_unit self.now.unit self.now.position.decided.node }
+        ensures fewer { free_count (shape graph.now) result.decided.node
+            < free_count (shape graph.now) self.now.position.decided.node }
     {
         graph.is_proper();
         let Position {
@@ -47,8 +49,10 @@ impl Turn {
     pub fn taking(&self, graph: &Graph) -> Position
         requires { IsTurn (shape graph.now) self.now }
         ensures position { IsPosition (shape graph.now) result }
-        ensures node { result.decided.node ≡ with_unit self.now.unit self.now.position.decided.node }
-        ensures fewer { free_count (shape graph.now) result.decided.node < free_count (shape graph.now) self.now.position.decided.node }
+        ensures node { result.decided.node
+            ≡ with_unit self.now.unit self.now.position.decided.node }
+        ensures fewer { free_count (shape graph.now) result.decided.node
+            < free_count (shape graph.now) self.now.position.decided.node }
     {
         graph.is_proper();
         let Position {

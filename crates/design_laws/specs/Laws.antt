@@ -21,27 +21,33 @@ use Rattle.design_rules.specs.Least.{IsLeastDesign, HasNoDesign}
 -- The units that run in each period are those of the set. The set has no other units than those of
 -- the expanded problem, and each period no others than those of the plant.
 pub record Runs (p : Problem) (plan : Plan) (s : ℕ → Bool) (runs : ℕ → ℕ → Bool) : Type 0 where
-  pub running : (t i : ℕ) → t < length plan.periods → i < length p.units → s (running_number p t i) ≡ runs t i
+  pub running : (t i : ℕ) → t < length plan.periods → i < length p.units
+      → s (running_number p t i) ≡ runs t i
   pub run_known : (t i : ℕ) → t < length plan.periods → runs t i ≡ true → i < length p.units
   pub known : (k : ℕ) → s k ≡ true → k < length (expanded p plan).units
 
 -- the units that build are those that run in some period
 abbrev pub BuildsUnion : Problem → Plan → (ℕ → Bool) → (ℕ → ℕ → Bool) → Type 0
-BuildsUnion p plan s runs = (i : ℕ) → i < length p.units → s i ≡ any_below (length plan.periods) (λ t. runs t i)
+BuildsUnion p plan s runs = (i : ℕ) → i < length p.units
+    → s i ≡ any_below (length plan.periods) (λ t. runs t i)
 
 -- a solution structure for each period, and the units that build their union, are a solution
 -- structure of the expanded problem
 abbrev pub FamiliesAreStructures : Type 0
 FamiliesAreStructures =
-    (p : Problem) (plan : Plan) → IsValid p → IsPlan p plan → (s : ℕ → Bool) (runs : ℕ → ℕ → Bool) → Runs p plan s runs
-    → ((t : ℕ) → t < length plan.periods → IsStructure (shape_of p) (runs t)) → BuildsUnion p plan s runs → IsStructure (shape_of (expanded p plan)) s
+    (p : Problem) (plan : Plan) → IsValid p → IsPlan p plan → (s : ℕ → Bool) (runs : ℕ → ℕ → Bool)
+    → Runs p plan s runs
+    → ((t : ℕ) → t < length plan.periods → IsStructure (shape_of p) (runs t))
+    → BuildsUnion p plan s runs → IsStructure (shape_of (expanded p plan)) s
 
 -- and each solution structure of it is such a family
 abbrev pub StructuresAreFamilies : Type 0
 StructuresAreFamilies =
-    (p : Problem) (plan : Plan) → IsValid p → IsPlan p plan → (s : ℕ → Bool) (runs : ℕ → ℕ → Bool) → Runs p plan s runs
+    (p : Problem) (plan : Plan) → IsValid p → IsPlan p plan → (s : ℕ → Bool) (runs : ℕ → ℕ → Bool)
+    → Runs p plan s runs
     → IsStructure (shape_of (expanded p plan)) s
-    → ((t : ℕ) → t < length plan.periods → IsStructure (shape_of p) (runs t)) × BuildsUnion p plan s runs
+    → ((t : ℕ) → t < length plan.periods → IsStructure (shape_of p) (runs t))
+    × BuildsUnion p plan s runs
 
 -- ---- designs
 
@@ -56,19 +62,25 @@ pub record HasNetwork (p : Problem) (plan : Plan) (y : Design) : Type 0 where
 
 -- each design is such a network
 abbrev pub DesignsAreNetworks : Type 0
-DesignsAreNetworks = (p : Problem) (plan : Plan) → IsValid p → IsPlan p plan → (y : Design) → IsDesign p plan y → HasNetwork p plan y
+DesignsAreNetworks = (p : Problem) (plan : Plan) → IsValid p → IsPlan p plan → (y : Design)
+    → IsDesign p plan y → HasNetwork p plan y
 
 -- so if no clash-free solution structure of the expanded problem has flows, the plant has no design
 abbrev pub NoNetworkIsNoDesign : Type 0
 NoNetworkIsNoDesign =
     (p : Problem) (plan : Plan) → IsValid p → IsPlan p plan
-    → ((s : ℕ → Bool) → IsStructure (shape_of (expanded p plan)) s → IsAllowed (shape_of (expanded p plan)) s → CostsEnough (expanded p plan) (claimed_cost infeasible) s)
+    → ((s : ℕ → Bool) → IsStructure (shape_of (expanded p plan)) s
+    → IsAllowed (shape_of (expanded p plan)) s
+    → CostsEnough (expanded p plan) (claimed_cost infeasible) s)
     → HasNoDesign p plan
 
 -- and each network that is feasible there is a design at its cost; if no network undercuts it, no
 -- design does
 abbrev pub LeastNetworkIsLeastDesign : Type 0
 LeastNetworkIsLeastDesign =
-    (p : Problem) (plan : Plan) → IsValid p → IsPlan p plan → (w : Network) → IsFeasible (expanded p plan) w
-    → ((s : ℕ → Bool) → IsStructure (shape_of (expanded p plan)) s → IsAllowed (shape_of (expanded p plan)) s → CostsEnough (expanded p plan) (claimed_cost (network w)) s)
+    (p : Problem) (plan : Plan) → IsValid p → IsPlan p plan → (w : Network)
+    → IsFeasible (expanded p plan) w
+    → ((s : ℕ → Bool) → IsStructure (shape_of (expanded p plan)) s
+    → IsAllowed (shape_of (expanded p plan)) s
+    → CostsEnough (expanded p plan) (claimed_cost (network w)) s)
     → IsLeastDesign p plan (folded p plan w)

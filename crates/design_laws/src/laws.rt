@@ -1,5 +1,7 @@
 //! The laws.
-ghost use Rattle.design_laws.specs.Laws.{FamiliesAreStructures, StructuresAreFamilies, DesignsAreNetworks, NoNetworkIsNoDesign, LeastNetworkIsLeastDesign};
+ghost use Rattle.design_laws.specs.Laws.{FamiliesAreStructures, StructuresAreFamilies};
+ghost use Rattle.design_laws.specs.Laws.{DesignsAreNetworks, NoNetworkIsNoDesign};
+ghost use Rattle.design_laws.specs.Laws.{LeastNetworkIsLeastDesign};
 
 use plan_laws::expanded_is_valid;
 

@@ -1,5 +1,6 @@
--- A design as lists of units and of numbers, and the design that a network of the expanded problem stands for: the units that
--- build are the units that are built, at their capacities, and the copies that run in a period are the units that run in it.
+-- A design as lists of units and of numbers, and the design that a network of the expanded problem
+-- stands for. The units that build in the network give the units that are built, with their
+-- capacities. The copies that run in a period give the units that run in it.
 use Rattle.std.specs.Prelude.{ℕ, ℤ, ◌+◌, ◌*◌, List, [], map, length, slice_index_or}
 use Rattle.std.specs.List.{range_with_len}
 use Rattle.number_sets.specs.Sets.{has, listed}
@@ -14,7 +15,8 @@ pub record Run : Type 0 where
   pub units : List ℕ
   pub sizes : List ℤ
 
--- the units that are built with their capacities, how each period runs, what all sizes and the cost are over, and the cost
+-- the units that are built with their capacities, how each period runs, the denominator d of all
+-- sizes and of the cost, and the cost
 pub record Written : Type 0 where
   pub built : List ℕ
   pub capacities : List ℤ
@@ -44,7 +46,7 @@ design_of x = record {
 abbrev pub running_number : Problem → ℕ → ℕ → ℕ
 running_number p t i = length p.units + t * length p.units + i
 
--- the units of the network among so many numbers, which then count from 0, and their sizes
+-- the units of the network among `count` numbers from `first` on, counted from 0, and their sizes
 abbrev pub run_from : Network → ℕ → ℕ → Run
 run_from w first count = record {
   units = listed count (λ i. has w.units (first + i));

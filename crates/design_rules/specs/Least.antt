@@ -1,12 +1,13 @@
--- Designs of least cost. Costs are over d and the payout period in 10^-18 of the money unit, so two of one plant are compared
--- by cross products.
+-- Designs of least cost. Costs are over d and the payout period in 10^-18 of the money unit, so the
+-- costs of two designs of one plant are compared by cross products.
 use Rattle.std.specs.Prelude.{◌≡◌, ◌*ℤ◌, ◌≤ℤ◌}
 use Rattle.problem_rules.specs.Problem.{Problem}
 use Rattle.plan_rules.specs.Plan.{Plan}
 use Rattle.plan_rules.specs.Design.{Design, IsDesign, design_cost}
 use Rattle.design_rules.specs.Folded.{Written, design_of}
 
--- what is written is a design of the plant over its periods with the cost that is written, and none costs less
+-- what is written is a design of the plant over its periods with the cost that is written, and no
+-- other costs less
 pub record IsLeastDesign (p : Problem) (plan : Plan) (x : Written) : Type 0 where
   pub design : IsDesign p plan (design_of x)
   pub cost_is : design_cost p plan (design_of x) ≡ x.cost

@@ -35,5 +35,12 @@ impl Model for Design {
 
     ghost Value = { rules.Written };
 
-    ghost view = { λ x. record { built = x.built; capacities = x.capacities.items; runs = x.runs.items; d = x.d; cost = x.cost } };
+    ghost view = { λ x. record {
+      built = x.built;
+      capacities = x.capacities.items;
+      runs =
+          x.runs.items;
+      d = x.d;
+      cost = x.cost;
+    } };
 }

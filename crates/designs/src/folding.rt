@@ -1,5 +1,6 @@
 //! The design of a network.
-ghost use Rattle.std.specs.Prelude.{◌≡◌, ◌≤◌, ◌<◌, ◌+◌, ◌*◌, ◌++◌, ◌∷◌, [], ℕ, true, pos, IfOk, OnOk, length, cond, map, slice_index_or};
+ghost use Rattle.std.specs.Prelude.{◌≡◌, ◌≤◌, ◌<◌, ◌+◌, ◌*◌, ◌++◌, ◌∷◌, [], ℕ, true, pos, IfOk};
+ghost use Rattle.std.specs.Prelude.{OnOk, length, cond, map, slice_index_or};
 ghost use Rattle.std.specs.List.{range_with_len};
 ghost use Rattle.number_sets.specs.Sets.{has, with_number};
 ghost use Rattle.plan_rules.specs.Plan.{IsPlan};
@@ -45,7 +46,8 @@ fn run_from(
     first: u32,
     count: u32,
 ) -> Result<Run, AllocError>
-    requires sizes { (k : ℕ) → has network.now.units k ≡ true → slice_index_or size_at.now k (pos 0) ≡ size_in network.now k }
+    requires sizes { (k : ℕ) → has network.now.units k ≡ true
+        → slice_index_or size_at.now k (pos 0) ≡ size_in network.now k }
     requires few { first + count ≤ 128 }
     ensures { IfOk result (λ run. run ≡ run_from network.now first count) }
 {
@@ -67,10 +69,13 @@ fn runs_of(
     units: u32,
     periods: u32,
 ) -> Result<Vec<Run>, AllocError>
-    requires sizes { (k : ℕ) → has network.now.units k ≡ true → slice_index_or size_at.now k (pos 0) ≡ size_in network.now k }
+    requires sizes { (k : ℕ) → has network.now.units k ≡ true
+        → slice_index_or size_at.now k (pos 0) ≡ size_in network.now k }
     requires few { units * (periods + 1) ≤ 128 }
     requires short { periods ≤ 256 }
-    ensures { IfOk result (λ v. v.items ≡ map (λ t. run_from network.now (units + t * units + 0) units) (range_with_len 0 periods)) }
+    ensures { IfOk result
+        (λ v. v.items ≡ map (λ t. run_from network.now (units + t * units + 0) units)
+        (range_with_len 0 periods)) }
 {
     let mut runs = Vec::new(alloc);
     'running: for t in 0..periods {
@@ -83,7 +88,8 @@ fn runs_of(
 
 /// The size of each unit of the network, by number.
 fn size_table(network: &Network) -> [i128; 128]
-    ensures { (k : ℕ) → has network.now.units k ≡ true → slice_index_or result k (pos 0) ≡ size_in network.now k }
+    ensures { (k : ℕ) → has network.now.units k ≡ true
+        → slice_index_or result k (pos 0) ≡ size_in network.now k }
 {
     network.is_sized();
     by_unit(network.units(), network.sizes())

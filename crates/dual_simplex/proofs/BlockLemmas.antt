@@ -1,5 +1,6 @@
 -- One row written in a block of rows: what it is then, and that the others stay.
-use Rattle.std.proofs.Common.{◌≡◌, ◌≢◌, ℕ, ◌+◌, ◌-◌, ◌*◌, ◌<◌, ◌≤◌, ◌++◌, arith, sym, ap, ◌∙◌, refl, subst, inl, inr, List, length, take, drop, All, ℤ}
+use Rattle.std.proofs.Common.{◌≡◌, ◌≢◌, ℕ, ◌+◌, ◌-◌, ◌*◌, ◌<◌, ◌≤◌, ◌++◌, arith, sym, ap, ◌∙◌, refl}
+use Rattle.std.proofs.Common.{subst, inl, inr, List, length, take, drop, All, ℤ}
 use Rattle.std.proofs.lemmas.Bool.{cases_lt}
 use Rattle.std.proofs.lemmas.List.{drop-take, take-append-le}
 use Rattle.std.proofs.lemmas.List.Elements.{All-take, All-drop, All-append}
@@ -18,7 +19,8 @@ row_is w d es = ap (λ k. take k (drop (d * w) es)) (both (d * w) w)
     both : (a b : ℕ) → a + b - a ≡ b
     both a b = omega arith
 
-pub other_row : (w c d n : ℕ) (es ys : List ℤ) → n ≡ w → length ys ≡ w → c * w + w ≤ length es → d ≢ c → row_at w (put_mid (c * w) n es ys) d ≡ row_at w es d
+pub other_row : (w c d n : ℕ) (es ys : List ℤ) → n ≡ w → length ys ≡ w → c * w + w ≤ length es
+    → d ≢ c → row_at w (put_mid (c * w) n es ys) d ≡ row_at w es d
 other_row w c d n es ys e l room ne =
     elim (cases_lt d c) [
       | inl h ↦
@@ -28,15 +30,23 @@ other_row w c d n es ys e l room ne =
           ∙ drop-take (d * w) w es ∙ sym (row_is w d es)
       | inr h ↦
           let b = below w d c (omega (arith, ne)) in
-          row_is w d (put_mid (c * w) n es ys) ∙ ap (take w) (drop-put_mid (c * w) n es ys (d * w) (omega arith) (omega arith) (omega arith)) ∙ sym (row_is w d es)
+          row_is w d (put_mid (c * w) n es ys)
+          ∙ ap (take w)
+          (drop-put_mid (c * w) n es ys (d * w) (omega arith) (omega arith) (omega arith))
+          ∙ sym (row_is w d es)
     ]
 
-pub all_kept : (a n : ℕ) (es ys : List ℤ) → AllInRange es → AllInRange ys → AllInRange (put_mid a n es ys)
-all_kept a n es ys h k = All-append InRange (take a es) _ (All-take InRange a es h) (All-append InRange ys _ k (All-drop InRange n (drop a es) (All-drop InRange a es h)))
+pub all_kept : (a n : ℕ) (es ys : List ℤ) → AllInRange es → AllInRange ys
+    → AllInRange (put_mid a n es ys)
+all_kept a n es ys h k =
+    All-append InRange (take a es) _ (All-take InRange a es h)
+    (All-append InRange ys _ k (All-drop InRange n (drop a es) (All-drop InRange a es h)))
 
 -- a row in the front of a block
 row_by_front : (w d : ℕ) (es : List ℤ) → row_at w es d ≡ drop (d * w) (take (d * w + w) es)
 row_by_front w d es = row_is w d es ∙ sym (drop-take (d * w) w es)
 
-pub row_before : (w d : ℕ) (es rest : List ℤ) → d * w + w ≤ length es → row_at w (es ++ rest) d ≡ row_at w es d
-row_before w d es rest h = row_by_front w d (es ++ rest) ∙ ap (drop (d * w)) (take-append-le (d * w + w) es rest h) ∙ sym (row_by_front w d es)
+pub row_before : (w d : ℕ) (es rest : List ℤ) → d * w + w ≤ length es
+    → row_at w (es ++ rest) d ≡ row_at w es d
+row_before w d es rest h = row_by_front w d (es ++ rest)
+    ∙ ap (drop (d * w)) (take-append-le (d * w + w) es rest h) ∙ sym (row_by_front w d es)

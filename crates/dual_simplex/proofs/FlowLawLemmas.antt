@@ -10,19 +10,27 @@ use Rattle.path_laws.proofs.EndLemmas as law
 use Rattle.path_laws.proofs.SplitLemmas as split
 use Rattle.dual_simplex.specs.Rows.{table, basis}
 use Rattle.dual_simplex.specs.Bench.{Bench, AreFlowsOf}
-use Rattle.dual_simplex.specs.FlowLaws.{FlowsAreRelaxed, FlowsAreLeast, UnitsAreInside, SplitIsDecided, SplitFlowsAreFlows, SplitFlowsAreLeast}
+use Rattle.dual_simplex.specs.FlowLaws.{FlowsAreRelaxed, FlowsAreLeast, UnitsAreInside}
+use Rattle.dual_simplex.specs.FlowLaws.{SplitIsDecided, SplitFlowsAreFlows, SplitFlowsAreLeast}
 use Rattle.dual_simplex.proofs.LawLemmas.{ends_least}
 
-read_of : (q r : Program) (b : Bench) → q ≡ r → AreFlowsOf q b → AreRead (linear_of r) (basis b.rows) (table b.rows) b.flows b.flow_den
-read_of q r b e f = subst (λ (s : Program). AreRead (linear_of s) (basis b.rows) (table b.rows) b.flows b.flow_den) e f.read
+read_of : (q r : Program) (b : Bench) → q ≡ r → AreFlowsOf q b
+    → AreRead (linear_of r) (basis b.rows) (table b.rows) b.flows b.flow_den
+read_of q r b e f =
+    subst (λ (s : Program). AreRead (linear_of s) (basis b.rows) (table b.rows) b.flows b.flow_den)
+    e f.read
 
 pub flows_are_relaxed : FlowsAreRelaxed
 flows_are_relaxed p v n q b e h f =
-    law.read_flows_are_relaxed p v n (basis b.rows) (table b.rows) b.d b.ys (ends_least (net_of p) n q b e h) b.flows b.flow_den (read_of q (program_of (net_of p) n) b e f)
+    law.read_flows_are_relaxed p v n (basis b.rows) (table b.rows) b.d b.ys
+    (ends_least (net_of p) n q b e h) b.flows b.flow_den
+    (read_of q (program_of (net_of p) n) b e f)
 
 pub flows_are_least : FlowsAreLeast
 flows_are_least p v n q b e h f =
-    law.read_flows_are_least p v n (basis b.rows) (table b.rows) b.d b.ys (ends_least (net_of p) n q b e h) b.flows b.flow_den (read_of q (program_of (net_of p) n) b e f)
+    law.read_flows_are_least p v n (basis b.rows) (table b.rows) b.d b.ys
+    (ends_least (net_of p) n q b e h) b.flows b.flow_den
+    (read_of q (program_of (net_of p) n) b e f)
 
 not_not : (a : Bool) → not (not a) ≡ a
 not_not true = refl
@@ -33,14 +41,18 @@ or_not true = refl
 or_not false = refl
 
 pub units_are_inside : UnitsAreInside
-units_are_inside net n s = listed-same net.graph.units (stays n) n.inside (λ u l. ap not (s u l) ∙ not_not (n.inside u))
+units_are_inside net n s =
+    listed-same net.graph.units (stays n) n.inside (λ u l. ap not (s u l) ∙ not_not (n.inside u))
 
 pub split_is_decided : SplitIsDecided
 split_is_decided net n s i l = ap (λ (o : Bool). n.inside i || o) (s i l) ∙ or_not (n.inside i)
 
 pub split_flows_are_flows : SplitFlowsAreFlows
-split_flows_are_flows p v n q b s e h f = split.relaxed_are_flows p n s b.flows b.flow_den (flows_are_relaxed p v n q b e h f)
+split_flows_are_flows p v n q b s e h f =
+    split.relaxed_are_flows p n s b.flows b.flow_den (flows_are_relaxed p v n q b e h f)
 
 pub split_flows_are_least : SplitFlowsAreLeast
 split_flows_are_least p v n q b s e h f =
-    flows_are_least p v n q b e h f ∙ ap (λ (z : ℤ). b.d *ℤ z) (sym (split.relaxed_cost_is_cost p n s (beside (units (net_of p) n) b.flows) b.flow_den))
+    flows_are_least p v n q b e h f
+    ∙ ap (λ (z : ℤ). b.d *ℤ z)
+    (sym (split.relaxed_cost_is_cost p n s (beside (units (net_of p) n) b.flows) b.flow_den))

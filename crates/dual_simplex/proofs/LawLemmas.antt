@@ -7,28 +7,49 @@ use Rattle.path_laws.specs.Ends as ends
 use Rattle.path_laws.proofs.EndLemmas as law
 use Rattle.dual_simplex.specs.Rows.{table, basis}
 use Rattle.dual_simplex.specs.Bench.{Bench, IsLeastOf, IsNoneOf}
-use Rattle.dual_simplex.specs.Laws.{ScaleIsPositive, BoundIsReached, BoundIsLeast, NoneIsRefuted, FeasibleIsLast, RefutingIsLast, PastIsLast}
+use Rattle.dual_simplex.specs.Laws.{ScaleIsPositive, BoundIsReached, BoundIsLeast, NoneIsRefuted}
+use Rattle.dual_simplex.specs.Laws.{FeasibleIsLast, RefutingIsLast, PastIsLast}
 use Rattle.path_laws.proofs.PathLawLemmas as path
 
-pub ends_least : (net : Net) (n : Node) (q : Program) (b : Bench) → q ≡ program_of net n → IsLeastOf q b → ends.EndsLeast net n (basis b.rows) (table b.rows) b.d b.ys
+pub ends_least : (net : Net) (n : Node) (q : Program) (b : Bench) → q ≡ program_of net n
+    → IsLeastOf q b → ends.EndsLeast net n (basis b.rows) (table b.rows) b.d b.ys
 ends_least net n q b e h =
     let k : IsLeastOf (program_of net n) b = subst (λ (p : Program). IsLeastOf p b) e h in
     let on = k.feasible.on_path in
-    record { on_path = record { pivots = on.pivots; reached = on.reached; is_tableau = on.is_tableau }; feasible = k.feasible.feasible; are = k.are }
+    record {
+      on_path =
+          record { pivots = on.pivots; reached = on.reached; is_tableau = on.is_tableau };
+      feasible =
+          k.feasible.feasible;
+      are = k.are;
+    }
 
-ends_none : (net : Net) (n : Node) (b : Bench) (k : IsNoneOf (program_of net n) b) → ends.EndsNone net n (basis b.rows) (table b.rows) k.place b.ys
+ends_none : (net : Net) (n : Node) (b : Bench) (k : IsNoneOf (program_of net n) b)
+    → ends.EndsNone net n (basis b.rows) (table b.rows) k.place b.ys
 ends_none net n b k =
     let on = k.refuting.on_path in
-    record { on_path = record { pivots = on.pivots; reached = on.reached; is_tableau = on.is_tableau }; refuting = k.refuting.refuting; are = k.are }
+    record {
+      on_path =
+          record { pivots = on.pivots; reached = on.reached; is_tableau = on.is_tableau };
+      refuting =
+          k.refuting.refuting;
+      are = k.are;
+    }
 
 pub scale_is_positive : ScaleIsPositive
-scale_is_positive p v n q b e h = law.scale_is_positive p v n (basis b.rows) (table b.rows) b.d b.ys (ends_least (net_of p) n q b e h)
+scale_is_positive p v n q b e h =
+    law.scale_is_positive p v n (basis b.rows) (table b.rows) b.d b.ys
+    (ends_least (net_of p) n q b e h)
 
 pub bound_is_reached : BoundIsReached
-bound_is_reached p v n q b e h = law.bound_is_reached p v n (basis b.rows) (table b.rows) b.d b.ys (ends_least (net_of p) n q b e h)
+bound_is_reached p v n q b e h =
+    law.bound_is_reached p v n (basis b.rows) (table b.rows) b.d b.ys
+    (ends_least (net_of p) n q b e h)
 
 pub bound_is_least : BoundIsLeast
-bound_is_least p v n q b e h = law.bound_is_least p v n (basis b.rows) (table b.rows) b.d b.ys (ends_least (net_of p) n q b e h)
+bound_is_least p v n q b e h =
+    law.bound_is_least p v n (basis b.rows) (table b.rows) b.d b.ys
+    (ends_least (net_of p) n q b e h)
 
 pub none_is_refuted : NoneIsRefuted
 none_is_refuted p v n q b e h =
@@ -36,10 +57,15 @@ none_is_refuted p v n q b e h =
     law.row_refutes p v n (basis b.rows) (table b.rows) k.place b.ys (ends_none (net_of p) n b k)
 
 pub feasible_is_last : FeasibleIsLast
-feasible_is_last p r h = (path.feasible_last p h.on_path.pivots (basis r) h.on_path.reached (table r) h.on_path.is_tableau h.feasible).0
+feasible_is_last p r h =
+    (path.feasible_last p h.on_path.pivots (basis r) h.on_path.reached (table r)
+    h.on_path.is_tableau h.feasible).0
 
 pub refuting_is_last : RefutingIsLast
-refuting_is_last p r row h = (path.refuting_last p h.on_path.pivots (basis r) h.on_path.reached (table r) h.on_path.is_tableau row h.refuting).0
+refuting_is_last p r row h =
+    (path.refuting_last p h.on_path.pivots (basis r) h.on_path.reached (table r)
+    h.on_path.is_tableau row h.refuting).0
 
 pub past_is_last : PastIsLast
-past_is_last p r l e row j which h = path.past_last p h.pivots (basis r) h.reached h.tableau h.is_tableau l e row j which h.past
+past_is_last p r l e row j which h =
+    path.past_last p h.pivots (basis r) h.reached h.tableau h.is_tableau l e row j which h.past

@@ -33,12 +33,18 @@ digit_most m a b h =
     let y : a * (m * m) / b ≤ 2 * m * (m * m) = div-le_of_le-mul b (omega (arith, x)) in
     omega arith
 
-is_lifted : (m : ℕ) (t d : ℤ) → pos 0 <ℤ d → pos 0 ≤ℤ (t +ℤ pos m) → t +ℤ pos m *ℤ pos (unsigned_abs d) ≡ pos (unsigned_abs (t +ℤ pos m *ℤ d))
+is_lifted : (m : ℕ) (t d : ℤ) → pos 0 <ℤ d → pos 0 ≤ℤ (t +ℤ pos m)
+    → t +ℤ pos m *ℤ pos (unsigned_abs d) ≡ pos (unsigned_abs (t +ℤ pos m *ℤ d))
 is_lifted m t d p h =
     let e = abs_of d (omega (arith, ints)) in
     ap (λ x. t +ℤ pos m *ℤ x) e ∙ sym (abs_of (t +ℤ pos m *ℤ d) (at_least m t d p h))
 
-pub rank_below : (m n : ℕ) (top bottom : ℕ → ℤ) → IsWithin m n top bottom → rank m n top bottom < power (2 * m * (m * m) + 1) n
+pub rank_below : (m n : ℕ) (top bottom : ℕ → ℤ) → IsWithin m n top bottom
+    → rank m n top bottom < power (2 * m * (m * m) + 1) n
 rank_below m n t d w =
-    number_below (2 * m * (m * m) + 1) n (λ q. digit m (unsigned_abs (t q +ℤ pos m *ℤ d q)) (unsigned_abs (d q)))
-    (λ q h. digit_most m (unsigned_abs (t q +ℤ pos m *ℤ d q)) (unsigned_abs (d q)) (at_most m (unsigned_abs (t q +ℤ pos m *ℤ d q)) (unsigned_abs (d q)) (t q) (abs_pos (d q) (w.positive q h)) (w.top_most q h) (is_lifted m (t q) (d q) (w.positive q h) (w.top_least q h))))
+    number_below (2 * m * (m * m) + 1) n
+    (λ q. digit m (unsigned_abs (t q +ℤ pos m *ℤ d q)) (unsigned_abs (d q)))
+    (λ q h. digit_most m (unsigned_abs (t q +ℤ pos m *ℤ d q)) (unsigned_abs (d q))
+    (at_most m (unsigned_abs (t q +ℤ pos m *ℤ d q)) (unsigned_abs (d q)) (t q)
+    (abs_pos (d q) (w.positive q h)) (w.top_most q h)
+    (is_lifted m (t q) (d q) (w.positive q h) (w.top_least q h))))

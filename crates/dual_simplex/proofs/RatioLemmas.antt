@@ -19,18 +19,27 @@ crossed_back : (g h m d : ℤ) → (g *ℤ h) *ℤ (m *ℤ d) ≡ (g *ℤ d) *�
 crossed_back g h m d = ring ((V g ⊗ V h) ⊗ (V m ⊗ V d)) ((V g ⊗ V d) ⊗ (V h ⊗ V m)) (omega arith)
 
 -- fractions compare as their lowest terms do
-pub compared_lowest : (x a y b n d m e : ℤ) → pos 0 <ℤ a → pos 0 <ℤ b → IsLowest x a n d → IsLowest y b m e → int_cmp (n *ℤ e) (m *ℤ d) ≡ int_cmp (b *ℤ x) (a *ℤ y)
+pub compared_lowest : (x a y b n d m e : ℤ) → pos 0 <ℤ a → pos 0 <ℤ b → IsLowest x a n d
+    → IsLowest y b m e → int_cmp (n *ℤ e) (m *ℤ d) ≡ int_cmp (b *ℤ x) (a *ℤ y)
 compared_lowest x a y b n d m e pa pb l k =
     let g = pos l.common in
     let h = pos k.common in
     let p : pos 0 <ℤ (g *ℤ h) = mul_pos g h (common_positive pa l) (common_positive pb k) in
-    let left : (g *ℤ h) *ℤ (n *ℤ e) ≡ b *ℤ x = crossed g h n e ∙ (ap (λ (z : ℤ). z *ℤ (g *ℤ n)) (sym k.y-is) ∙ ap (λ (z : ℤ). b *ℤ z) (sym l.x-is)) in
-    let right : (g *ℤ h) *ℤ (m *ℤ d) ≡ a *ℤ y = crossed_back g h m d ∙ (ap (λ (z : ℤ). z *ℤ (h *ℤ m)) (sym l.y-is) ∙ ap (λ (z : ℤ). a *ℤ z) (sym k.x-is)) in
-    sym (int_cmp-mul (g *ℤ h) (n *ℤ e) (m *ℤ d) p) ∙ (ap (λ (z : ℤ). int_cmp z ((g *ℤ h) *ℤ (m *ℤ d))) left ∙ ap (λ (z : ℤ). int_cmp (b *ℤ x) z) right)
+    let left : (g *ℤ h) *ℤ (n *ℤ e) ≡ b *ℤ x =
+    crossed g h n e
+    ∙ (ap (λ (z : ℤ). z *ℤ (g *ℤ n)) (sym k.y-is) ∙ ap (λ (z : ℤ). b *ℤ z) (sym l.x-is)) in
+    let right : (g *ℤ h) *ℤ (m *ℤ d) ≡ a *ℤ y =
+    crossed_back g h m d
+    ∙ (ap (λ (z : ℤ). z *ℤ (h *ℤ m)) (sym l.y-is) ∙ ap (λ (z : ℤ). a *ℤ z) (sym k.x-is)) in
+    sym (int_cmp-mul (g *ℤ h) (n *ℤ e) (m *ℤ d) p)
+    ∙ (ap (λ (z : ℤ). int_cmp z ((g *ℤ h) *ℤ (m *ℤ d))) left
+    ∙ ap (λ (z : ℤ). int_cmp (b *ℤ x) z) right)
 
--- at the place behind that of a column of the basis: minus the entry of its row
-pub vector_basic : (r : Rows) (j k place : ℕ) → suc k ≡ place → basis r k ≡ true → neg_ℤ (table r k j) ≡ vector r j place
-vector_basic r j k place e h = sym (gain-basic (basis r) (table r) (scale_of r) j k h) ∙ ap (λ (q : ℕ). vector r j q) e
+-- at the place after that of a column of the basis: minus the entry of its row
+pub vector_basic : (r : Rows) (j k place : ℕ) → suc k ≡ place → basis r k ≡ true
+    → neg_ℤ (table r k j) ≡ vector r j place
+vector_basic r j k place e h = sym (gain-basic (basis r) (table r) (scale_of r) j k h)
+    ∙ ap (λ (q : ℕ). vector r j q) e
 
 -- what is neither less nor greater is level
 pub level : (x y : ℤ) → Equal ≡ int_cmp x y → x ≡ y

@@ -1,5 +1,6 @@
 -- Each basis has values and common denominators.
-use Rattle.std.proofs.Common.{◌≡◌, ℕ, zero, suc, ◌%◌, ◌≤◌, ◌⊎◌, inl, inr, Bool, true, false, ℤ, pos, ◌*ℤ◌, ◌≤ℤ◌, ◌<ℤ◌, refl, sym, ◌∙◌, subst, arith}
+use Rattle.std.proofs.Common.{◌≡◌, ℕ, zero, suc, ◌%◌, ◌≤◌, ◌⊎◌, inl, inr, Bool, true, false, ℤ, pos}
+use Rattle.std.proofs.Common.{◌*ℤ◌, ◌≤ℤ◌, ◌<ℤ◌, refl, sym, ◌∙◌, subst, arith}
 use Rattle.std.specs.Prelude.{unsigned_abs, int_div}
 use Rattle.std.specs.Int.{IsGcd}
 use Rattle.std.proofs.lemmas.Int.{ints}
@@ -37,7 +38,15 @@ lowest_exists x y h =
     record {
       first = int_div x (pos r.0);
       second = int_div y (pos r.0);
-      is = record { common = r.0; is_gcd = r.1; x-is = sym (quotient_exact x (pos r.0) g r.1.0); y-is = sym (quotient_exact y (pos r.0) g r.1.1) };
+      is =
+          record {
+            common = r.0;
+            is_gcd = r.1;
+            x-is =
+                sym (quotient_exact x (pos r.0) g r.1.0);
+            y-is =
+                sym (quotient_exact y (pos r.0) g r.1.1);
+          };
     }
 
 record HasLcm (a b : ℕ) : Type 0 where
@@ -45,19 +54,34 @@ record HasLcm (a b : ℕ) : Type 0 where
   is : IsLcm a b multiple
 
 lcm_exists : (a b : ℕ) → HasLcm a b
-lcm_exists zero b = record { multiple = 0; is = record { left = dvd_refl 0; right = dvd-zero b; least = λ c h k. h } }
-lcm_exists (suc a) zero = record { multiple = 0; is = record { left = dvd-zero (suc a); right = dvd_refl 0; least = λ c h k. k } }
+lcm_exists zero b =
+    record {
+      multiple = 0;
+      is =
+          record { left = dvd_refl 0; right = dvd-zero b; least = λ c h k. h };
+    }
+lcm_exists (suc a) zero =
+    record {
+      multiple = 0;
+      is =
+          record { left = dvd-zero (suc a); right = dvd_refl 0; least = λ c h k. k };
+    }
 lcm_exists (suc a) (suc b) =
     let h : pos 0 <ℤ pos (suc b) = omega (arith, ints) in
     let low = lowest_exists (pos (suc a)) (pos (suc b)) h in
-    record { multiple = unsigned_abs (pos (suc a) *ℤ low.second); is = lcm_is (pos (suc a)) (pos (suc b)) low.first low.second h low.is }
+    record {
+      multiple = unsigned_abs (pos (suc a) *ℤ low.second);
+      is =
+          lcm_is (pos (suc a)) (pos (suc b)) low.first low.second h low.is;
+    }
 
 -- ---- the values of a basis
 
 record ValueAt (r : Rows) (i : ℕ) : Type 0 where
   right : ℤ
   own : ℤ
-  basic : basis r i ≡ true → pos 0 <ℤ table r i i → IsLowest (table r i (columns_of r)) (table r i i) right own
+  basic : basis r i ≡ true → pos 0 <ℤ table r i i
+      → IsLowest (table r i (columns_of r)) (table r i i) right own
   outside : basis r i ≡ false → (right ≡ pos 0) × (own ≡ pos 1)
 
 not_positive : (z : ℤ) → z ≤ℤ pos 0 → pos 0 <ℤ z → ⊥
@@ -73,15 +97,37 @@ bool_cases false = inr refl
 value_at : (r : Rows) (i : ℕ) → ValueAt r i
 value_at r i = elim (bool_cases (basis r i)) [
   | inl e ↦ elim (sign_cases (table r i i)) [
-    | inl positive ↦ let low = lowest_exists (table r i (columns_of r)) (table r i i) positive in record { right = low.first; own = low.second; basic = λ _ _. low.is; outside = λ f. absurd (differ e f) }
-    | inr least ↦ record { right = pos 0; own = pos 1; basic = λ _ h. absurd (not_positive (table r i i) least h); outside = λ f. (refl, refl) }
+    | inl positive ↦ let low = lowest_exists (table r i (columns_of r)) (table r i i) positive in
+        record {
+          right = low.first;
+          own = low.second;
+          basic = λ _ _. low.is;
+          outside =
+              λ f. absurd (differ e f);
+        }
+    | inr least
+        ↦ record {
+          right = pos 0;
+          own = pos 1;
+          basic =
+              λ _ h. absurd (not_positive (table r i i) least h);
+          outside = λ f. (refl, refl);
+        }
   ]
-  | inr e ↦ record { right = pos 0; own = pos 1; basic = λ h _. absurd (differ h e); outside = λ f. (refl, refl) }
+  | inr e
+      ↦ record {
+        right = pos 0;
+        own = pos 1;
+        basic = λ h _. absurd (differ h e);
+        outside =
+            λ f. (refl, refl);
+      }
 ]
 
 denominator : Rows → ℕ → ℤ
 denominator r zero = pos 1
-denominator r (suc i) = pos ((lcm_exists (unsigned_abs (denominator r i)) (unsigned_abs ((value_at r i).own))).multiple)
+denominator r (suc i) =
+    pos ((lcm_exists (unsigned_abs (denominator r i)) (unsigned_abs ((value_at r i).own))).multiple)
 
 first_denominator : (r : Rows) → denominator r 0 ≡ pos 1
 unfolding denominator
@@ -91,9 +137,12 @@ not_negative : (r : Rows) (i : ℕ) → pos 0 ≤ℤ denominator r (suc i)
 unfolding denominator
 not_negative r i = omega (arith, ints)
 
-next_denominator : (r : Rows) (i : ℕ) → IsLcm (unsigned_abs (denominator r i)) (unsigned_abs ((value_at r i).own)) (unsigned_abs (denominator r (suc i)))
+next_denominator : (r : Rows) (i : ℕ)
+    → IsLcm (unsigned_abs (denominator r i)) (unsigned_abs ((value_at r i).own))
+    (unsigned_abs (denominator r (suc i)))
 unfolding denominator
-next_denominator r i = (lcm_exists (unsigned_abs (denominator r i)) (unsigned_abs ((value_at r i).own))).is
+next_denominator r i =
+    (lcm_exists (unsigned_abs (denominator r i)) (unsigned_abs ((value_at r i).own))).is
 
 pub reading_of : (p : LinearProgram) (r : Rows) → IsOfSize p r → IsOwnPositive r → Reading p r
 reading_of p r s h = record {
@@ -102,7 +151,11 @@ reading_of p r s h = record {
   right = λ i. (value_at r i).right;
   den = denominator r;
   values = record {
-    basic = λ i below b. subst (λ (k : ℕ). IsLowest (table r i k) (table r i i) ((value_at r i).right) ((value_at r i).own)) (sym (right_same p r s)) ((value_at r i).basic b (h i (omega (arith, s.units)) b));
+    basic =
+        λ i below b. subst
+        (λ (k : ℕ). IsLowest (table r i k) (table r i i) ((value_at r i).right)
+        ((value_at r i).own)) (sym (right_same p r s))
+        ((value_at r i).basic b (h i (omega (arith, s.units)) b));
     outside-right = λ i below b. ((value_at r i).outside b).0;
     outside-own = λ i below b. ((value_at r i).outside b).1;
     first = first_denominator r;
@@ -113,7 +166,19 @@ reading_of p r s h = record {
 
 -- a program of the size of the rows
 plain : Rows → LinearProgram
-plain r = record { units = r.units; rows = r.rows; rate = λ j i. pos 0; low = λ i. pos 0; high = λ i. pos 0; cost = λ i. pos 0; fixed = pos 0; floor = λ j. pos 0; ceiling = λ j. pos 0 }
+plain r =
+    record {
+      units = r.units;
+      rows = r.rows;
+      rate = λ j i. pos 0;
+      low = λ i. pos 0;
+      high =
+          λ i. pos 0;
+      cost = λ i. pos 0;
+      fixed = pos 0;
+      floor = λ j. pos 0;
+      ceiling = λ j. pos 0;
+    }
 
 pub some_reading : (r : Rows) → IsOwnPositive r → (p : LinearProgram) × Reading p r
 unfolding plain

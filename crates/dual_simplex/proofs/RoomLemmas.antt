@@ -7,8 +7,10 @@ use Rattle.dual_simplex.specs.Sizes.{IsSize}
 use Rattle.dual_simplex.specs.Bench.{HasLists}
 
 -- lists of the same lengths are the room that there was
-pub room_stays : (old new : Rows) {nonbasic columns ys flows nonbasic' columns' ys' : ℕ} {sizes sizes' : List ℤ} → HasLists old nonbasic columns ys flows sizes → IsSameRoom old new
-    → columns' ≡ columns → nonbasic' ≤ columns → ys' ≡ ys → length sizes' ≡ length sizes → All IsSize sizes' → HasLists new nonbasic' columns' ys' flows sizes'
+pub room_stays : (old new : Rows) {nonbasic columns ys flows nonbasic' columns' ys' : ℕ}
+    {sizes sizes' : List ℤ} → HasLists old nonbasic columns ys flows sizes → IsSameRoom old new
+    → columns' ≡ columns → nonbasic' ≤ columns → ys' ≡ ys → length sizes' ≡ length sizes
+    → All IsSize sizes' → HasLists new nonbasic' columns' ys' flows sizes'
 room_stays old new h same c n y s all =
     let units = same.most_units in
     let rows = same.most_rows in

@@ -16,10 +16,24 @@ module _ (p : LinearProgram) (b c : Basis) (T : ℕ → ℕ → ℤ) (same : (k 
   same_tableau : IsTableau p c T → IsTableau p b T
   same_tableau t k h =
       let r = t k (sym (same k) ∙ h) in
-      record { combination = r.combination; own = r.own; others = λ i g ne. r.others i (sym (same i) ∙ g) ne; primitive = r.primitive }
+      record {
+        combination = r.combination;
+        own = r.own;
+        others =
+            λ i g ne. r.others i (sym (same i) ∙ g) ne;
+        primitive = r.primitive;
+      }
 
   same_out : (i : ℕ) → IsOut p c T i → IsOut p b T i
-  same_out i o = record { free = same (x_at p i) ∙ o.free; basic = same (s_at p i) ∙ o.basic; row = o.row; cost_x = o.cost_x; cost_s = o.cost_s }
+  same_out i o =
+      record {
+        free = same (x_at p i) ∙ o.free;
+        basic = same (s_at p i) ∙ o.basic;
+        row =
+            o.row;
+        cost_x = o.cost_x;
+        cost_s = o.cost_s;
+      }
 
   same_phase : IsFirstPhase p c T 0 → IsFirstPhase p b T 0
   same_phase f = record {
@@ -30,8 +44,16 @@ module _ (p : LinearProgram) (b c : Basis) (T : ℕ → ℕ → ℤ) (same : (k 
     scale_own = f.scale_own;
   }
 
-pub starts : (p : LinearProgram) (r : Rows) → IsOfSize p r → IsStart p (table r) → ((k : ℕ) → basis r k ≡ start p k) → IsInFirst p r 0
+pub starts : (p : LinearProgram) (r : Rows) → IsOfSize p r → IsStart p (table r)
+    → ((k : ℕ) → basis r k ≡ start p k) → IsInFirst p r 0
 starts p r size s same = record {
-  on_path = record { size = size; pivots = 0; reached = same; is_tableau = same_tableau p (basis r) (start p) (table r) same (start_is_tableau p (table r) s) };
+  on_path =
+      record {
+        size = size;
+        pivots = 0;
+        reached = same;
+        is_tableau =
+            same_tableau p (basis r) (start p) (table r) same (start_is_tableau p (table r) s);
+      };
   phase = same_phase p (basis r) (start p) (table r) same (start_is_first_phase p (table r) s);
 }

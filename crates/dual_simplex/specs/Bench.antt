@@ -25,8 +25,8 @@ pub record Bench : Type 0 where
   pub flows : List ℤ
   pub flow_den : ℤ
 
--- how many numbers a bench has room for: the columns, of which some are not in the basis, the multipliers, the flows and the
--- rounded sizes of the greatest program
+-- how many numbers a bench has room for: the columns, of which some are not in the basis, the
+-- multipliers, the flows and the rounded sizes of the greatest program
 pub record HasLists (r : Rows) (nonbasic columns ys flows : ℕ) (sizes : List ℤ) : Type 0 where
   pub nonbasic_fit : nonbasic ≤ columns
   pub columns_room : columns ≡ r.most_units + r.most_units + r.most_rows + r.most_rows
@@ -40,7 +40,8 @@ pub record HasRoom (b : Bench) (units rows : ℕ) : Type 0 where
   pub units_fit : units ≤ b.rows.most_units
   pub rows_fit : rows ≤ b.rows.most_rows
 
--- the bench keeps the last basis of the path of the program, which gives least flows, and the multipliers of its cost row
+-- the bench keeps the last basis of the path of the program, which gives least flows, and the
+-- multipliers of its cost row
 pub record IsLeastOf (q : Program) (b : Bench) : Type 0 where
   pub feasible : EndsFeasible (linear_of q) b.rows
   pub nonbasic_are : b.nonbasic ≡ nonbasic_named q (basis b.rows)

@@ -14,6 +14,6 @@ columns_of r = r.units + r.units + r.rows + r.rows
 abbrev pub scale_of : Rows → ℕ
 scale_of r = suc (columns_of r)
 
--- no entry of the cost row at a column is below 0, so that no pivot of the first kind is left
+-- no entry of the cost row at a column is below 0, so no pivot of the first kind is left
 abbrev pub IsDualFeasible : Rows → Type 0
 IsDualFeasible r = (k : ℕ) → k < columns_of r → pos 0 ≤ℤ table r (scale_of r) k

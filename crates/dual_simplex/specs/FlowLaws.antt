@@ -1,5 +1,5 @@
--- What the flows that a bench keeps mean for the node of a problem whose program it was given. Each of these laws is the contract
--- of a public function of this crate.
+-- What the flows that a bench keeps mean for the node of a problem whose program it was given. Each
+-- law is the contract of a public function of this crate.
 use Rattle.std.specs.Prelude.{◌≡◌, ◌*ℤ◌}
 use Rattle.problem_rules.specs.Problem.{Problem}
 use Rattle.problem_rules.specs.Validity.{IsValid}
@@ -15,16 +15,19 @@ use Rattle.dual_simplex.specs.Bench.{Bench, IsLeastOf, AreFlowsOf}
 -- they are relaxed flows
 abbrev pub FlowsAreRelaxed : Type 0
 FlowsAreRelaxed =
-    (p : Problem) → IsValid p → (n : Node) (q : Program) (b : Bench) → q ≡ program_of (net_of p) n → IsLeastOf q b → AreFlowsOf q b
+    (p : Problem) → IsValid p → (n : Node) (q : Program) (b : Bench) → q ≡ program_of (net_of p) n
+    → IsLeastOf q b → AreFlowsOf q b
     → IsRelaxed (net_of p) n (beside (units (net_of p) n) b.flows) b.flow_den
 
--- whose cost is the bound of the multipliers
+-- their cost is the bound of the multipliers
 abbrev pub FlowsAreLeast : Type 0
 FlowsAreLeast =
-    (p : Problem) → IsValid p → (n : Node) (q : Program) (b : Bench) → q ≡ program_of (net_of p) n → IsLeastOf q b → AreFlowsOf q b
-    → b.flow_den *ℤ bound (net_of p) n b.d (beside (rows (net_of p) n) b.ys) ≡ b.d *ℤ relaxed_cost (net_of p) n (beside (units (net_of p) n) b.flows) b.flow_den
+    (p : Problem) → IsValid p → (n : Node) (q : Program) (b : Bench) → q ≡ program_of (net_of p) n
+    → IsLeastOf q b → AreFlowsOf q b
+    → b.flow_den *ℤ bound (net_of p) n b.d (beside (rows (net_of p) n) b.ys)
+    ≡ b.d *ℤ relaxed_cost (net_of p) n (beside (units (net_of p) n) b.flows) b.flow_den
 
--- ---- where each unit is either taken in or left out
+-- ---- if each unit is either taken in or left out
 
 -- the units of the program are those that are taken in
 abbrev pub UnitsAreInside : Type 0
@@ -36,11 +39,14 @@ SplitIsDecided = (net : Net) (n : Node) → IsSplit net n → IsDecided net n
 -- the flows are flows for the units that are taken in
 abbrev pub SplitFlowsAreFlows : Type 0
 SplitFlowsAreFlows =
-    (p : Problem) → IsValid p → (n : Node) (q : Program) (b : Bench) → IsSplit (net_of p) n → q ≡ program_of (net_of p) n → IsLeastOf q b → AreFlowsOf q b
+    (p : Problem) → IsValid p → (n : Node) (q : Program) (b : Bench) → IsSplit (net_of p) n
+    → q ≡ program_of (net_of p) n → IsLeastOf q b → AreFlowsOf q b
     → IsFlows (net_of p) n.inside (beside (units (net_of p) n) b.flows) b.flow_den
 
 -- and the bound is their cost
 abbrev pub SplitFlowsAreLeast : Type 0
 SplitFlowsAreLeast =
-    (p : Problem) → IsValid p → (n : Node) (q : Program) (b : Bench) → IsSplit (net_of p) n → q ≡ program_of (net_of p) n → IsLeastOf q b → AreFlowsOf q b
-    → b.flow_den *ℤ bound (net_of p) n b.d (beside (rows (net_of p) n) b.ys) ≡ b.d *ℤ cost (net_of p) n.inside (beside (units (net_of p) n) b.flows) b.flow_den
+    (p : Problem) → IsValid p → (n : Node) (q : Program) (b : Bench) → IsSplit (net_of p) n
+    → q ≡ program_of (net_of p) n → IsLeastOf q b → AreFlowsOf q b
+    → b.flow_den *ℤ bound (net_of p) n b.d (beside (rows (net_of p) n) b.ys)
+    ≡ b.d *ℤ cost (net_of p) n.inside (beside (units (net_of p) n) b.flows) b.flow_den

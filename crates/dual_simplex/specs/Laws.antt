@@ -1,5 +1,6 @@
--- What the answers of a bench mean for the node of a problem whose program it was given. Each of these laws is the contract of a
--- public function of this crate. Costs and bounds over different denominators are compared by cross products.
+-- What the answers of a bench mean for the node of a problem whose program it was given. Each law
+-- is the contract of a public function of this crate. Costs and bounds over different denominators
+-- are compared by cross products.
 use Rattle.std.specs.Prelude.{◌≡◌, ℕ, ℤ, pos, ◌*ℤ◌, ◌≤ℤ◌}
 use Rattle.problem_rules.specs.Problem.{Problem}
 use Rattle.problem_rules.specs.Validity.{IsValid}
@@ -16,24 +17,32 @@ use Rattle.dual_simplex.specs.Bench.{Bench, IsLeastOf, IsNoneOf}
 
 -- the scale of the multipliers is at least 1
 abbrev pub ScaleIsPositive : Type 0
-ScaleIsPositive = (p : Problem) → IsValid p → (n : Node) (q : Program) (b : Bench) → q ≡ program_of (net_of p) n → IsLeastOf q b → pos 1 ≤ℤ b.d
+ScaleIsPositive = (p : Problem) → IsValid p → (n : Node) (q : Program) (b : Bench)
+    → q ≡ program_of (net_of p) n → IsLeastOf q b → pos 1 ≤ℤ b.d
 
 -- their bound, over the scale, is the cost of some relaxed flows
 abbrev pub BoundIsReached : Type 0
 BoundIsReached =
-    (p : Problem) → IsValid p → (n : Node) (q : Program) (b : Bench) → q ≡ program_of (net_of p) n → IsLeastOf q b
-    → (z : ℕ → ℤ) × (e : ℤ) × IsRelaxed (net_of p) n z e × (e *ℤ bound (net_of p) n b.d (beside (rows (net_of p) n) b.ys) ≡ b.d *ℤ relaxed_cost (net_of p) n z e)
+    (p : Problem) → IsValid p → (n : Node) (q : Program) (b : Bench) → q ≡ program_of (net_of p) n
+    → IsLeastOf q b
+    → (z : ℕ → ℤ) × (e : ℤ) × IsRelaxed (net_of p) n z e
+    × (e *ℤ bound (net_of p) n b.d (beside (rows (net_of p) n) b.ys)
+    ≡ b.d *ℤ relaxed_cost (net_of p) n z e)
 
 -- and at most that of all
 abbrev pub BoundIsLeast : Type 0
 BoundIsLeast =
-    (p : Problem) → IsValid p → (n : Node) (q : Program) (b : Bench) → q ≡ program_of (net_of p) n → IsLeastOf q b
-    → (z : ℕ → ℤ) (e : ℤ) → IsRelaxed (net_of p) n z e → (e *ℤ bound (net_of p) n b.d (beside (rows (net_of p) n) b.ys)) ≤ℤ (b.d *ℤ relaxed_cost (net_of p) n z e)
+    (p : Problem) → IsValid p → (n : Node) (q : Program) (b : Bench) → q ≡ program_of (net_of p) n
+    → IsLeastOf q b
+    → (z : ℕ → ℤ) (e : ℤ) → IsRelaxed (net_of p) n z e
+    → (e *ℤ bound (net_of p) n b.d (beside (rows (net_of p) n) b.ys))
+    ≤ℤ (b.d *ℤ relaxed_cost (net_of p) n z e)
 
 -- the multipliers of a row that can't be met refute the node
 abbrev pub NoneIsRefuted : Type 0
 NoneIsRefuted =
-    (p : Problem) → IsValid p → (n : Node) (q : Program) (b : Bench) → q ≡ program_of (net_of p) n → IsNoneOf q b → Refutes (net_of p) n (beside (rows (net_of p) n) b.ys)
+    (p : Problem) → IsValid p → (n : Node) (q : Program) (b : Bench) → q ≡ program_of (net_of p) n
+    → IsNoneOf q b → Refutes (net_of p) n (beside (rows (net_of p) n) b.ys)
 
 -- ---- whatever it answers, the basis that is kept is the last of the path
 
@@ -41,7 +50,9 @@ abbrev pub FeasibleIsLast : Type 0
 FeasibleIsLast = (p : LinearProgram) (r : Rows) → EndsFeasible p r → IsLast p (basis r)
 
 abbrev pub RefutingIsLast : Type 0
-RefutingIsLast = (p : LinearProgram) (r : Rows) (row : ℕ) → EndsRefuting p r row → IsLast p (basis r)
+RefutingIsLast = (p : LinearProgram) (r : Rows) (row : ℕ) → EndsRefuting p r row
+    → IsLast p (basis r)
 
 abbrev pub PastIsLast : Type 0
-PastIsLast = (p : LinearProgram) (r : Rows) (leaves enters row j : ℕ) (which : Which) → EndsPast p r leaves enters row j which → IsLast p (basis r)
+PastIsLast = (p : LinearProgram) (r : Rows) (leaves enters row j : ℕ) (which : Which)
+    → EndsPast p r leaves enters row j which → IsLast p (basis r)

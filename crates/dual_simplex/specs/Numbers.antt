@@ -3,7 +3,8 @@ use Rattle.std.specs.Prelude.{◌≡◌, ℕ, ◌<◌, List, length, slice_index
 use Rattle.flow_rules.specs.Program.{Program}
 
 abbrev pub IsTableOf : List ℕ → List ℕ → Type 0
-IsTableOf numbers table = (i : ℕ) → i < length numbers → slice_index_or table i 0 ≡ slice_index_or numbers i 0
+IsTableOf numbers table = (i : ℕ) → i < length numbers
+    → slice_index_or table i 0 ≡ slice_index_or numbers i 0
 
 pub record AreNumbers (q : Program) (units rows : List ℕ) : Type 0 where
   pub units_are : IsTableOf q.units units

@@ -1,5 +1,6 @@
--- What is past for the node whose program a bench was given: the places that the bench names, and those of the sums over what it
--- keeps. Each of these laws is the contract of a public function of this crate.
+-- What overflows for the node whose program a bench was given: the number at a place that the bench
+-- names, or a step of a sum over what it keeps. Each law is the contract of a public function of
+-- this crate.
 use Rattle.std.specs.Prelude.{◌≡◌, ℕ, pos}
 use Rattle.pns_rules.specs.Nodes.{Node}
 use Rattle.flow_rules.specs.declared.place.Place.{Place}
@@ -16,36 +17,44 @@ use Rattle.dual_simplex.specs.Bench.{Bench, IsLeastOf, IsNoneOf, AreFlowsOf}
 use Rattle.dual_simplex.specs.PastPlace.{IsPastOf, IsPastFlowOf}
 use Rattle.path_rules.specs.PastPlace.{IsPastNamed}
 
--- the place is past at the basis that is kept
+-- the number at the place overflows at the basis that is kept
 abbrev pub IsPastHere : Net → Node → Bench → Place → Type 0
 IsPastHere net n b place = IsPastNamed net n b.nonbasic place
 
 abbrev pub EntryIsPast : Type 0
-EntryIsPast = (net : Net) (n : Node) (q : Program) (b : Bench) (place : Place) → q ≡ program_of net n → IsPastOf q b place → IsPastHere net n b place
+EntryIsPast = (net : Net) (n : Node) (q : Program) (b : Bench) (place : Place)
+    → q ≡ program_of net n → IsPastOf q b place → IsPastHere net n b place
 
 abbrev pub FlowIsPast : Type 0
-FlowIsPast = (net : Net) (n : Node) (q : Program) (b : Bench) (place : Place) → q ≡ program_of net n → IsLeastOf q b → IsDecided net n → IsPastFlowOf q b place → IsPastHere net n b place
+FlowIsPast = (net : Net) (n : Node) (q : Program) (b : Bench) (place : Place) → q ≡ program_of net n
+    → IsLeastOf q b → IsDecided net n → IsPastFlowOf q b place → IsPastHere net n b place
 
 -- a step of the bound of the multipliers
 abbrev pub BoundIsPast : Type 0
 BoundIsPast =
     (net : Net) (n : Node) (q : Program) (b : Bench) (at : ℕ) → q ≡ program_of net n → IsLeastOf q b
-    → IsFirstPast (bound_steps net n b.d (beside (rows net n) b.ys)) at → IsPastHere net n b (places.Bound at)
+    → IsFirstPast (bound_steps net n b.d (beside (rows net n) b.ys)) at
+    → IsPastHere net n b (places.Bound at)
 
 -- a step of the bound of a refutation
 abbrev pub RefutationIsPast : Type 0
 RefutationIsPast =
     (net : Net) (n : Node) (q : Program) (b : Bench) (at : ℕ) → q ≡ program_of net n → IsNoneOf q b
-    → IsFirstPast (bound_steps net n (pos 0) (beside (rows net n) b.ys)) at → IsPastHere net n b (places.Refute b.row at)
+    → IsFirstPast (bound_steps net n (pos 0) (beside (rows net n) b.ys)) at
+    → IsPastHere net n b (places.Refute b.row at)
 
 -- a step of the cost of the flows
 abbrev pub CostIsPast : Type 0
 CostIsPast =
-    (net : Net) (n : Node) (q : Program) (b : Bench) (at : ℕ) → q ≡ program_of net n → IsLeastOf q b → AreFlowsOf q b → IsDecided net n
-    → IsFirstPast (cost_steps net n.inside (beside (units net n) b.flows) b.flow_den) at → IsPastHere net n b (places.Cost at)
+    (net : Net) (n : Node) (q : Program) (b : Bench) (at : ℕ) → q ≡ program_of net n → IsLeastOf q b
+    → AreFlowsOf q b → IsDecided net n
+    → IsFirstPast (cost_steps net n.inside (beside (units net n) b.flows) b.flow_den) at
+    → IsPastHere net n b (places.Cost at)
 
 -- a step of the judging of the flows
 abbrev pub BalanceIsPast : Type 0
 BalanceIsPast =
-    (net : Net) (n : Node) (q : Program) (b : Bench) (at : ℕ) → q ≡ program_of net n → IsLeastOf q b → AreFlowsOf q b → IsDecided net n
-    → IsFirstPast (feasible_steps net n.inside (beside (units net n) b.flows) b.flow_den) at → IsPastHere net n b (places.FlowSum at)
+    (net : Net) (n : Node) (q : Program) (b : Bench) (at : ℕ) → q ≡ program_of net n → IsLeastOf q b
+    → AreFlowsOf q b → IsDecided net n
+    → IsFirstPast (feasible_steps net n.inside (beside (units net n) b.flows) b.flow_den) at
+    → IsPastHere net n b (places.FlowSum at)

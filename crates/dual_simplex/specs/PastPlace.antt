@@ -1,4 +1,4 @@
--- The place that a bench names where a number leaves the range.
+-- The place that a bench names when a number leaves the range.
 use Rattle.std.specs.Prelude.{◌≡◌, ℕ, ◌<◌, length}
 use Rattle.integer_laws.specs.declared.which.Which.{Which}
 use Rattle.flow_rules.specs.declared.place.Place.{Place}
@@ -22,7 +22,7 @@ pub record IsPastOf (q : Program) (b : Bench) (place : Place) : Type 0 where
   pub nonbasic_are : b.nonbasic ≡ nonbasic_named q (basis b.rows)
   pub named : place ≡ place_named q (path.Entry leaves enters row column which)
 
--- a number is out of range as the flows of the basis that is kept are read
+-- a number is out of range when the flows of the basis that is kept are read
 pub record IsPastFlowOf (q : Program) (b : Bench) (place : Place) : Type 0 where
   pub unit : ℕ
   pub step : FlowStep

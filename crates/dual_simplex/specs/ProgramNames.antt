@@ -1,4 +1,5 @@
--- Names that stand for units and rows of a program: a unit's number is one of its units, a material's one of its rows.
+-- Names for units and rows of a program: a unit's number is one of its units, a material's one of
+-- its rows.
 use Rattle.std.specs.Prelude.{◌≡◌, ℕ, true, Option, Some, None}
 use Rattle.number_sets.specs.Sets.{has}
 use Rattle.problem_rules.specs.Each.{Each}
@@ -26,7 +27,8 @@ IsRowOf q None = Unit {0}
 IsRowOf q (Some column) = IsColumnOf q column
 
 abbrev pub IsPlaceOf : Program → Place → Type 0
-IsPlaceOf q (places.Entry leave enter row column which) = IsColumnOf q leave × IsColumnOf q enter × IsRowOf q row × IsColumnOf q column
+IsPlaceOf q (places.Entry leave enter row column which) =
+    IsColumnOf q leave × IsColumnOf q enter × IsRowOf q row × IsColumnOf q column
 IsPlaceOf q (places.Flow unit which) = has q.units unit ≡ true
 IsPlaceOf q (places.Cost at) = Unit {0}
 IsPlaceOf q (places.FlowSum at) = Unit {0}
@@ -46,7 +48,9 @@ abbrev pub RowIsOfProgram : Type 0
 RowIsOfProgram = (q : Program) (b : Bench) → IsNoneOf q b → IsColumnOf q b.row
 
 abbrev pub EntriesAreOfProgram : Type 0
-EntriesAreOfProgram = (q : Program) (b : Bench) (place : Place) → IsPastOf q b place → IsPlaceOf q place
+EntriesAreOfProgram = (q : Program) (b : Bench) (place : Place) → IsPastOf q b place
+    → IsPlaceOf q place
 
 abbrev pub FlowsAreOfProgram : Type 0
-FlowsAreOfProgram = (q : Program) (b : Bench) (place : Place) → IsPastFlowOf q b place → IsPlaceOf q place
+FlowsAreOfProgram = (q : Program) (b : Bench) (place : Place) → IsPastFlowOf q b place
+    → IsPlaceOf q place

@@ -24,7 +24,8 @@ formed_of {p} v f = formed p v.own v.right v.den f.unit f.step
 
 -- the numbers of one unit in the second round
 abbrev pub size_steps : ℕ → List Formed
-size_steps i = record { unit = i; step = Shift } ∷ record { unit = i; step = Scaled } ∷ record { unit = i; step = Total } ∷ []
+size_steps i = record { unit = i; step = Shift } ∷ record { unit = i; step = Scaled }
+    ∷ record { unit = i; step = Total } ∷ []
 
 -- the numbers of the second round
 abbrev pub second_round : Rows → List Formed

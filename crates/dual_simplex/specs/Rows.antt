@@ -1,6 +1,7 @@
--- The rows of a tableau, one behind the other in one list of numbers: row c is that of the basis column c. Rows of other
--- columns are there too, and what they are does not matter.
-use Rattle.std.specs.Prelude.{◌≡◌, ℕ, suc, ◌+◌, ◌*◌, ◌≤◌, Bool, false, ℤ, pos, List, length, slice_index_or}
+-- The rows of a tableau, one after the other in one list of numbers: row c is that of the basis
+-- column c. Rows of other columns are there too, and what they are does not matter.
+use Rattle.std.specs.Prelude.{◌≡◌, ℕ, suc, ◌+◌, ◌*◌, ◌≤◌, Bool, false, ℤ, pos, List, length}
+use Rattle.std.specs.Prelude.{slice_index_or}
 use Rattle.std.specs.List.{slice_range}
 use Rattle.integer_laws.specs.Range.{AllInRange}
 use Rattle.path_rules.specs.Columns.{Basis}
@@ -30,14 +31,14 @@ row_at w entries c = slice_range entries (c * w) (c * w + w)
 abbrev pub row_of : Rows → ℕ → List ℤ
 row_of r c = row_at (width r) r.entries c
 
--- the entry of a row at a column, 0 behind its end
+-- the entry of a row at a column; 0 after its end
 abbrev pub table : Rows → ℕ → ℕ → ℤ
 table r c k = slice_index_or (row_of r c) k (pos 0)
 
 abbrev pub basis : Rows → Basis
 basis r k = slice_index_or r.basic k false
 
--- what holds of all of them: there is room for each row and one more, and no entry is out of range
+-- all rows have this: there is room for each row and one more, and no entry is out of range
 pub record AreRows (r : Rows) : Type 0 where
   pub units_few : r.most_units ≤ 128
   pub rows_few : r.most_rows ≤ 256
@@ -46,5 +47,6 @@ pub record AreRows (r : Rows) : Type 0 where
   pub flags : width r ≤ length r.basic
   pub flags_room : length r.basic ≡ width_of r.most_units r.most_rows
   pub room : suc (width r) * width r ≤ length r.entries
-  pub entries_room : length r.entries ≡ suc (width_of r.most_units r.most_rows) * width_of r.most_units r.most_rows
+  pub entries_room : length r.entries ≡ suc (width_of r.most_units r.most_rows)
+      * width_of r.most_units r.most_rows
   pub in_range : AllInRange r.entries

@@ -1,4 +1,4 @@
--- Rows that hold the tableau of a basis of the path of a linear program.
+-- Rows with the tableau of a basis of the path of a linear program.
 use Rattle.std.specs.Prelude.{◌≡◌, ℕ, ℤ}
 use Rattle.integer_laws.specs.declared.which.Which.{Which}
 use Rattle.path_rules.specs.LinearProgram.{LinearProgram}
@@ -36,8 +36,9 @@ pub record EndsRefuting (p : LinearProgram) (r : Rows) (row : ℕ) : Type 0 wher
   pub on_path : IsOnPath p r
   pub refuting : IsRefuting p (basis r) (table r) row
 
--- at the pivot of the basis a number is out of range; the rows no longer hold the tableau
-pub record EndsPast (p : LinearProgram) (r : Rows) (leaves enters row j : ℕ) (which : Which) : Type 0 where
+-- at the pivot of the basis a number is out of range; the rows no longer have the tableau
+pub record EndsPast (p : LinearProgram) (r : Rows) (leaves enters row j : ℕ) (which : Which) : Type
+    0 where
   pub size : IsOfSize p r
   pub pivots : ℕ
   pub reached : Reaches p pivots (basis r)

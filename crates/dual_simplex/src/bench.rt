@@ -44,9 +44,20 @@ impl Model for Bench {
 
     ghost Value = { specs.Bench };
 
-    ghost view = { λ b. record { rows = b.rows; nonbasic = take b.nonbasic b.columns.items; d = b.d; ys = take b.rows.rows b.ys.items; row = b.row; flows = take b.rows.units b.flows.items; flow_den = b.flow_den } };
+    ghost view = { λ b. record {
+      rows = b.rows;
+      nonbasic = take b.nonbasic b.columns.items;
+      d =
+          b.d;
+      ys = take b.rows.rows b.ys.items;
+      row = b.row;
+      flows =
+          take b.rows.units b.flows.items;
+      flow_den = b.flow_den;
+    } };
 
-    ghost invariant = { λ b. specs.HasLists b.rows b.nonbasic (length b.columns.items) (length b.ys.items) (length b.flows.items) b.sizes.items };
+    ghost invariant = { λ b. specs.HasLists b.rows b.nonbasic (length b.columns.items)
+        (length b.ys.items) (length b.flows.items) b.sizes.items };
 }
 
 impl Bench {
@@ -76,8 +87,8 @@ impl Bench {
         })
     }
 
-    /// Walks the path of the program to its last basis, and keeps that. `Err` names the entry that is out of range at the pivot
-    /// of this basis.
+    /// Walks the path of the program to its last basis, and keeps that. `Err` names the entry that
+    /// is out of range at the pivot of this basis.
     pub fn least(&mut self, program: &Program) -> Result<Ends, Place>
         requires fits { HasRoom self.old (length program.now.units) (length program.now.rows) }
         ensures units { self.new.rows.most_units ≡ self.old.rows.most_units }
@@ -103,8 +114,9 @@ impl Bench {
         }
     }
 
-    /// Reads the flows of the last basis of a program, after `Least` for it, and keeps them. They are refused exactly where a
-    /// number that is formed for them is out of range: the refusal names the first, and leaves the bench as it was.
+    /// Reads the flows of the last basis of a program, after `Least` for it, and keeps them. They
+    /// are refused exactly if a number that is formed for them is out of range. The refusal names
+    /// the first, and leaves the bench as it was.
     pub fn read_flows(&mut self, program: &Program) -> Result<(), Place>
         requires least { IsLeastOf program.now self.old }
         ensures least { IsLeastOf program.now self.new }
@@ -140,7 +152,8 @@ impl Bench {
         &self.ys[..self.rows.rows()]
     }
 
-    /// The sizes of the units of the program at the basis that is kept, after `Least`, in whole millionths rounded down.
+    /// The sizes of the units of the program at the basis that is kept, after `Least`, in whole
+    /// millionths rounded down.
     pub fn sizes(&self) -> &[i64]
         ensures count { (q : Program) → IsLeastOf q self.now → length result.now ≡ length q.units }
         ensures range { All IsSize result.now }
@@ -149,7 +162,8 @@ impl Bench {
         &self.sizes[..self.rows.units()]
     }
 
-    /// The columns that are not in the basis that is kept, after any `least`, in the order of their places: x, s, t, w.
+    /// The columns that are not in the basis that is kept, after any `least`, in the order of their
+    /// places: x, s, t, w.
     pub fn nonbasic(&self) -> &[Column]
         ensures { result.now ≡ self.now.nonbasic }
     {

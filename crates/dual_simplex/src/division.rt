@@ -1,4 +1,4 @@
-// A number and a row behind it, divided by their greatest common divisor.
+// A number and a row after it, divided by their greatest common divisor.
 ghost use Rattle.std.specs.Prelude.{◌≡◌, ◌<ℤ◌, ◌*ℤ◌, pos, unsigned_abs, int_div, map, ◌∷◌};
 ghost use Rattle.std.specs.Int.{◌∣◌};
 ghost use Rattle.integer_laws.specs.Range.{InRange, AllInRange};

@@ -1,5 +1,6 @@
 // The multipliers of the rows of a program, and those by which a row refutes.
-ghost use Rattle.std.specs.Prelude.{◌≡◌, ◌<◌, ◌+◌, ℕ, pos, ◌-ℤ◌, ◌<ℤ◌, ◌≤ℤ◌, length, slice_index_or};
+ghost use Rattle.std.specs.Prelude.{◌≡◌, ◌<◌, ◌+◌, ℕ, pos, ◌-ℤ◌, ◌<ℤ◌, ◌≤ℤ◌, length};
+ghost use Rattle.std.specs.Prelude.{slice_index_or};
 ghost use Rattle.integer_laws.specs.Range.{InRange, AllInRange};
 ghost use Rattle.path_rules.specs.Columns.{scale_at};
 ghost use Rattle.path_rules.specs.LinearProgram.{LinearProgram};
@@ -39,7 +40,8 @@ fn put_multipliers(rows: &Rows, c: usize, ys: &mut [i128])
     requires row { c < width rows.now }
     requires room { length ys.old ≡ rows.now.rows }
     requires not_negative { IsNotNegative rows.now c }
-    ensures value { (j : ℕ) → j < rows.now.rows → slice_index_or ys.new j (pos 0) ≡ multiplier_of rows.now c j }
+    ensures value { (j : ℕ) → j < rows.now.rows
+        → slice_index_or ys.new j (pos 0) ≡ multiplier_of rows.now c j }
     ensures in_range { AllInRange ys.new }
 {
     for j in 0..ys.len() {
@@ -47,13 +49,15 @@ fn put_multipliers(rows: &Rows, c: usize, ys: &mut [i128])
     }
 }
 
-/// The scale and the multipliers of the cost row, divided by their greatest common divisor; the multipliers are put into `ys`.
-/// No number is refused: where no entry of the cost row is below 0, differences of two stay in range.
+/// The scale and the multipliers of the cost row, divided by their greatest common divisor. The
+/// multipliers are put into `ys`. No number is refused: if no entry of the cost row is below 0,
+/// differences of two stay in range.
 pub fn multipliers(rows: &Rows, ys: &mut [i128]) -> i128
     requires room { length ys.old ≡ rows.now.rows }
     requires costs { IsNotNegative rows.now (scale_of rows.now) }
     requires scale { pos 0 <ℤ table rows.now (scale_of rows.now) (scale_of rows.now) }
-    ensures are { (p : LinearProgram) → IsOfSize p rows.now → AreMultipliers p (table rows.now (scale_at p)) result ys.new }
+    ensures are { (p : LinearProgram) → IsOfSize p rows.now
+        → AreMultipliers p (table rows.now (scale_at p)) result ys.new }
     ensures positive { pos 0 <ℤ result }
     ensures scale_in_range { InRange result }
     ensures in_range { AllInRange ys.new }
@@ -63,13 +67,14 @@ pub fn multipliers(rows: &Rows, ys: &mut [i128]) -> i128
     reduce(rows.entry(scale, scale), ys)
 }
 
-/// The multipliers of a row with no entry below 0 at a column, divided by their greatest common divisor: where its right side
-/// is below 0 they refute. No number is refused.
+/// The multipliers of a row with no entry below 0 at a column, divided by their greatest common
+/// divisor. If its right side is below 0 they refute. No number is refused.
 pub fn refuting(rows: &Rows, l: usize, ys: &mut [i128])
     requires room { length ys.old ≡ rows.now.rows }
     requires row { l < columns_of rows.now }
     requires entries { IsNotNegative rows.now l }
-    ensures are { (p : LinearProgram) → IsOfSize p rows.now → AreRefuting p (table rows.now l) ys.new }
+    ensures are { (p : LinearProgram) → IsOfSize p rows.now
+        → AreRefuting p (table rows.now l) ys.new }
     ensures in_range { AllInRange ys.new }
 {
     put_multipliers(rows, l, ys);

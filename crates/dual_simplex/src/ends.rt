@@ -1,5 +1,7 @@
-//! What is read off the last basis of a path: multipliers and flows, or the multipliers of a refutation.
-ghost use Rattle.std.specs.Prelude.{◌≡◌, ◌<◌, ◌≤◌, ◌<ℤ◌, pos, length, take, IfOk, IfErr, OnOk, OnErr};
+//! What is read off the last basis of a path: multipliers and flows, or the multipliers of a
+//! refutation.
+ghost use Rattle.std.specs.Prelude.{◌≡◌, ◌<◌, ◌≤◌, ◌<ℤ◌, pos, length, take, IfOk, IfErr, OnOk};
+ghost use Rattle.std.specs.Prelude.{OnErr};
 ghost use Rattle.integer_laws.specs.Range.{InRange, AllInRange};
 ghost use Rattle.path_rules.specs.LinearProgram.{linear_of};
 ghost use Rattle.path_rules.specs.Columns.{scale_at};
@@ -20,7 +22,8 @@ pub(crate) fn read_multipliers(rows: &Rows, program: &Program, ys: &mut [i128]) 
     requires feasible { EndsFeasible (linear_of program.now) rows.now }
     requires room { rows.now.rows ≤ length ys.old }
     ensures length { length ys.new ≡ length ys.old }
-    ensures are { AreMultipliers (linear_of program.now) (table rows.now (scale_at (linear_of program.now))) result (take rows.now.rows ys.new) }
+    ensures are { AreMultipliers (linear_of program.now)
+        (table rows.now (scale_at (linear_of program.now))) result (take rows.now.rows ys.new) }
     ensures scale_in_range { InRange result }
     ensures in_range { AllInRange (take rows.now.rows ys.new) }
 {
@@ -33,7 +36,8 @@ pub(crate) fn read_refutation(rows: &Rows, program: &Program, row: usize, ys: &m
     requires refuting { EndsRefuting (linear_of program.now) rows.now row }
     requires room { rows.now.rows ≤ length ys.old }
     ensures length { length ys.new ≡ length ys.old }
-    ensures are { AreRefuting (linear_of program.now) (table rows.now row) (take rows.now.rows ys.new) }
+    ensures are { AreRefuting (linear_of program.now) (table rows.now row)
+        (take rows.now.rows ys.new) }
     ensures in_range { AllInRange (take rows.now.rows ys.new) }
 {
     program.is_program();
@@ -49,11 +53,15 @@ pub(crate) fn read_sizes(
     requires feasible { EndsFeasible (linear_of program.now) rows.now }
     requires room { rows.now.units ≤ length flows.old }
     ensures length { length flows.new ≡ length flows.old }
-    ensures read { IfOk result (λ d. AreRead (linear_of program.now) (basis rows.now) (table rows.now) (take rows.now.units flows.new) d) }
+    ensures read { IfOk result
+        (λ d. AreRead (linear_of program.now) (basis rows.now) (table rows.now)
+        (take rows.now.units flows.new) d) }
     ensures positive { IfOk result (λ d. pos 0 <ℤ d) }
     ensures den_in_range { IfOk result (λ d. InRange d) }
     ensures in_range { OnOk result (AllInRange (take rows.now.units flows.new)) }
-    ensures past { IfErr result (λ e. IsPastFlow (linear_of program.now) (basis rows.now) (table rows.now) e.unit (step_of e.which)) }
+    ensures past { IfErr result
+        (λ e. IsPastFlow (linear_of program.now) (basis rows.now) (table rows.now) e.unit
+        (step_of e.which)) }
     ensures unit { IfErr result (λ e. e.unit < length program.now.units) }
     ensures unchanged { OnErr result (flows.new ≡ flows.old) }
 {

@@ -11,7 +11,7 @@ use crate::ratios::comes_before;
 use crate::rows::Rows;
 use path_laws::columns_are_ordered;
 
-/// The best candidate up to this column, where `best` is that of the columns before it.
+/// The best candidate up to this column, from `best`, that of the columns before it.
 fn with_column(rows: &Rows, l: usize, best: Option<Candidate>, column: usize) -> Option<Candidate>
     requires row { l < columns_of rows.now }
     requires column { column < columns_of rows.now }
@@ -34,12 +34,16 @@ fn with_column(rows: &Rows, l: usize, best: Option<Candidate>, column: usize) ->
     }
 }
 
-/// Of the columns at which the row of l is below 0, the one with the lexicographically least vector over minus that entry; or
-/// `None` exactly where the row has no entry below 0 at a column. No column of the basis has such an entry there.
+/// Of the columns at which the row of l is below 0, the one with the lexicographically least vector
+/// over minus that entry. `None` exactly if the row has no entry below 0 at a column. No column of
+/// the basis has such an entry there.
 pub fn entering(rows: &Rows, l: usize) -> Option<usize>
     requires row { l < columns_of rows.now }
-    requires free { (k : ℕ) → k < columns_of rows.now → table rows.now l k <ℤ pos 0 → basis rows.now k ≡ false }
-    ensures found { IfSome result (λ e. (p : LinearProgram) → IsOfSize p rows.now → IsEntering p (basis rows.now) (table rows.now) l e) }
+    requires free { (k : ℕ) → k < columns_of rows.now → table rows.now l k <ℤ pos 0
+        → basis rows.now k ≡ false }
+    ensures found { IfSome result
+        (λ e. (p : LinearProgram) → IsOfSize p rows.now
+        → IsEntering p (basis rows.now) (table rows.now) l e) }
     ensures none { IfNone result ((k : ℕ) → k < columns_of rows.now → pos 0 ≤ℤ table rows.now l k) }
 {
     let mut best = None;

@@ -1,5 +1,7 @@
-//! The numbers of a program from which the rows of a tableau start. None of them can leave the range.
-ghost use Rattle.std.specs.Prelude.{◌≡◌, ◌<◌, ◌≤◌, ◌^◌, ◌*◌, ◌+◌, ◌+ℤ◌, ◌-ℤ◌, ◌*ℤ◌, neg_ℤ, length, unsigned_abs};
+//! The numbers of a program from which the rows of a tableau start. None of them can leave the
+//! range.
+ghost use Rattle.std.specs.Prelude.{◌≡◌, ◌<◌, ◌≤◌, ◌^◌, ◌*◌, ◌+◌, ◌+ℤ◌, ◌-ℤ◌, ◌*ℤ◌, neg_ℤ, length};
+ghost use Rattle.std.specs.Prelude.{unsigned_abs};
 ghost use Rattle.path_rules.specs.LinearProgram.{linear_of, low_flow};
 
 use flow_program::Program;
@@ -123,7 +125,8 @@ fn flow_at_lows(program: &Program, row: usize) -> i128
 /// What a row is above its floor at the lower ends of the units.
 pub(crate) fn above_floor(program: &Program, row: usize) -> i128
     requires row { row < length program.now.rows }
-    ensures value { result ≡ neg_ℤ ((linear_of program.now).floor row -ℤ low_flow (linear_of program.now) row) }
+    ensures value { result
+        ≡ neg_ℤ ((linear_of program.now).floor row -ℤ low_flow (linear_of program.now) row) }
     ensures small { unsigned_abs result ≤ 10 ^ 36 }
 {
     flow_at_lows(program, row) - floor(program, row)
@@ -132,7 +135,8 @@ pub(crate) fn above_floor(program: &Program, row: usize) -> i128
 /// What is left of a row to its ceiling at the lower ends of the units.
 pub(crate) fn below_ceiling(program: &Program, row: usize) -> i128
     requires row { row < length program.now.rows }
-    ensures value { result ≡ (linear_of program.now).ceiling row -ℤ low_flow (linear_of program.now) row }
+    ensures value { result ≡ (linear_of program.now).ceiling row -ℤ low_flow (linear_of program.now)
+        row }
     ensures small { unsigned_abs result ≤ 10 ^ 36 }
 {
     ceiling(program, row) - flow_at_lows(program, row)

@@ -1,5 +1,6 @@
 //! The exchange of two columns of the basis.
-ghost use Rattle.std.specs.Prelude.{◌≡◌, ◌≢◌, ◌<◌, ◌≤◌, ◌+◌, ◌*◌, ◌<ℤ◌, pos, suc, ℕ, true, false, length, OnOk, IfErr, slice_index_or};
+ghost use Rattle.std.specs.Prelude.{◌≡◌, ◌≢◌, ◌<◌, ◌≤◌, ◌+◌, ◌*◌, ◌<ℤ◌, pos, suc, ℕ, true, false};
+ghost use Rattle.std.specs.Prelude.{length, OnOk, IfErr, slice_index_or};
 ghost use Rattle.integer_laws.specs.Range.{AllInRange};
 ghost use Rattle.dual_simplex.specs.Rows.{row_at};
 ghost use Rattle.dual_simplex.specs.Exchange.{pivot_row, AreStepped, IsPastAmong};
@@ -7,7 +8,8 @@ ghost use Rattle.dual_simplex.specs.Exchange.{pivot_row, AreStepped, IsPastAmong
 use crate::pivot_row::{put_pivot, write_row};
 use crate::step::{PastRow, step_rows};
 
-/// Steps the rows of a block with the row of `l` as the pivot row, and writes that into the row of `e`.
+/// Steps the rows of a block with the row of `l` as the pivot row, and writes the pivot row into
+/// the row of `e`.
 fn exchange_in(
     body: &mut [i128],
     width: usize,
@@ -24,12 +26,14 @@ fn exchange_in(
     requires l { l < width }
     requires e { e < width }
     requires free { slice_index_or basic.now e false ≡ false }
-    requires positive { pos 0 <ℤ slice_index_or (pivot_row negate (row_at width body.old l)) e (pos 0) }
+    requires positive { pos 0 <ℤ slice_index_or (pivot_row negate (row_at width body.old l)) e
+        (pos 0) }
     requires all_in_range { AllInRange body.old }
     ensures pivot { pivot.new ≡ pivot_row negate (row_at width body.old l) }
     ensures row { OnOk result (row_at width body.new e ≡ pivot.new) }
     ensures done { OnOk result (AreStepped width basic.now body.old pivot.new l e body.new) }
-    ensures past { IfErr result (λ p. IsPastAmong width basic.now body.old pivot.new l e p.row p.j p.which) }
+    ensures past { IfErr result
+        (λ p. IsPastAmong width basic.now body.old pivot.new l e p.row p.j p.which) }
     ensures in_range { AllInRange body.new }
     ensures pivot_in_range { AllInRange pivot.new }
 {
@@ -42,7 +46,7 @@ fn exchange_in(
     Ok(())
 }
 
-/// The same in a block that has room for the pivot row behind its rows.
+/// The same in a block that has room for the pivot row after its rows.
 pub(crate) fn exchange_block(
     entries: &mut [i128],
     width: usize,
@@ -57,12 +61,18 @@ pub(crate) fn exchange_block(
     requires l { l < width }
     requires e { e < width }
     requires free { slice_index_or basic.now e false ≡ false }
-    requires positive { pos 0 <ℤ slice_index_or (pivot_row negate (row_at width entries.old l)) e (pos 0) }
+    requires positive { pos 0 <ℤ slice_index_or (pivot_row negate (row_at width entries.old l)) e
+        (pos 0) }
     requires all_in_range { AllInRange entries.old }
     ensures length { length entries.new ≡ length entries.old }
-    ensures row { OnOk result (row_at width entries.new e ≡ pivot_row negate (row_at width entries.old l)) }
-    ensures done { OnOk result (AreStepped width basic.now entries.old (pivot_row negate (row_at width entries.old l)) l e entries.new) }
-    ensures past { IfErr result (λ p. IsPastAmong width basic.now entries.old (pivot_row negate (row_at width entries.old l)) l e p.row p.j p.which) }
+    ensures row { OnOk result
+        (row_at width entries.new e ≡ pivot_row negate (row_at width entries.old l)) }
+    ensures done { OnOk result
+        (AreStepped width basic.now entries.old (pivot_row negate (row_at width entries.old l)) l e
+        entries.new) }
+    ensures past { IfErr result
+        (λ p. IsPastAmong width basic.now entries.old
+        (pivot_row negate (row_at width entries.old l)) l e p.row p.j p.which) }
     ensures in_range { AllInRange entries.new }
 {
     let (body, rest) = entries.split_at_mut(width * width);

@@ -1,8 +1,14 @@
-//! What the answers of a bench mean for the node of a problem. Each law is the contract of a function without a body.
-ghost use Rattle.dual_simplex.specs.Laws.{ScaleIsPositive, BoundIsReached, BoundIsLeast, NoneIsRefuted, FeasibleIsLast, RefutingIsLast, PastIsLast};
-ghost use Rattle.dual_simplex.specs.FlowLaws.{FlowsAreRelaxed, FlowsAreLeast, UnitsAreInside, SplitIsDecided, SplitFlowsAreFlows, SplitFlowsAreLeast};
+//! What the answers of a bench mean for the node of a problem. Each law is the contract of a
+//! function without a body.
+ghost use Rattle.dual_simplex.specs.Laws.{ScaleIsPositive, BoundIsReached, BoundIsLeast};
+ghost use Rattle.dual_simplex.specs.Laws.{NoneIsRefuted, FeasibleIsLast, RefutingIsLast};
+ghost use Rattle.dual_simplex.specs.Laws.{PastIsLast};
+ghost use Rattle.dual_simplex.specs.FlowLaws.{FlowsAreRelaxed, FlowsAreLeast, UnitsAreInside};
+ghost use Rattle.dual_simplex.specs.FlowLaws.{SplitIsDecided, SplitFlowsAreFlows};
+ghost use Rattle.dual_simplex.specs.FlowLaws.{SplitFlowsAreLeast};
 
-/// After `Least` the bound of the multipliers, over their scale, is the cost of some relaxed flows, and at most that of all.
+/// After `Least` the bound of the multipliers, over their scale, is the cost of some relaxed flows,
+/// and at most that of all.
 pub fn least_is_least()
     ensures scale { ScaleIsPositive }
     ensures reached { BoundIsReached }
@@ -21,13 +27,15 @@ pub fn kept_basis_is_last()
     ensures past { PastIsLast }
 {}
 
-/// After `read_flows` the flows are relaxed flows of the node, and their cost is the bound of the multipliers.
+/// After `read_flows` the flows are relaxed flows of the node, and their cost is the bound of the
+/// multipliers.
 pub fn flows_are_least()
     ensures relaxed { FlowsAreRelaxed }
     ensures least { FlowsAreLeast }
 {}
 
-/// Where each unit is either taken in or left out, they are flows for the units that are taken in, of that cost.
+/// If each unit is either taken in or left out, they are flows for the units that are taken in, of
+/// that cost.
 pub fn split_flows_are_least()
     ensures units { UnitsAreInside }
     ensures decided { SplitIsDecided }

@@ -1,19 +1,20 @@
-//! Least flows of a flow program, by the lexicographic dual simplex method in whole numbers.
+//! The path is walked to its end: a least cost, a refutation or an overflow.
 //!
-//! A [`Bench`] has room for programs up to a size. [`Bench::least`] walks the path of a program, which fixes each pivot, to its
-//! last basis, and keeps what that gives: multipliers whose bound is the cost of least flows, or a refutation; or it names the
-//! pivot at which a number leaves the range. Only `open` takes memory, and a bench serves program after program.
+//! This is the lexicographic dual simplex method in whole numbers. A [`Bench`] has room for
+//! programs up to a size, and serves program after program; only `open` takes memory.
+//! [`Bench::least`] walks the path of a program, which fixes each pivot, to its last basis. It
+//! keeps multipliers whose bound is the cost of least flows, or a refutation. Or it names the pivot
+//! at which a number leaves the range.
 //!
-//! - `rows`: the rows of a tableau in one block of memory, one for each column, the right side and the scale of a program; only those
-//!   of the basis columns count. `entries` has the numbers that they `start` from; `pivot_row`, `step` and `exchange` exchange two columns
-//! - `leaves`, `enters`: which column leaves a basis, the first one below 0, and which enters it, by the lexicographic ratio test;
-//!   `candidates` and `ratios` compare columns that could enter
-//! - `dual`, `reading`: what is read off the last basis, multipliers of the rows that bound or refute, and sizes over one denominator;
-//!   `denominators` and `flow_sizes` are the two rounds of a reading, `division` and `multiple` the whole numbers below, and `past_flow`
-//!   names the first number that is out of range
-//! - `walk`, `bench`: the path of a program to its last basis, and the room for it; `ends`, `names`, `numbers` and `sizes` are what is kept
-//!   of the end
-//! - `laws`, `past_laws`: what the end is of the program, and what a place past the range is
+//! - `rows`: the rows of a tableau in one block of memory. `entries` and `start` have the numbers
+//!   at the start; `pivot_row`, `step` and `exchange` exchange two columns.
+//! - `leaves`, `enters`: which column leaves a basis, and which enters it; `candidates` and
+//!   `ratios` compare columns.
+//! - `dual`, `reading`: multipliers and sizes read off the last basis; `denominators`,
+//!   `flow_sizes`, `division`, `multiple` and `past_flow` are their parts.
+//! - `walk`, `bench`: the path to its last basis, and the room for it; `ends`, `names`, `numbers`
+//!   and `sizes` keep the end.
+//! - `laws`, `past_laws`: what the end means for the program, and what an overflow is.
 #![tactic(auto)]
 
 mod bench;

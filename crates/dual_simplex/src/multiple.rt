@@ -5,7 +5,7 @@ ghost use Rattle.path_rules.specs.ReadFlows.{IsLcm};
 
 use int_rows::{checked_product, lowest_terms};
 
-/// The least common multiple, or `None` exactly where it is out of range.
+/// The least common multiple; `None` exactly if it is out of range.
 pub fn checked_lcm(a: i128, b: i128) -> Option<i128>
     requires a_in_range { InRange a }
     requires b_in_range { InRange b }
@@ -14,7 +14,8 @@ pub fn checked_lcm(a: i128, b: i128) -> Option<i128>
     ensures least { IfSome result (λ m. IsLcm (unsigned_abs a) (unsigned_abs b) (unsigned_abs m)) }
     ensures positive { IfSome result (λ m. pos 0 <ℤ m) }
     ensures in_range { IfSome result (λ m. InRange m) }
-    ensures past { IfNone result ((m : ℤ) → IsLcm (unsigned_abs a) (unsigned_abs b) (unsigned_abs m) → ¬ InRange m) }
+    ensures past { IfNone result
+        ((m : ℤ) → IsLcm (unsigned_abs a) (unsigned_abs b) (unsigned_abs m) → ¬ InRange m) }
 {
     let (_, part) = lowest_terms(a, b);
     checked_product(a, part)

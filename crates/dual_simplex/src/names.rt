@@ -1,12 +1,14 @@
 //! Columns and places by the numbers of the problem.
-ghost use Rattle.std.specs.Prelude.{◌≡◌, ◌<◌, ◌≤◌, ◌++◌, ◌+◌, ℕ, [], ◌∷◌, cond, nat_eq, length, take, Some, None};
+ghost use Rattle.std.specs.Prelude.{◌≡◌, ◌<◌, ◌≤◌, ◌++◌, ◌+◌, ℕ, [], ◌∷◌, cond, nat_eq, length};
+ghost use Rattle.std.specs.Prelude.{take, Some, None};
 ghost use Rattle.path_rules.specs.LinearProgram.{linear_of};
 ghost use Rattle.path_rules.specs.Columns.{columns, scale_at};
 ghost use Rattle.path_rules.specs.Places as path;
 ghost use Rattle.dual_simplex.specs.Rows.{basis, width};
 ghost use Rattle.dual_simplex.specs.Choice.{IsOfSize};
 ghost use Rattle.dual_simplex.specs.Step.{step_of};
-ghost use Rattle.path_rules.specs.Named.{unit_named, named_at, column_named, nonbasic_named, place_named};
+ghost use Rattle.path_rules.specs.Named.{unit_named, named_at, column_named, nonbasic_named};
+ghost use Rattle.path_rules.specs.Named.{place_named};
 ghost use Rattle.dual_simplex.specs.Numbers.{AreNumbers};
 
 use crate::numbers::{Numbers, numbers_of};
@@ -71,8 +73,9 @@ pub(crate) fn column_at(program: &Program, k: usize) -> Column
     column_of(program, &numbers_of(program), k)
 }
 
-/// Puts the column at a place behind the first `count` of a list, where it is not in the basis, and gives their new number. The
-/// rows know how many units and rows the program has, so that its sets are not counted for each column.
+/// Puts the column at a place after the first `count` of a list, if it is not in the basis, and
+/// gives their new number. The rows know how many units and rows the program has, so its sets are
+/// not counted for each column.
 fn put_outside(
     list: &mut [Column],
     count: usize,
@@ -87,7 +90,8 @@ fn put_outside(
     requires numbers { AreNumbers program.now numbers.now.units numbers.now.rows }
     ensures length { length list.new ≡ length list.old }
     ensures count { result ≤ count + 1 }
-    ensures columns { take result list.new ≡ take count list.old ++ cond (basis rows.now k) [] (column_named program.now k ∷ []) }
+    ensures columns { take result list.new ≡ take count list.old
+        ++ cond (basis rows.now k) [] (column_named program.now k ∷ []) }
 {
     if rows.is_basic(k) {
         return count;
@@ -97,7 +101,8 @@ fn put_outside(
     count + 1
 }
 
-/// Puts the columns that are not in the basis into the front of a list, in the order of their places, and gives their number.
+/// Puts the columns that are not in the basis into the front of a list, in the order of their
+/// places, and gives their number.
 pub(crate) fn put_nonbasic(list: &mut [Column], rows: &Rows, program: &Program) -> usize
     requires size { IsOfSize (linear_of program.now) rows.now }
     requires room { columns (linear_of program.now) ≤ length list.old }
@@ -113,10 +118,11 @@ pub(crate) fn put_nonbasic(list: &mut [Column], rows: &Rows, program: &Program) 
     count
 }
 
-/// The column whose row is past, `None` for the cost row.
+/// The column of the row that overflows; `None` for the cost row.
 fn row_of(program: &Program, numbers: &Numbers, row: usize) -> Option<Column>
     requires numbers { AreNumbers program.now numbers.now.units numbers.now.rows }
-    ensures { result ≡ cond (nat_eq row (scale_at (linear_of program.now))) None (Some (column_named program.now row)) }
+    ensures { result ≡ cond (nat_eq row (scale_at (linear_of program.now))) None
+        (Some (column_named program.now row)) }
 {
     let (units, rows) = (unit_count(program), row_count(program));
     if row == units + units + rows + rows + 1 {
@@ -128,7 +134,8 @@ fn row_of(program: &Program, numbers: &Numbers, row: usize) -> Option<Column>
 
 /// The place of a pivot at which a number is out of range, by the numbers of the problem.
 pub(crate) fn entry_place(program: &Program, past: PastPivot) -> Place
-    ensures { result ≡ place_named program.now (path.Entry past.leaves past.enters past.row past.j past.which) }
+    ensures { result ≡ place_named program.now
+        (path.Entry past.leaves past.enters past.row past.j past.which) }
 {
     let numbers = numbers_of(program);
     Place::Entry {

@@ -5,7 +5,7 @@ ghost use Rattle.dual_simplex.specs.Numbers.{IsTableOf, AreNumbers};
 use flow_program::Program;
 use unit_sets::{MatSet, UnitSet};
 
-/// Both tables; what stands behind the numbers does not matter.
+/// Both tables. What follows the numbers does not matter.
 #[derive(Clone, Copy)]
 pub(crate) struct Numbers {
     pub(crate) units: [u32; 128],

@@ -22,7 +22,7 @@ fn negate_all(row: &mut [i128])
     }
 }
 
-/// Makes the pivot row of the row of the column that leaves.
+/// Makes the pivot row from the row of the column that leaves.
 pub(crate) fn put_pivot(row: &[i128], pivot: &mut [i128], negate: bool)
     requires lengths { length pivot.old ≡ length row.now }
     requires row_in_range { AllInRange row.now }

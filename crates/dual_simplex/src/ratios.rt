@@ -13,7 +13,7 @@ use int_rows::checked_product;
 use path_laws::columns_are_ordered;
 use std::cmp::Ordering;
 
-/// Compares x / a with y / b. No product of theirs has to be in range.
+/// Compares x / a with y / b. Their products need not be in range.
 fn compare_ratios(x: i128, a: i128, y: i128, b: i128) -> Ordering
     requires x_in_range { InRange x }
     requires a_in_range { InRange a }
@@ -29,7 +29,7 @@ fn compare_ratios(x: i128, a: i128, y: i128, b: i128) -> Ordering
     }
 }
 
-/// The comparison where a cross product may be out of range.
+/// The comparison if a cross product may be out of range.
 fn compare_fractions(x: i128, a: i128, y: i128, b: i128) -> Ordering
     requires x_in_range { InRange x }
     requires a_in_range { InRange a }
@@ -44,14 +44,15 @@ fn compare_fractions(x: i128, a: i128, y: i128, b: i128) -> Ordering
     left.cmp(&right)
 }
 
-/// Compares the vectors of two candidates, each over its size, at one place: at 0 what the cost row has there, and behind it a
-/// place for each column.
+/// Compares the vectors of two candidates, each over its size, at one place. Place 0 is that of the
+/// cost row, and after it each column has a place.
 fn compare_at(rows: &Rows, left: Candidate, right: Candidate, place: usize) -> Ordering
     requires place { place < suc (columns_of rows.now) }
     requires left_column { left.column < columns_of rows.now }
     requires right_column { right.column < columns_of rows.now }
     requires differ { left.column ≢ right.column }
-    ensures { result ≡ int_cmp (right.size *ℤ vector rows.now left.column place) (left.size *ℤ vector rows.now right.column place) }
+    ensures { result ≡ int_cmp (right.size *ℤ vector rows.now left.column place)
+        (left.size *ℤ vector rows.now right.column place) }
 {
     if place == 0 {
         let costs = rows.row(rows.scale_at());
@@ -77,14 +78,17 @@ fn compare_at(rows: &Rows, left: Candidate, right: Candidate, place: usize) -> O
     Ordering::Equal
 }
 
-/// Whether the vector of the left candidate over its size comes before that of the right one; else it comes behind it.
+/// Whether the vector of the left candidate over its size comes before that of the right one; else
+/// it comes after it.
 pub(crate) fn comes_before(rows: &Rows, left: Candidate, right: Candidate) -> bool
     requires left_column { left.column < columns_of rows.now }
     requires right_column { right.column < columns_of rows.now }
     requires differ { left.column ≢ right.column }
     requires free { basis rows.now left.column ≡ false }
-    ensures yes { IsTrue result → ComesBefore rows.now left.column left.size right.column right.size }
-    ensures no { result ≡ false → ComesBefore rows.now right.column right.size left.column left.size }
+    ensures yes { IsTrue result
+        → ComesBefore rows.now left.column left.size right.column right.size }
+    ensures no { result ≡ false
+        → ComesBefore rows.now right.column right.size left.column left.size }
 {
     columns_are_ordered();
     for place in 0..rows.scale_at() {

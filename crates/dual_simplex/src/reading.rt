@@ -14,17 +14,21 @@ use crate::past_flow::PastFlow;
 use crate::rows::Rows;
 use flow_program::Program;
 
-/// The sizes of the units of the program at the basis, over the denominator that is returned. They are refused exactly where a
-/// number that is formed for them is out of range: the refusal names the first, and leaves the flows as they were.
+/// The sizes of the units of the program at the basis, over the denominator that is returned. They
+/// are refused exactly if a number that is formed for them is out of range. The refusal names the
+/// first, and leaves the flows as they were.
 pub fn read_flows(rows: &Rows, program: &Program, flows: &mut [i128]) -> Result<i128, PastFlow>
     requires size { IsOfSize (linear_of program.now) rows.now }
     requires room { length flows.old ≡ rows.now.units }
     requires own { IsOwnPositive rows.now }
-    ensures read { IfOk result (λ d. AreRead (linear_of program.now) (basis rows.now) (table rows.now) flows.new d) }
+    ensures read { IfOk result
+        (λ d. AreRead (linear_of program.now) (basis rows.now) (table rows.now) flows.new d) }
     ensures positive { IfOk result (λ d. pos 0 <ℤ d) }
     ensures d_in_range { IfOk result (λ d. InRange d) }
     ensures in_range { OnOk result (AllInRange flows.new) }
-    ensures past { IfErr result (λ e. IsPastFlow (linear_of program.now) (basis rows.now) (table rows.now) e.unit (step_of e.which)) }
+    ensures past { IfErr result
+        (λ e. IsPastFlow (linear_of program.now) (basis rows.now) (table rows.now) e.unit
+        (step_of e.which)) }
     ensures unchanged { OnErr result (flows.new ≡ flows.old) }
 {
     let den = match last_denominator(rows) {

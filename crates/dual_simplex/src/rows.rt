@@ -1,5 +1,6 @@
 //! [`Rows`], and what is read of it.
-ghost use Rattle.std.specs.Prelude.{◌≡◌, ◌<◌, ◌≤◌, ◌+◌, ◌*◌, ◌<ℤ◌, pos, suc, length, true, false, slice_set, slice_index_or, ℕ, IfOk, OnOk, OnErr, IfErr};
+ghost use Rattle.std.specs.Prelude.{◌≡◌, ◌<◌, ◌≤◌, ◌+◌, ◌*◌, ◌<ℤ◌, pos, suc, length, true, false};
+ghost use Rattle.std.specs.Prelude.{slice_set, slice_index_or, ℕ, IfOk, OnOk, OnErr, IfErr};
 ghost use Rattle.path_rules.specs.LinearProgram.{linear_of};
 ghost use Rattle.path_rules.specs.Columns.{start};
 ghost use Rattle.path_rules.specs.Start.{IsStart};
@@ -14,7 +15,8 @@ use flow_program::Program;
 use std::alloc::{AllocError, Global};
 use std::marker::Model;
 
-/// The rows of a tableau, with a flag for each column of the basis. Columns are named by their places in a row.
+/// The rows of a tableau, with a flag for each column of the basis. Columns are named by their
+/// places in a row.
 #[derive(Drop)]
 pub struct Rows {
     units: usize,
@@ -22,7 +24,7 @@ pub struct Rows {
     most_units: usize,
     most_rows: usize,
     basic: Vec<bool>,
-    // Row after row, and behind the last one room for a pivot row.
+    // Row after row, and after the last one room for a pivot row.
     entries: Vec<i128>,
 }
 
@@ -31,13 +33,30 @@ impl Model for Rows {
 
     ghost Value = { specs.Rows };
 
-    ghost view = { λ r. record { units = r.units; rows = r.rows; most_units = r.most_units; most_rows = r.most_rows; basic = r.basic.items; entries = r.entries.items } };
+    ghost view = { λ r. record {
+      units = r.units;
+      rows = r.rows;
+      most_units =
+          r.most_units;
+      most_rows = r.most_rows;
+      basic = r.basic.items;
+      entries = r.entries.items;
+    } };
 
-    ghost invariant = { λ r. specs.AreRows (record { units = r.units; rows = r.rows; most_units = r.most_units; most_rows = r.most_rows; basic = r.basic.items; entries = r.entries.items }) };
+    ghost invariant = { λ r. specs.AreRows
+        (record {
+          units = r.units;
+          rows = r.rows;
+          most_units = r.most_units;
+          most_rows =
+              r.most_rows;
+          basic = r.basic.items;
+          entries = r.entries.items;
+        }) };
 }
 
 impl Rows {
-    /// What holds of all rows. A clause sees the value alone.
+    /// All rows have this. A call gives it to a proof.
     pub fn are_rows(&self)
         ensures { AreRows self.now }
     {
@@ -149,7 +168,8 @@ impl Rows {
         self.row(column)[at]
     }
 
-    /// Makes room for the rows of programs of at most so many units and rows. `Err` comes for want of memory alone.
+    /// Makes room for the rows of programs of at most so many units and rows. `Err` comes only when
+    /// memory runs out.
     pub fn open(alloc: Global, units: u32, rows: u32) -> Result<Rows, AllocError>
         requires units { units ≤ 128 }
         requires rows { rows ≤ 256 }
@@ -190,18 +210,22 @@ impl Rows {
         start_flags(&mut self.basic, size);
     }
 
-    /// Takes `l` out of the basis and `e` in. The row of `l`, negated if `negate` says so, is the pivot row: it becomes the row
-    /// of `e`, and is combined with each other row of the basis that has an entry at `e`. After an error, which comes exactly
-    /// where a number on the way is out of range, the basis is as it was, and its rows are not.
+    /// Takes `l` out of the basis and `e` in. The row of `l`, negated if `negate` says so, is the
+    /// pivot row. It becomes the row of `e`, and is combined with each other row of the basis that
+    /// has an entry at `e`. An error comes exactly if a number on the way is out of range. Then the
+    /// basis is as it was, but its rows are not.
     pub fn exchange(&mut self, l: usize, e: usize, negate: bool) -> Result<(), PastRow>
         requires l { l < width self.old }
         requires e { e < width self.old }
         requires was { basis self.old l ≡ true }
         requires free { basis self.old e ≡ false }
-        requires positive { pos 0 <ℤ slice_index_or (pivot_row negate (row_of self.old l)) e (pos 0) }
+        requires positive { pos 0 <ℤ slice_index_or (pivot_row negate (row_of self.old l)) e
+            (pos 0) }
         ensures size { IsSameSize self.old self.new }
-        ensures done { OnOk result (IsExchanged self.old self.new l e (pivot_row negate (row_of self.old l))) }
-        ensures past { IfErr result (λ p. IsPastRow self.old l e (pivot_row negate (row_of self.old l)) p.row p.j p.which) }
+        ensures done { OnOk result
+            (IsExchanged self.old self.new l e (pivot_row negate (row_of self.old l))) }
+        ensures past { IfErr result
+            (λ p. IsPastRow self.old l e (pivot_row negate (row_of self.old l)) p.row p.j p.which) }
         ensures flags { OnErr result (self.new.basic ≡ self.old.basic) }
     {
         self.are_rows();

@@ -1,4 +1,5 @@
-//! The sizes of the units at the last basis, rounded down. They guide a search: nothing rests on more than their range.
+//! The sizes of the units at the last basis, rounded down. They guide a search: proofs use only
+//! their range.
 ghost use Rattle.std.specs.Prelude.{◌≡◌, ◌<◌, ◌≤◌, length, All};
 ghost use Rattle.path_rules.specs.LinearProgram.{linear_of};
 ghost use Rattle.dual_simplex.specs.Reading.{IsOwnPositive};

@@ -1,5 +1,6 @@
 //! The rows at the start of the path.
-ghost use Rattle.std.specs.Prelude.{◌≡◌, ◌≢◌, ◌<◌, ◌≤◌, ◌+◌, ◌*◌, ◌^◌, ℕ, neg_ℤ, suc, false, length, pos, slice_index_or, unsigned_abs};
+ghost use Rattle.std.specs.Prelude.{◌≡◌, ◌≢◌, ◌<◌, ◌≤◌, ◌+◌, ◌*◌, ◌^◌, ℕ, neg_ℤ, suc, false};
+ghost use Rattle.std.specs.Prelude.{length, pos, slice_index_or, unsigned_abs};
 ghost use Rattle.integer_laws.specs.Range.{InRange, AllInRange};
 ghost use Rattle.path_rules.specs.LinearProgram.{linear_of};
 ghost use Rattle.path_rules.specs.Start.{one_at};
@@ -100,7 +101,8 @@ fn write_start_row(row: &mut [i128], program: &Program, size: Size, c: usize)
     requires few_rows { size.rows ≤ 256 }
     requires column { size.units ≤ c }
     ensures length { length row.new ≡ length row.old }
-    ensures value { (k : ℕ) → k < length row.old → slice_index_or row.new k (pos 0) ≡ start_entry (linear_of program.now) c k }
+    ensures value { (k : ℕ) → k < length row.old
+        → slice_index_or row.new k (pos 0) ≡ start_entry (linear_of program.now) c k }
     ensures in_range { AllInRange row.new }
 {
     for k in 0..row.len() {
@@ -118,7 +120,9 @@ fn start_row(entries: &mut [i128], width: usize, program: &Program, size: Size, 
     requires column { size.units ≤ c }
     requires all_in_range { AllInRange entries.old }
     ensures length { length entries.new ≡ length entries.old }
-    ensures value { (k : ℕ) → k < width → slice_index_or (row_at width entries.new c) k (pos 0) ≡ start_entry (linear_of program.now) c k }
+    ensures value { (k : ℕ) → k < width
+        → slice_index_or (row_at width entries.new c) k (pos 0)
+        ≡ start_entry (linear_of program.now) c k }
     ensures others { (d : ℕ) → d ≢ c → row_at width entries.new d ≡ row_at width entries.old d }
     ensures in_range { AllInRange entries.new }
 {
@@ -136,7 +140,9 @@ pub(crate) fn start_rows(entries: &mut [i128], width: usize, program: &Program, 
     requires few_rows { size.rows ≤ 256 }
     requires all_in_range { AllInRange entries.old }
     ensures length { length entries.new ≡ length entries.old }
-    ensures value { (c k : ℕ) → size.units ≤ c → c < width → k < width → slice_index_or (row_at width entries.new c) k (pos 0) ≡ start_entry (linear_of program.now) c k }
+    ensures value { (c k : ℕ) → size.units ≤ c → c < width → k < width
+        → slice_index_or (row_at width entries.new c) k (pos 0)
+        ≡ start_entry (linear_of program.now) c k }
     ensures in_range { AllInRange entries.new }
 {
     for c in size.units..width {

@@ -1,5 +1,6 @@
 //! The steps of the rows at an exchange.
-ghost use Rattle.std.specs.Prelude.{◌≡◌, ◌≢◌, ◌<◌, ◌≤◌, ◌+◌, ◌*◌, ◌<ℤ◌, pos, ℕ, length, OnOk, IfErr, slice_index_or};
+ghost use Rattle.std.specs.Prelude.{◌≡◌, ◌≢◌, ◌<◌, ◌≤◌, ◌+◌, ◌*◌, ◌<ℤ◌, pos, ℕ, length, OnOk};
+ghost use Rattle.std.specs.Prelude.{IfErr, slice_index_or};
 ghost use Rattle.integer_laws.specs.Range.{AllInRange};
 ghost use Rattle.dual_simplex.specs.Rows.{row_at};
 ghost use Rattle.dual_simplex.specs.Exchange.{IsStepped, IsPastStep, AreStepped, IsPastAmong};
@@ -7,7 +8,8 @@ ghost use Rattle.dual_simplex.specs.Exchange.{IsStepped, IsPastStep, AreStepped,
 use int_rows::{PastEntry, combine};
 use integer_laws::Which;
 
-/// The first number out of range among the rows of a basis, in the order of their columns: at place `j` of the row.
+/// The first number out of range among the rows of a basis, in the order of their columns: at place
+/// `j` of the row.
 #[derive(Clone, Copy, Debug, PartialEq, Eq)]
 pub struct PastRow {
     pub row: usize,
@@ -15,7 +17,7 @@ pub struct PastRow {
     pub which: Which,
 }
 
-/// Takes the entry at `e` of row `c` away, where it is not 0 already.
+/// Takes the entry at `e` of row `c` away, if it is not 0 already.
 pub(crate) fn step_row(
     entries: &mut [i128],
     width: usize,
@@ -30,9 +32,11 @@ pub(crate) fn step_row(
     requires pivot_in_range { AllInRange pivot.now }
     requires all_in_range { AllInRange entries.old }
     ensures length { length entries.new ≡ length entries.old }
-    ensures done { OnOk result (IsStepped (row_at width entries.old c) pivot.now e (row_at width entries.new c)) }
+    ensures done { OnOk result
+        (IsStepped (row_at width entries.old c) pivot.now e (row_at width entries.new c)) }
     ensures others { (d : ℕ) → d ≢ c → row_at width entries.new d ≡ row_at width entries.old d }
-    ensures past { IfErr result (λ p. IsPastStep (row_at width entries.old c) pivot.now e p.j p.which) }
+    ensures past { IfErr result
+        (λ p. IsPastStep (row_at width entries.old c) pivot.now e p.j p.which) }
     ensures in_range { AllInRange entries.new }
 {
     let first = c * width;
@@ -43,7 +47,7 @@ pub(crate) fn step_row(
     combine(row, pivot, e)
 }
 
-/// The steps of all rows that have a flag, but for that of `l`.
+/// The steps of all rows that have a flag, except that of `l`.
 pub(crate) fn step_rows(
     entries: &mut [i128],
     basic: &[bool],
@@ -61,7 +65,8 @@ pub(crate) fn step_rows(
     requires all_in_range { AllInRange entries.old }
     ensures length { length entries.new ≡ length entries.old }
     ensures done { OnOk result (AreStepped width basic.now entries.old pivot.now l e entries.new) }
-    ensures past { IfErr result (λ p. IsPastAmong width basic.now entries.old pivot.now l e p.row p.j p.which) }
+    ensures past { IfErr result
+        (λ p. IsPastAmong width basic.now entries.old pivot.now l e p.row p.j p.which) }
     ensures in_range { AllInRange entries.new }
 {
     for c in 0..width {

@@ -1,10 +1,12 @@
 //! The walk of the path, from pivot to pivot.
-ghost use Rattle.std.specs.Prelude.{◌≡◌, ◌<◌, ◌≤◌, ◌+◌, ◌-◌, ℕ, pos, suc, true, false, length, IsTrue, ◌<ℤ◌, ◌≤ℤ◌, OnOk, IfOk, IfErr, IfSome, IfNone};
+ghost use Rattle.std.specs.Prelude.{◌≡◌, ◌<◌, ◌≤◌, ◌+◌, ◌-◌, ℕ, pos, suc, true, false, length};
+ghost use Rattle.std.specs.Prelude.{IsTrue, ◌<ℤ◌, ◌≤ℤ◌, OnOk, IfOk, IfErr, IfSome, IfNone};
 ghost use Rattle.path_rules.specs.LinearProgram.{linear_of};
 ghost use Rattle.path_rules.specs.Pivots.{IsLeaving, IsEntering};
 ghost use Rattle.dual_simplex.specs.Rows.{table, basis};
 ghost use Rattle.dual_simplex.specs.Choice.{IsOfSize, scale_of};
-ghost use Rattle.dual_simplex.specs.Walk.{IsInFirst, IsInSecond, EndsFeasible, EndsRefuting, EndsPast, IsSameRoom};
+ghost use Rattle.dual_simplex.specs.Walk.{IsInFirst, IsInSecond, EndsFeasible, EndsRefuting};
+ghost use Rattle.dual_simplex.specs.Walk.{EndsPast, IsSameRoom};
 ghost use Rattle.dual_simplex.specs.Measure.{rank_of, ranks};
 
 use crate::enters::entering;
@@ -13,7 +15,8 @@ use crate::rows::Rows;
 use flow_program::Program;
 use integer_laws::Which;
 
-/// A pivot of the path at which a number is out of range, and which: columns by their places in a row.
+/// A pivot of the path at which a number is out of range, and which number. Columns are named by
+/// their places in a row.
 #[derive(Clone, Copy, Debug, PartialEq, Eq)]
 pub(crate) struct PastPivot {
     pub(crate) leaves: usize,
@@ -39,7 +42,8 @@ fn pivot_first(rows: &mut Rows, program: &Program, unit: usize) -> Result<(), Pa
     requires negative { table rows.old (scale_of rows.old) unit <ℤ pos 0 }
     ensures room { IsSameRoom rows.old rows.new }
     ensures done { OnOk result (IsInFirst (linear_of program.now) rows.new (unit + 1)) }
-    ensures past { IfErr result (λ e. EndsPast (linear_of program.now) rows.new e.leaves e.enters e.row e.j e.which) }
+    ensures past { IfErr result
+        (λ e. EndsPast (linear_of program.now) rows.new e.leaves e.enters e.row e.j e.which) }
 {
     program.is_program();
     rows.are_rows();
@@ -64,7 +68,8 @@ fn turn_first(rows: &mut Rows, program: &Program, unit: usize) -> Result<(), Pas
     requires first { IsInFirst (linear_of program.now) rows.old unit }
     ensures room { IsSameRoom rows.old rows.new }
     ensures done { OnOk result (IsInFirst (linear_of program.now) rows.new (unit + 1)) }
-    ensures past { IfErr result (λ e. EndsPast (linear_of program.now) rows.new e.leaves e.enters e.row e.j e.which) }
+    ensures past { IfErr result
+        (λ e. EndsPast (linear_of program.now) rows.new e.leaves e.enters e.row e.j e.which) }
 {
     if is_dear(rows, unit) {
         pivot_first(rows, program, unit)
@@ -78,7 +83,8 @@ fn walk_first(rows: &mut Rows, program: &Program) -> Result<(), PastPivot>
     requires first { IsInFirst (linear_of program.now) rows.old 0 }
     ensures room { IsSameRoom rows.old rows.new }
     ensures done { OnOk result (IsInSecond (linear_of program.now) rows.new) }
-    ensures past { IfErr result (λ e. EndsPast (linear_of program.now) rows.new e.leaves e.enters e.row e.j e.which) }
+    ensures past { IfErr result
+        (λ e. EndsPast (linear_of program.now) rows.new e.leaves e.enters e.row e.j e.which) }
 {
     for unit in 0..rows.units() {
         if let Err(past) = turn_first(rows, program, unit) {
@@ -97,12 +103,16 @@ fn pivot_second(
 ) -> Result<(), PastPivot>
     requires second { IsInSecond (linear_of program.now) rows.old }
     requires leaves { IsLeaving (linear_of program.now) (basis rows.old) (table rows.old) leaves }
-    requires enters { IsEntering (linear_of program.now) (basis rows.old) (table rows.old) leaves enters }
+    requires enters { IsEntering (linear_of program.now) (basis rows.old) (table rows.old) leaves
+        enters }
     ensures room { IsSameRoom rows.old rows.new }
     ensures done { OnOk result (IsInSecond (linear_of program.now) rows.new) }
-    ensures rises { OnOk result (rank_of (linear_of program.now) rows.old < rank_of (linear_of program.now) rows.new) }
-    ensures below { OnOk result (rank_of (linear_of program.now) rows.old < ranks (linear_of program.now)) }
-    ensures past { IfErr result (λ e. EndsPast (linear_of program.now) rows.new e.leaves e.enters e.row e.j e.which) }
+    ensures rises { OnOk result
+        (rank_of (linear_of program.now) rows.old < rank_of (linear_of program.now) rows.new) }
+    ensures below { OnOk result
+        (rank_of (linear_of program.now) rows.old < ranks (linear_of program.now)) }
+    ensures past { IfErr result
+        (λ e. EndsPast (linear_of program.now) rows.new e.leaves e.enters e.row e.j e.which) }
 {
     rows.are_rows();
     let answer = rows.exchange(leaves, enters, true);
@@ -119,10 +129,11 @@ fn pivot_second(
     }
 }
 
-/// The column that leaves the basis, where no pivot of the first kind is left.
+/// The column that leaves the basis, when no pivot of the first kind is left.
 fn leaves(rows: &Rows, program: &Program) -> Option<usize>
     requires second { IsInSecond (linear_of program.now) rows.now }
-    ensures found { IfSome result (λ l. IsLeaving (linear_of program.now) (basis rows.now) (table rows.now) l) }
+    ensures found { IfSome result
+        (λ l. IsLeaving (linear_of program.now) (basis rows.now) (table rows.now) l) }
     ensures none { IfNone result (EndsFeasible (linear_of program.now) rows.now) }
 {
     program.is_program();
@@ -133,22 +144,26 @@ fn leaves(rows: &Rows, program: &Program) -> Option<usize>
 fn enters(rows: &Rows, program: &Program, leaves: usize) -> Option<usize>
     requires second { IsInSecond (linear_of program.now) rows.now }
     requires leaves { IsLeaving (linear_of program.now) (basis rows.now) (table rows.now) leaves }
-    ensures found { IfSome result (λ e. IsEntering (linear_of program.now) (basis rows.now) (table rows.now) leaves e) }
+    ensures found { IfSome result
+        (λ e. IsEntering (linear_of program.now) (basis rows.now) (table rows.now) leaves e) }
     ensures none { IfNone result (EndsRefuting (linear_of program.now) rows.now leaves) }
 {
     program.is_program();
     entering(rows, leaves)
 }
 
-/// All pivots of the second kind, to the end of the path: `None` where the basis gives least flows, and else the column whose
-/// row can't be met.
+/// All pivots of the second kind, to the end of the path: `None` if the basis gives least flows,
+/// and else the column whose row can't be met.
 fn walk_second(rows: &mut Rows, program: &Program) -> Result<Option<usize>, PastPivot>
     requires second { IsInSecond (linear_of program.now) rows.old }
     ensures room { IsSameRoom rows.old rows.new }
     ensures size { IsOfSize (linear_of program.now) rows.new }
-    ensures least { IfOk result (λ end. IfNone end (EndsFeasible (linear_of program.now) rows.new)) }
-    ensures none { IfOk result (λ end. IfSome end (λ row. EndsRefuting (linear_of program.now) rows.new row)) }
-    ensures past { IfErr result (λ e. EndsPast (linear_of program.now) rows.new e.leaves e.enters e.row e.j e.which) }
+    ensures least { IfOk result
+        (λ end. IfNone end (EndsFeasible (linear_of program.now) rows.new)) }
+    ensures none { IfOk result
+        (λ end. IfSome end (λ row. EndsRefuting (linear_of program.now) rows.new row)) }
+    ensures past { IfErr result
+        (λ e. EndsPast (linear_of program.now) rows.new e.leaves e.enters e.row e.j e.which) }
 {
     'pivots: loop {
         let Some(leaves) = leaves(rows, program) else {
@@ -163,16 +178,20 @@ fn walk_second(rows: &mut Rows, program: &Program) -> Result<Option<usize>, Past
     }
 }
 
-/// Walks the path of a program from its start to its last basis: `None` where that gives least flows, and else the column
-/// whose row can't be met. A pivot at which a number is out of range ends it too.
+/// Walks the path of a program from its start to its last basis: `None` if that gives least flows,
+/// and else the column whose row can't be met. A pivot at which a number is out of range ends it
+/// too.
 pub(crate) fn walk(rows: &mut Rows, program: &Program) -> Result<Option<usize>, PastPivot>
     requires units { length program.now.units ≤ rows.old.most_units }
     requires rows { length program.now.rows ≤ rows.old.most_rows }
     ensures room { IsSameRoom rows.old rows.new }
     ensures size { IsOfSize (linear_of program.now) rows.new }
-    ensures least { IfOk result (λ end. IfNone end (EndsFeasible (linear_of program.now) rows.new)) }
-    ensures none { IfOk result (λ end. IfSome end (λ row. EndsRefuting (linear_of program.now) rows.new row)) }
-    ensures past { IfErr result (λ e. EndsPast (linear_of program.now) rows.new e.leaves e.enters e.row e.j e.which) }
+    ensures least { IfOk result
+        (λ end. IfNone end (EndsFeasible (linear_of program.now) rows.new)) }
+    ensures none { IfOk result
+        (λ end. IfSome end (λ row. EndsRefuting (linear_of program.now) rows.new row)) }
+    ensures past { IfErr result
+        (λ e. EndsPast (linear_of program.now) rows.new e.leaves e.enters e.row e.j e.which) }
 {
     rows.start(program);
     if let Err(past) = walk_first(rows, program) {

@@ -21,7 +21,10 @@ fn say_edited<F: Shelf, K: Sink, E: Sink>(
     shelf: &mut F,
     out: &mut Outputs<K, E>,
 ) -> Status
-    ensures ends { Ends (Says (OnScript EditWork (F.state shelf.old).held script.now problem.now) (λ other. other ≡ script.now) (F.state shelf.old) (F.state shelf.new)) out.old out.new result }
+    ensures ends { Ends
+        (Says (OnScript EditWork (F.state shelf.old).held script.now problem.now)
+        (λ other. other ≡ script.now) (F.state shelf.old) (F.state shelf.new)) out.old out.new
+        result }
     ensures keeps { Keeps (F.state shelf.old) (F.state shelf.new) }
 {
     match edited_of(alloc, shelf, out, script, problem) {
@@ -38,7 +41,9 @@ pub fn edit<F: Shelf, K: Sink, E: Sink>(
     shelf: &mut F,
     out: &mut Outputs<K, E>,
 ) -> Status
-    ensures ends { Ends (TwoFilesSay (OnScript EditWork) file.now script.now (F.state shelf.old) (F.state shelf.new)) out.old out.new result }
+    ensures ends { Ends
+        (TwoFilesSay (OnScript EditWork) file.now script.now (F.state shelf.old)
+        (F.state shelf.new)) out.old out.new result }
     ensures keeps { Keeps (F.state shelf.old) (F.state shelf.new) }
 {
     match problem_of(alloc, shelf, out, file) {
@@ -54,7 +59,10 @@ fn say_inverse<F: Shelf, K: Sink, E: Sink>(
     shelf: &mut F,
     out: &mut Outputs<K, E>,
 ) -> Status
-    ensures ends { Ends (Says (OnScript UndoWork (F.state shelf.old).held script.now problem.now) (λ other. other ≡ script.now) (F.state shelf.old) (F.state shelf.new)) out.old out.new result }
+    ensures ends { Ends
+        (Says (OnScript UndoWork (F.state shelf.old).held script.now problem.now)
+        (λ other. other ≡ script.now) (F.state shelf.old) (F.state shelf.new)) out.old out.new
+        result }
     ensures keeps { Keeps (F.state shelf.old) (F.state shelf.new) }
 {
     match edited_of(alloc, shelf, out, script, problem) {
@@ -71,7 +79,9 @@ pub fn undo<F: Shelf, K: Sink, E: Sink>(
     shelf: &mut F,
     out: &mut Outputs<K, E>,
 ) -> Status
-    ensures ends { Ends (TwoFilesSay (OnScript UndoWork) file.now script.now (F.state shelf.old) (F.state shelf.new)) out.old out.new result }
+    ensures ends { Ends
+        (TwoFilesSay (OnScript UndoWork) file.now script.now (F.state shelf.old)
+        (F.state shelf.new)) out.old out.new result }
     ensures keeps { Keeps (F.state shelf.old) (F.state shelf.new) }
 {
     match problem_of(alloc, shelf, out, file) {

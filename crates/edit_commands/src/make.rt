@@ -15,7 +15,8 @@ use studio_rules::Status;
 fn made_text(alloc: Global, number: u64, units: u64) -> Result<Vec<u8>, AllocError>
     requires some { 1 ≤ units }
     requires few { units ≤ 128 }
-    ensures { IfOk result (λ text. text.items ≡ text_of (canonical_lines (generated number units))) }
+    ensures { IfOk result
+        (λ text. text.items ≡ text_of (canonical_lines (generated number units))) }
 {
     let problem = generate(alloc, number, units as u32)?;
     problem.canonical_text(alloc)

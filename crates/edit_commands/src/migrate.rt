@@ -50,7 +50,9 @@ pub fn migrate<F: Shelf, K: Sink, E: Sink>(
     out: &mut Outputs<K, E>,
 ) -> Status
     requires { (1 ≤ years) × (years ≤ 100) }
-    ensures ends { Ends (FileSays (MigrateWork years) file.now (F.state shelf.old) (F.state shelf.new)) out.old out.new result }
+    ensures ends { Ends
+        (FileSays (MigrateWork years) file.now (F.state shelf.old) (F.state shelf.new)) out.old
+        out.new result }
     ensures keeps { Keeps (F.state shelf.old) (F.state shelf.new) }
 {
     match problem_of(alloc, shelf, out, file) {

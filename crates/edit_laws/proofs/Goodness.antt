@@ -1,7 +1,9 @@
--- What of a problem's validity each item has by itself, with the keys of a unit's terms, which are numbers or names, apart
--- from their rates.
-use Rattle.std.specs.Prelude.{◌≡◌, ◌<◌, ◌≤◌, ◌==◌, ℕ, Bool, true, false, ◌||◌, List, [], ◌∷◌, length, map, ℤ, pos, int_lt, unsigned_abs}
-use Rattle.problem_rules.specs.Problem.{Problem, Material, OperatingUnit, Exclusion, numbers_of, rates_of}
+-- The part of a problem's validity that each item has alone. The keys of a unit's terms, which are
+-- numbers or names, are separated from their rates.
+use Rattle.std.specs.Prelude.{◌≡◌, ◌<◌, ◌≤◌, ◌==◌, ℕ, Bool, true, false, ◌||◌, List, [], ◌∷◌}
+use Rattle.std.specs.Prelude.{length, map, ℤ, pos, int_lt, unsigned_abs}
+use Rattle.problem_rules.specs.Problem.{Problem, Material, OperatingUnit, Exclusion, numbers_of}
+use Rattle.problem_rules.specs.Problem.{rates_of}
 use Rattle.problem_rules.specs.Each.{Each}
 use Rattle.problem_rules.specs.WellFormed.{IsInRange, IsBound}
 use Rattle.edit_rules.specs.Edit.{NamedTerm}
@@ -15,7 +17,7 @@ abbrev pub among : {K : Type 0} → (K → K → Bool) → K → List K → Bool
 among eq x [] = false
 among eq x (k ∷ ks) = eq k x || among eq x ks
 
--- some key stands twice
+-- some key is there twice
 abbrev pub double : {K : Type 0} → (K → K → Bool) → List K → Bool
 double eq [] = false
 double eq (k ∷ ks) = among eq k ks || double eq ks
@@ -29,7 +31,8 @@ pub record IsRate (z : ℤ) : Type 0 where
   pub in_range : IsInRange z
   pub positive : int_lt (pos 0) z ≡ true
 
-pub record AreSides {K : Type 0} (eq : K → K → Bool) (in_rates out_rates : List ℤ) (ins outs : List K) : Type 0 where
+pub record AreSides {K : Type 0} (eq : K → K → Bool) (in_rates out_rates : List ℤ)
+    (ins outs : List K) : Type 0 where
   pub ins_rated : Each IsRate in_rates
   pub outs_rated : Each IsRate out_rates
   pub ins_once : double eq ins ≡ false
@@ -52,7 +55,8 @@ pub record IsGoodUnit (u : OperatingUnit) : Type 0 where
   pub proportional : IsInRange u.proportional
   pub investment_fix : IsBound u.investment_fix
   pub investment_proportional : IsInRange u.investment_proportional
-  pub sides : AreSides same_number (rates_of u.inputs) (rates_of u.outputs) (numbers_of u.inputs) (numbers_of u.outputs)
+  pub sides : AreSides same_number (rates_of u.inputs) (rates_of u.outputs) (numbers_of u.inputs)
+      (numbers_of u.outputs)
 
 pub record IsGoodExclusion (x : Exclusion) : Type 0 where
   pub named : IsName x.name

@@ -1,7 +1,8 @@
--- What of a problem's validity its edits rest on: what depends on neighbours and on counts.
+-- The part of a problem's validity that its edits need: what depends on neighbours and on counts.
 use Rattle.std.specs.Prelude.{◌≡◌, ℕ, ◌<◌, ◌≤◌, true, false, List, length, int_lt}
 use Rattle.number_sets.specs.Sets.{IsRising, AreBelow}
-use Rattle.problem_rules.specs.Problem.{Problem, Material, Term, OperatingUnit, Exclusion, material_names, unit_names, exclusion_names}
+use Rattle.problem_rules.specs.Problem.{Problem, Material, Term, OperatingUnit, Exclusion}
+use Rattle.problem_rules.specs.Problem.{material_names, unit_names, exclusion_names}
 use Rattle.problem_rules.specs.Each.{Each}
 use Rattle.problem_rules.specs.Validity.{has_product}
 use Rattle.edit_laws.proofs.NameLemmas.{AreApart}

@@ -2,11 +2,13 @@
 use Rattle.std.proofs.Common.{◌≡◌, ℕ, ◌+◌, ◌≤◌, List, [], ◌∷◌, length, arith}
 use Rattle.std.specs.Prelude.{int_lt, false}
 use Rattle.number_sets.specs.Sets.{IsBelowAll, IsRising, AreBelow}
-use Rattle.problem_rules.specs.Problem.{Problem, Material, material_names, unit_names, exclusion_names}
+use Rattle.problem_rules.specs.Problem.{Problem, Material, material_names, unit_names}
+use Rattle.problem_rules.specs.Problem.{exclusion_names}
 use Rattle.problem_rules.specs.Each.{Each}
 use Rattle.text_laws.proofs.Each.{each-append}
 use Rattle.problem_rules.specs.Validity.{IsValid}
-use Rattle.problem_rules.specs.WellFormed.{IsWellFormedMaterial, IsWellFormedUnit, IsWellFormedExclusion, IsWellFormed, AreRisingFrom}
+use Rattle.problem_rules.specs.WellFormed.{IsWellFormedMaterial, IsWellFormedUnit}
+use Rattle.problem_rules.specs.WellFormed.{IsWellFormedExclusion, IsWellFormed, AreRisingFrom}
 use Rattle.problem_rules.proofs.ValidLemmas.{well_formed_from_valid, valid_from_well_formed}
 use Rattle.edit_rules.specs.Edit.{Edit}
 use Rattle.edit_rules.specs.Effect.{effect}
@@ -48,12 +50,21 @@ rises n least [] h = record { rising = tt; below = tt; above = tt }
 rises n least (x ∷ xs) h =
     let r = rises n (x + 1) xs h.2 in
     let low = h.0 in
-    record { rising = (above_all x xs r.above, r.rising); below = (h.1, r.below); above = (low, each_more least (x + 1) (omega arith) xs r.above) }
+    record {
+      rising = (above_all x xs r.above, r.rising);
+      below = (h.1, r.below);
+      above =
+          (low, each_more least (x + 1) (omega arith) xs r.above);
+    }
 
 rising_from : (n least : ℕ) (xs : List ℕ) → Rises n least xs → AreRisingFrom n least xs
 rising_from n least [] r = tt
-rising_from n least (x ∷ xs) r =
-    (r.above.0, r.below.0, rising_from n (x + 1) xs (record { rising = r.rising.1; below = r.below.1; above = all_above x xs r.rising.0 }))
+rising_from n least (x ∷ xs) r = (
+  r.above.0,
+  r.below.0,
+  rising_from n (x + 1) xs
+      (record { rising = r.rising.1; below = r.below.1; above = all_above x xs r.rising.0 }),
+)
 
 from_zero : (xs : List ℕ) → Each (λ x. 0 ≤ x) xs
 from_zero [] = tt
@@ -61,7 +72,8 @@ from_zero (x ∷ xs) = (omega arith, from_zero xs)
 
 -- ---- the whole
 
-each_part : {X : Type 0} (P Q : X → Type 0) (xs : List X) → ((x : X) → P x → Q x) → Each P xs → Each Q xs
+each_part : {X : Type 0} (P Q : X → Type 0) (xs : List X) → ((x : X) → P x → Q x) → Each P xs
+    → Each Q xs
 each_part P Q [] f h = tt
 each_part P Q (x ∷ xs) f h = (f x h.0, each_part P Q xs f h.1)
 
@@ -76,17 +88,33 @@ well_from_valid p v =
         units_apart = apart_from (unit_names p.units) h.units_apart;
         exclusions_apart = apart_from (exclusion_names p.exclusions) h.exclusions_apart;
         with_product = h.with_product;
-        ordered = each_part IsWellFormedMaterial (λ (m : Material). int_lt m.upper m.lower ≡ false) p.materials (λ m g. g.bounds.ordered) h.materials_formed;
-        units_sound = each_part (IsWellFormedUnit n) (IsSoundUnit n) p.units (sound_unit n) h.units_formed;
-        exclusions_sound = each_part (IsWellFormedExclusion k) (IsSoundExclusion k) p.exclusions (λ x g. let r = rises k 0 x.units g.rising in record { rising = r.rising; below = r.below }) h.exclusions_formed;
+        ordered =
+            each_part IsWellFormedMaterial (λ (m : Material). int_lt m.upper m.lower ≡ false)
+            p.materials (λ m g. g.bounds.ordered) h.materials_formed;
+        units_sound =
+            each_part (IsWellFormedUnit n) (IsSoundUnit n) p.units (sound_unit n) h.units_formed;
+        exclusions_sound =
+            each_part (IsWellFormedExclusion k) (IsSoundExclusion k) p.exclusions
+            (λ x g. let r = rises k 0 x.units g.rising in
+            record { rising = r.rising; below = r.below }) h.exclusions_formed;
         few_materials = h.few_materials;
         few_units = h.few_units;
         few_exclusions = h.few_exclusions;
       };
       good = record {
-        materials = each_part IsWellFormedMaterial IsGoodMaterial p.materials (λ m g. record { named = g.named; price = g.price_in_range; lower = g.bounds.lower_bound; upper = g.bounds.upper_bound }) h.materials_formed;
+        materials =
+            each_part IsWellFormedMaterial IsGoodMaterial p.materials
+            (λ m g. record {
+              named = g.named;
+              price = g.price_in_range;
+              lower =
+                  g.bounds.lower_bound;
+              upper = g.bounds.upper_bound;
+            }) h.materials_formed;
         units = each_part (IsWellFormedUnit n) IsGoodUnit p.units (good_unit n) h.units_formed;
-        exclusions = each_part (IsWellFormedExclusion k) IsGoodExclusion p.exclusions (λ x g. record { named = g.named; enough = g.enough }) h.exclusions_formed;
+        exclusions =
+            each_part (IsWellFormedExclusion k) IsGoodExclusion p.exclusions
+            (λ x g. record { named = g.named; enough = g.enough }) h.exclusions_formed;
         payout_positive = h.payout_positive;
         payout_limit = h.payout_limit;
       };
@@ -102,9 +130,29 @@ valid_from_well p w =
       few_materials = s.few_materials;
       few_units = s.few_units;
       few_exclusions = s.few_exclusions;
-      materials_formed = Each-both IsGoodMaterial (λ (m : Material). int_lt m.upper m.lower ≡ false) IsWellFormedMaterial p.materials (λ m a b. record { named = a.named; price_in_range = a.price; bounds = record { lower_bound = a.lower; upper_bound = a.upper; ordered = b } }) g.materials s.ordered;
-      units_formed = Each-both IsGoodUnit (IsSoundUnit n) (IsWellFormedUnit n) p.units (well_formed_unit n) g.units s.units_sound;
-      exclusions_formed = Each-both IsGoodExclusion (IsSoundExclusion k) (IsWellFormedExclusion k) p.exclusions (λ x a b. record { named = a.named; enough = a.enough; rising = rising_from k 0 x.units (record { rising = b.rising; below = b.below; above = from_zero x.units }) }) g.exclusions s.exclusions_sound;
+      materials_formed =
+          Each-both IsGoodMaterial (λ (m : Material). int_lt m.upper m.lower ≡ false)
+          IsWellFormedMaterial p.materials
+          (λ m a b. record {
+            named = a.named;
+            price_in_range = a.price;
+            bounds =
+                record { lower_bound = a.lower; upper_bound = a.upper; ordered = b };
+          }) g.materials
+          s.ordered;
+      units_formed =
+          Each-both IsGoodUnit (IsSoundUnit n) (IsWellFormedUnit n) p.units (well_formed_unit n)
+          g.units s.units_sound;
+      exclusions_formed =
+          Each-both IsGoodExclusion (IsSoundExclusion k) (IsWellFormedExclusion k) p.exclusions
+          (λ x a b. record {
+            named = a.named;
+            enough = a.enough;
+            rising =
+                rising_from k 0 x.units
+                (record { rising = b.rising; below = b.below; above = from_zero x.units });
+          }) g.exclusions
+          s.exclusions_sound;
       materials_apart = from_apart (material_names p.materials) s.materials_apart;
       units_apart = from_apart (unit_names p.units) s.units_apart;
       exclusions_apart = from_apart (exclusion_names p.exclusions) s.exclusions_apart;
@@ -115,24 +163,38 @@ valid_from_well p w =
 
 -- ---- edits and scripts
 
-stays_well : (p : Problem) → IsWell p → (e : Edit) → IsFormed e → AreClear (checks p e) → IsWell (effect p e)
+stays_well : (p : Problem) → IsWell p → (e : Edit) → IsFormed e → AreClear (checks p e)
+    → IsWell (effect p e)
 stays_well p w e g h = record { sound = stays_sound p w.sound e h; good = stays_formed p w e g h }
 
-pub edit_keeps_valid : (p : Problem) → IsValid p → (e : Edit) → IsFormed e → AreClear (checks p e) → IsValid (effect p e)
+pub edit_keeps_valid : (p : Problem) → IsValid p → (e : Edit) → IsFormed e → AreClear (checks p e)
+    → IsValid (effect p e)
 edit_keeps_valid p v e g h = valid_from_well (effect p e) (stays_well p (well_from_valid p v) e g h)
 
-pub inverse_is_formed : (p : Problem) → IsValid p → (e : Edit) → IsFormed e → AreClear (checks p e) → Each IsFormed (inverse p e)
+pub inverse_is_formed : (p : Problem) → IsValid p → (e : Edit) → IsFormed e → AreClear (checks p e)
+    → Each IsFormed (inverse p e)
 inverse_is_formed p v e g h = inverse_formed p (well_from_valid p v) e g h
 
-script_well : (p : Problem) → IsWell p → (es : List Edit) → Each IsFormed es → CanApply p es → IsWell (applied p es)
+script_well : (p : Problem) → IsWell p → (es : List Edit) → Each IsFormed es → CanApply p es
+    → IsWell (applied p es)
 script_well p w [] g h = w
 script_well p w (e ∷ es) g h = script_well (effect p e) (stays_well p w e g.0 h.0) es g.1 h.1
 
-script_formed : (p : Problem) → IsWell p → (es : List Edit) → Each IsFormed es → CanApply p es → Each IsFormed (undoing p es)
+script_formed : (p : Problem) → IsWell p → (es : List Edit) → Each IsFormed es → CanApply p es
+    → Each IsFormed (undoing p es)
 script_formed p w [] g h = tt
-script_formed p w (e ∷ es) g h = each-append IsFormed (undoing (effect p e) es) (inverse p e) (script_formed (effect p e) (stays_well p w e g.0 h.0) es g.1 h.1) (inverse_formed p w e g.0 h.0)
+script_formed p w (e ∷ es) g h =
+    each-append IsFormed (undoing (effect p e) es) (inverse p e)
+    (script_formed (effect p e) (stays_well p w e g.0 h.0) es g.1 h.1)
+    (inverse_formed p w e g.0 h.0)
 
-pub scripts_are_undone : (p : Problem) → IsValid p → (es : List Edit) → Each IsFormed es → CanApply p es → AreUndone p es
+pub scripts_are_undone : (p : Problem) → IsValid p → (es : List Edit) → Each IsFormed es
+    → CanApply p es → AreUndone p es
 scripts_are_undone p v es g h =
     let w = well_from_valid p v in
-    record { valid = valid_from_well (applied p es) (script_well p w es g h); formed = script_formed p w es g h; back = script_is_undone p w.sound es h }
+    record {
+      valid = valid_from_well (applied p es) (script_well p w es g h);
+      formed =
+          script_formed p w es g h;
+      back = script_is_undone p w.sound es h;
+    }

@@ -1,4 +1,4 @@
--- The laws of edits, each of which a public function of this crate has as its contract.
+-- The laws of edits. Each is the contract of a public function of this crate.
 use Rattle.std.specs.Prelude.{List}
 use Rattle.problem_rules.specs.Problem.{Problem}
 use Rattle.problem_rules.specs.Each.{Each}
@@ -11,14 +11,16 @@ use Rattle.edit_rules.specs.Script.{applied, CanApply, undoing, LeadsTo}
 
 -- the problem after an edit without a fault is valid
 abbrev pub EditsKeepValid : Type 0
-EditsKeepValid = (p : Problem) → IsValid p → (e : Edit) → IsFormed e → AreClear (checks p e) → IsValid (effect p e)
+EditsKeepValid = (p : Problem) → IsValid p → (e : Edit) → IsFormed e → AreClear (checks p e)
+    → IsValid (effect p e)
 
--- of edits that a problem takes: the problem after them is valid, the edits that undo them have no fault of form, and they
--- lead back to the problem before, the places of its items included
+-- of edits that a problem takes: the problem after them is valid, and the edits that undo them have
+-- no fault of form and lead back to the problem before, with its items at their old places
 pub record AreUndone (p : Problem) (es : List Edit) : Type 0 where
   pub valid : IsValid (applied p es)
   pub formed : Each IsFormed (undoing p es)
   pub back : LeadsTo (applied p es) (undoing p es) p
 
 abbrev pub ScriptsAreUndone : Type 0
-ScriptsAreUndone = (p : Problem) → IsValid p → (es : List Edit) → Each IsFormed es → CanApply p es → AreUndone p es
+ScriptsAreUndone = (p : Problem) → IsValid p → (es : List Edit) → Each IsFormed es → CanApply p es
+    → AreUndone p es

@@ -1,14 +1,15 @@
-//! The laws as contracts: a call tells a proof its law, and does nothing.
+//! The laws as contracts: a call gives its law to a proof, and does nothing.
 ghost use Rattle.edit_laws.specs.Laws.{EditsKeepValid, ScriptsAreUndone};
 
-/// The problem after an edit without a fault is valid, and so is the problem after each line of a script.
+/// The problem after an edit without a fault is valid, and so is the problem after each line of a
+/// script.
 pub fn edits_keep_valid()
     ensures { EditsKeepValid }
 {}
 
-/// For every valid problem and all edits that it takes one after another: the problem after them is valid, the edits that
-/// undo them have no fault of form, the problem after takes these, and they give the problem before, the places of its
-/// items included.
+/// For every valid problem and all edits that it takes one after another: the problem after them is
+/// valid, and the edits that undo them have no fault of form. The problem after them takes these
+/// edits, and they give the problem before, with its items at their old places.
 pub fn scripts_are_undone()
     ensures { ScriptsAreUndone }
 {}

@@ -1,10 +1,13 @@
-//! Laws of the edits of a problem, over their definitions alone: edits without a fault keep a problem valid, and the edits
-//! that undo a script lead back to the problem before it.
+//! Edits without a fault keep a problem valid, undos lead back, migrations keep flows.
 //!
-//! `specs/Laws` states them. Each is the contract of a function of [`laws`] that does nothing: a caller's proof has the law
-//! behind the call. [`scripts`](printed_scripts_read) has that the printed text of a script reads as its edits (`specs/ScriptLaws`), and
-//! [`migration`](migrations_apply) that the edits of a migration from yearly costs to investments are taken and keep the flows
-//! (`specs/MigrationLaws`). They stand apart from the code that applies edits, so that a change of it does not check them again.
+//! These are laws of the edits of a problem, over their definitions alone. Each is the contract of
+//! a function that does nothing: a call gives the law to the caller's proof. They are in a crate
+//! apart from the code that applies edits, so that a change of that code does not check them again.
+//!
+//! [`laws`] has those of `specs/Laws`. [`scripts`](printed_scripts_read) has that the printed text
+//! of a script reads as its edits (`specs/ScriptLaws`). [`migration`](migrations_apply) has that
+//! the edits of a migration from yearly costs to investments are taken and keep the flows
+//! (`specs/MigrationLaws`).
 #![tactic(auto)]
 
 pub mod laws;

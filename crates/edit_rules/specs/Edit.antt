@@ -1,5 +1,6 @@
--- An edit of a synthesis problem, in the names of its materials, operating units and exclusions. Prices, bounds, costs and
--- rates are whole millionths, the payout period whole years; places count from 0.
+-- An edit of a synthesis problem, with the names of its materials, operating units and exclusions.
+-- Prices, bounds, costs and rates are whole millionths, and the payout period is whole years.
+-- Places count from 0.
 use Rattle.std.specs.Prelude.{ℕ, ℤ, List}
 use Rattle.problem_rules.specs.Problem.{Kind}
 

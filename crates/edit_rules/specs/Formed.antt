@@ -1,12 +1,17 @@
--- What each edit of a script has by itself, whatever the problem: names are names, amounts are within 10^9, bounds, fixed costs
--- and rates have their signs, a new unit has terms on both sides and no material twice, an exclusion has two units or more.
--- The reader of scripts refuses every other edit.
-use Rattle.std.specs.Prelude.{◌≡◌, ◌<◌, ◌≤◌, ◌+◌, ◌^◌, ℕ, true, false, List, [], ◌∷◌, length, map, ℤ, pos, int_lt, unsigned_abs}
+-- What each edit of a script has whatever the problem. Names are names, amounts are within 10^9,
+-- and bounds, fixed costs and rates have their signs. A new unit has terms on both sides and no
+-- material twice; an exclusion has two units or more. The reader of scripts refuses every other
+-- edit.
+use Rattle.std.specs.Prelude.{◌≡◌, ◌<◌, ◌≤◌, ◌+◌, ◌^◌, ℕ, true, false, List, [], ◌∷◌, length, map}
+use Rattle.std.specs.Prelude.{ℤ, pos, int_lt, unsigned_abs}
 use Rattle.std.specs.List.{list_any}
 use Rattle.problem_rules.specs.Each.{Each}
 use Rattle.problem_rules.specs.Names.{is_name, is_among, has_double}
 use Rattle.problem_rules.specs.WellFormed.{IsInRange, IsBound}
-use Rattle.edit_rules.specs.Edit.{NamedTerm, Edit, price, bounds, kind, capacity, fix, proportional, rename_material, rename_unit, add_material, remove_material, add_unit, remove_unit, exclude, unexclude, investment, payout, Script}
+use Rattle.edit_rules.specs.Edit.{NamedTerm, Edit, price, bounds, kind, capacity, fix, proportional}
+use Rattle.edit_rules.specs.Edit.{rename_material, rename_unit, add_material, remove_material}
+use Rattle.edit_rules.specs.Edit.{add_unit, remove_unit, exclude, unexclude, investment, payout}
+use Rattle.edit_rules.specs.Edit.{Script}
 
 abbrev pub IsName : List ℕ → Type 0
 IsName name = is_name name ≡ true
@@ -33,19 +38,20 @@ pub record IsFormedTerm (t : NamedTerm) : Type 0 where
   pub in_range : IsInRange t.rate
   pub positive : int_lt (pos 0) t.rate ≡ true
 
--- one side of a unit: terms, no material twice
+-- one side of a unit: at least one term, and no material twice
 pub record IsFormedSide (terms : List NamedTerm) : Type 0 where
   pub some : 0 < length terms
   pub terms_formed : Each IsFormedTerm terms
   pub once : has_double (term_names terms) ≡ false
 
--- no material stands on both sides
+-- in addition, no material is on both sides
 pub record AreFormedSides (inputs outputs : List NamedTerm) : Type 0 where
   pub inputs_formed : IsFormedSide inputs
   pub outputs_formed : IsFormedSide outputs
   pub apart : list_any (is_among (term_names outputs)) (term_names inputs) ≡ false
 
-pub record IsFormedUnit (at : ℕ) (name : List ℕ) (lower upper fix proportional : ℤ) (inputs outputs : List NamedTerm) : Type 0 where
+pub record IsFormedUnit (at : ℕ) (name : List ℕ) (lower upper fix proportional : ℤ)
+    (inputs outputs : List NamedTerm) : Type 0 where
   pub place : IsPlace at
   pub named : IsName name
   pub bounds : AreSignedBounds lower upper
@@ -77,7 +83,8 @@ IsFormed (rename_material old new) = IsName old × IsName new
 IsFormed (rename_unit old new) = IsName old × IsName new
 IsFormed (add_material at name k value lower upper) = IsFormedMaterial at name value lower upper
 IsFormed (remove_material material) = IsName material
-IsFormed (add_unit at name lower upper fixed per_size inputs outputs) = IsFormedUnit at name lower upper fixed per_size inputs outputs
+IsFormed (add_unit at name lower upper fixed per_size inputs outputs) =
+    IsFormedUnit at name lower upper fixed per_size inputs outputs
 IsFormed (remove_unit unit) = IsName unit
 IsFormed (exclude at name units) = IsFormedExclusion at name units
 IsFormed (unexclude name) = IsName name
@@ -89,17 +96,18 @@ abbrev pub AreRising : ℕ → List ℕ → Type 0
 AreRising low [] = Unit {0}
 AreRising low (n ∷ ns) = (low < n) × AreRising n ns
 
--- no edit has a fault of form, and each has its line behind the first, which says what the text is
+-- No edit has a fault of form. Each edit has a line of its own, after the first line, which says
+-- what the text is.
 pub record IsFormedScript (s : Script) : Type 0 where
   pub edits_formed : Each IsFormed s.edits
   pub one_line_each : length s.lines ≡ length s.edits
   pub rising : AreRising 1 s.lines
 
--- the numbers of the edits' lines where these follow one another from here on
+-- the numbers of the edits' lines if these follow one another from the given line on
 abbrev pub lines_from : ℕ → List Edit → List ℕ
 lines_from line [] = []
 lines_from line (edit ∷ edits) = line ∷ lines_from (line + 1) edits
 
--- edits that stand at lines 2, 3 and so on
+-- edits that are at lines 2, 3 and so on
 abbrev pub script_of : List Edit → Script
 script_of edits = record { edits = edits; lines = lines_from 2 edits }

@@ -1,10 +1,11 @@
--- Where a name stands in a problem. Places count from 0 in file order; a name that does not stand has the count of items as
--- its place.
+-- The place of a name in a problem. Places count from 0 in file order; a name that is not there has
+-- the count of items as its place.
 use Rattle.std.specs.Prelude.{ℕ, Bool, not, List, map, length}
 use Rattle.std.specs.List.{list_any, position_or_len}
 use Rattle.std.specs.Str.{bytes_eq}
 use Rattle.number_sets.specs.Sets.{has, listed}
-use Rattle.problem_rules.specs.Problem.{Problem, Term, material_names, unit_names, exclusion_names, material_at, unit_at}
+use Rattle.problem_rules.specs.Problem.{Problem, Term, material_names, unit_names, exclusion_names}
+use Rattle.problem_rules.specs.Problem.{material_at, unit_at}
 use Rattle.problem_rules.specs.Names.{is_among}
 use Rattle.edit_rules.specs.Edit.{NamedTerm}
 
@@ -31,12 +32,14 @@ has_exclusion p name = is_among (exclusion_names p.exclusions) name
 
 -- terms with their materials by number, and by name
 abbrev pub numbered_terms : Problem → List NamedTerm → List Term
-numbered_terms p terms = map (λ (t : NamedTerm). record { material = material_place p t.name; rate = t.rate }) terms
+numbered_terms p terms =
+    map (λ (t : NamedTerm). record { material = material_place p t.name; rate = t.rate }) terms
 
 abbrev pub named_terms : Problem → List Term → List NamedTerm
-named_terms p terms = map (λ (t : Term). record { name = (material_at p t.material).name; rate = t.rate }) terms
+named_terms p terms =
+    map (λ (t : Term). record { name = (material_at p t.material).name; rate = t.rate }) terms
 
--- a term whose material the problem has not, and a name that no unit has
+-- a term whose material is not in the problem, and a name that no unit has
 abbrev pub lacks_material : Problem → List NamedTerm → Bool
 lacks_material p terms = list_any (λ (t : NamedTerm). not (has_material p t.name)) terms
 

@@ -1,4 +1,4 @@
--- Of three kinds the least is told, whichever two are compared first.
+-- Of three kinds the least is reported, whichever two are compared first.
 use Rattle.std.proofs.Common.{◌≡◌, Option, Some, None, refl, arith}
 use Rattle.std.proofs.lemmas.Bool.Decides.{nat_tests}
 use Rattle.script_rules.specs.declared.EditKind.{EditKind}

@@ -13,5 +13,13 @@ lines_count line [] = refl
 lines_count line (edit ∷ edits) = ap suc (lines_count (line + 1) edits)
 
 -- the script of formed edits is formed
-pub script_formed : (edits : List Edit) (lines : List ℕ) → lines ≡ lines_from 2 edits → Each IsFormed edits → IsFormedScript (record { edits = edits; lines = lines })
-script_formed edits lines same formed = rw same (record { edits_formed = formed; one_line_each = lines_count 2 edits; rising = lines_rise 1 2 edits (omega arith) })
+pub script_formed : (edits : List Edit) (lines : List ℕ) → lines ≡ lines_from 2 edits
+    → Each IsFormed edits → IsFormedScript (record { edits = edits; lines = lines })
+script_formed edits lines same formed =
+    rw same
+    (record {
+      edits_formed = formed;
+      one_line_each = lines_count 2 edits;
+      rising =
+          lines_rise 1 2 edits (omega arith);
+    })

@@ -1,13 +1,15 @@
--- How the line of an edit is put together: each field behind a space. Behind the word come the place, the names and the kind;
--- then the amounts; then the sides, the units or the years.
+-- The parts of the line of an edit: each field after a space. After the word come the place, the
+-- names and the kind; then the amounts; then the sides, the units or the years.
 use Rattle.std.specs.Prelude.{ℕ, List, [], ◌∷◌, ◌++◌, codes, decimal, flat_map, map, unsigned_abs}
 use Rattle.std.specs.List.{fold}
-use Rattle.edit_rules.specs.Edit.{NamedTerm, Edit, price, bounds, kind, capacity, fix, proportional, rename_material, rename_unit, add_material, remove_material, add_unit, remove_unit, exclude, unexclude, investment, payout}
+use Rattle.edit_rules.specs.Edit.{NamedTerm, Edit, price, bounds, kind, capacity, fix, proportional}
+use Rattle.edit_rules.specs.Edit.{rename_material, rename_unit, add_material, remove_material}
+use Rattle.edit_rules.specs.Edit.{add_unit, remove_unit, exclude, unexclude, investment, payout}
 use Rattle.text_rules.specs.Canonical.{kind_word}
 use Rattle.text_rules.specs.Printed.{amount_bytes}
 use Rattle.script_rules.specs.Printed.{term_tokens, side_tokens, edit_line, printed}
 
--- what stands when the fields were appended
+-- the text with the fields appended
 abbrev pub appended : List ℕ → List (List ℕ) → List ℕ
 appended = fold (λ text field. text ++ 32 ∷ field)
 
@@ -35,18 +37,21 @@ amounts_of (bounds material lower upper) = amount_bytes lower ∷ amount_bytes u
 amounts_of (capacity unit lower upper) = amount_bytes lower ∷ amount_bytes upper ∷ []
 amounts_of (fix unit value) = amount_bytes value ∷ []
 amounts_of (proportional unit value) = amount_bytes value ∷ []
-amounts_of (add_material at name k value lower upper) = amount_bytes value ∷ amount_bytes lower ∷ amount_bytes upper ∷ []
-amounts_of (add_unit at name lower upper fixed per_size inputs outputs) = amount_bytes lower ∷ amount_bytes upper ∷ amount_bytes fixed ∷ amount_bytes per_size ∷ []
+amounts_of (add_material at name k value lower upper) =
+    amount_bytes value ∷ amount_bytes lower ∷ amount_bytes upper ∷ []
+amounts_of (add_unit at name lower upper fixed per_size inputs outputs) =
+    amount_bytes lower ∷ amount_bytes upper ∷ amount_bytes fixed ∷ amount_bytes per_size ∷ []
 amounts_of (investment unit fixed per_size) = amount_bytes fixed ∷ amount_bytes per_size ∷ []
 amounts_of edit = []
 
 abbrev pub tail_of : Edit → List (List ℕ)
-tail_of (add_unit at name lower upper fixed per_size inputs outputs) = codes ":" ∷ side_tokens inputs ++ codes "=>" ∷ side_tokens outputs
+tail_of (add_unit at name lower upper fixed per_size inputs outputs) =
+    codes ":" ∷ side_tokens inputs ++ codes "=>" ∷ side_tokens outputs
 tail_of (exclude at name units) = units
 tail_of (payout years) = decimal (unsigned_abs years) ∷ []
 tail_of edit = []
 
--- terms behind the first of a side, each behind a `+`
+-- the terms after the first of a side, each after a `+`
 abbrev pub further_terms : List NamedTerm → List (List ℕ)
 further_terms [] = []
 further_terms (t ∷ ts) = codes "+" ∷ term_tokens t ++ further_terms ts

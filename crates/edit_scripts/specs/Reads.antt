@@ -1,4 +1,5 @@
--- What a reader of a line answers: what its tokens stand for in the grammar, or the grammar's fault; want of memory tells nothing.
+-- What a reader of a line answers: what its tokens stand for in the grammar, or the grammar's
+-- fault. Out of memory says nothing.
 use Rattle.std.specs.Prelude.{◌≡◌, Result, Ok, Err}
 use Rattle.text_lines.specs.declared.fault.LineFault.{LineFault}
 use Rattle.text_lines.specs.Tells.{TellsLine}

@@ -1,4 +1,4 @@
--- A reading that goes on: the edits that were read, and then the lines that are to come.
+-- A reading that continues: the edits that were read, and then the lines that remain.
 use Rattle.std.specs.Prelude.{◌++◌, ℕ, List, map, Result, Ok, Err}
 use Rattle.edit_rules.specs.Edit.{Edit, Script}
 use Rattle.script_rules.specs.Fault.{Fault}
@@ -7,8 +7,10 @@ use Rattle.edit_scripts.specs.View.{edit_of}
 use Rattle.edit_scripts.specs.declared.read.Walk.{Walk}
 
 abbrev pub with_front : List Edit → List ℕ → Result Script Fault → Result Script Fault
-with_front edits lines (Ok script) = Ok (record { edits = edits ++ script.edits; lines = lines ++ script.lines })
+with_front edits lines (Ok script) =
+    Ok (record { edits = edits ++ script.edits; lines = lines ++ script.lines })
 with_front edits lines (Err fault) = Err fault
 
 abbrev pub read_on : Walk → ℕ → List (List ℕ) → Result Script Fault
-read_on walk number texts = with_front (map edit_of walk.edits.items) walk.lines.items (lines_read number texts)
+read_on walk number texts =
+    with_front (map edit_of walk.edits.items) walk.lines.items (lines_read number texts)

@@ -2,8 +2,8 @@
 use crate::term::NamedTerm;
 use pns_problem::Kind;
 
-/// An edit of a problem, in the names of its materials, units and exclusions. Prices, bounds, costs and rates are in
-/// millionths; `at` is a place, counted from 0.
+/// An edit of a problem, with the names of its materials, units and exclusions. Prices, bounds,
+/// costs and rates are in millionths; `at` is a place, counted from 0.
 #[derive(Drop)]
 pub enum Edit {
     /// Sets the price of a material.
@@ -57,7 +57,7 @@ pub enum Edit {
         lower: i64,
         upper: i64,
     },
-    /// Takes a material out that no unit has.
+    /// Removes a material that no unit has.
     RemoveMaterial {
         material: String,
     },
@@ -72,7 +72,7 @@ pub enum Edit {
         inputs: Vec<NamedTerm>,
         outputs: Vec<NamedTerm>,
     },
-    /// Takes a unit out that no exclusion names.
+    /// Removes a unit that no exclusion names.
     RemoveUnit {
         unit: String,
     },
@@ -82,7 +82,7 @@ pub enum Edit {
         name: String,
         units: Vec<String>,
     },
-    /// Takes an exclusion out.
+    /// Removes an exclusion.
     Unexclude {
         name: String,
     },

@@ -2,8 +2,8 @@
 use script_rules::EditKind;
 use text_lines::fault;
 
-/// The first fault of a script, or want of memory.
+/// The first fault of a script, or out of memory.
 pub type EditFault = fault::TextFault<EditKind>;
 
-/// The fault of a line, or want of memory.
+/// The fault of a line, or out of memory.
 pub type LineFault = fault::LineFault<EditKind>;

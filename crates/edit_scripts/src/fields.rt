@@ -1,4 +1,4 @@
-//! What stands behind the first token of a line, for the forms that several words share.
+//! The tokens after the first of a line, for the forms that several words share.
 ghost use Rattle.std.specs.Prelude.{◌≡◌, Ok, IfOk, IfErr, string_bytes};
 ghost use Rattle.text_lines.specs.View.{texts};
 ghost use Rattle.text_lines.specs.Tells.{TellsLine};
@@ -26,7 +26,8 @@ pub(crate) fn name(alloc: Global, fields: &[&[u8]]) -> Result<String, LineFault>
 
 /// An old and a new name.
 pub(crate) fn names(alloc: Global, fields: &[&[u8]]) -> Result<(String, String), LineFault>
-    ensures { Reads (λ read. (string_bytes read.0, string_bytes read.1)) (names_read (texts fields.now)) result }
+    ensures { Reads (λ read. (string_bytes read.0, string_bytes read.1))
+        (names_read (texts fields.now)) result }
 {
     match fields {
         [old, new] => {
@@ -53,7 +54,8 @@ pub fn amount<'a>(fields: &[&'a [u8]]) -> Result<(&'a str, i64), LineFault>
 
 /// A name, a lower and an upper bound.
 pub fn bounds<'a>(fields: &[&'a [u8]]) -> Result<(&'a str, i64, i64), LineFault>
-    ensures ok { IfOk result (λ read. bounds_read (texts fields.now) ≡ Ok (read.0.now, (read.1, read.2))) }
+    ensures ok { IfOk result
+        (λ read. bounds_read (texts fields.now) ≡ Ok (read.0.now, (read.1, read.2))) }
     ensures fault { IfErr result (TellsLine (bounds_read (texts fields.now))) }
 {
     match fields {

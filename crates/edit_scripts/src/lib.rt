@@ -1,10 +1,12 @@
-//! Edit scripts: the edits of a problem as values, the reader of their text, and the text that is printed. `read_script`
-//! gives the edits with the numbers of their lines, or the first fault of form; `print_script` gives a script's one text.
-//! A `Script` holds no edit with a fault of form.
+//! Edit scripts as values, with their reader and their printer.
 //!
-//! Modules: `edit`, `term`, `script` and `fault` (the values), `token` (what is wrong with one token), `sides` (the terms
-//! of a new unit), `fields` and `insertion` (the forms of lines), `line` (one line), `read`, `print`. Other texts with the same
-//! names and amounts are read with `fields`.
+//! A script has edits of a problem. `read_script` gives the edits with the numbers of their lines,
+//! or the first fault of form. `print_script` gives the one text of a script. No edit of a `Script`
+//! has a fault of form.
+//!
+//! Modules: `edit`, `term`, `script` and `fault` (the values), `token` (what is wrong with one
+//! token), `sides` (the terms of a new unit), `fields` and `insertion` (the forms of lines), `line`
+//! (one line), `read`, `print`. Other texts with the same names and amounts are read with `fields`.
 #![tactic(auto)]
 
 mod edit;

@@ -96,7 +96,7 @@ fn payout(fields: &[&[u8]]) -> Result<Edit, LineFault>
     }
 }
 
-// What stands behind the word.
+// The edit of the tokens after the word.
 fn read_fields(alloc: Global, word: Word, fields: &[&[u8]]) -> Result<Edit, LineFault>
     ensures { Reads edit_of (fields_read word (texts fields.now)) result }
 {
@@ -139,7 +139,7 @@ fn read_fields(alloc: Global, word: Word, fields: &[&[u8]]) -> Result<Edit, Line
     }
 }
 
-/// The edit at a line that is not empty, or what is wrong with it.
+/// The edit of a line that is not empty, or what is wrong with it.
 pub(crate) fn read_line(alloc: Global, text: &[u8]) -> Result<Edit, LineFault>
     ensures { Reads edit_of (line_read text.now) result }
 {

@@ -4,7 +4,8 @@ ghost use Rattle.text_rules.specs.Printed.{amount_bytes};
 ghost use Rattle.text_rules.specs.Canonical.{kind_word};
 ghost use Rattle.pns_problem.specs.Kind.{kind_of};
 ghost use Rattle.script_rules.specs.Line.{word_text};
-ghost use Rattle.script_rules.specs.Printed.{word_of, term_tokens, side_tokens, edit_line, script_text};
+ghost use Rattle.script_rules.specs.Printed.{word_of, term_tokens, side_tokens, edit_line};
+ghost use Rattle.script_rules.specs.Printed.{script_text};
 ghost use Rattle.edit_scripts.specs.Printing.{appended, head_of, amounts_of, tail_of, edit_lines};
 ghost use Rattle.edit_scripts.specs.View.{edit_of};
 
@@ -15,7 +16,8 @@ use pns_problem::{Kind, amount_text};
 use std::alloc::{AllocError, Global};
 
 fn push_field(text: &mut String, field: &str) -> Result<(), AllocError>
-    ensures { OnOk result (string_bytes text.new ≡ appended (string_bytes text.old) (field.now ∷ [])) }
+    ensures { OnOk result
+        (string_bytes text.new ≡ appended (string_bytes text.old) (field.now ∷ [])) }
 {
     text.push(' ')?;
     text.push_str(field)?;
@@ -23,7 +25,8 @@ fn push_field(text: &mut String, field: &str) -> Result<(), AllocError>
 }
 
 fn push_amounts(alloc: Global, text: &mut String, amounts: &[i64]) -> Result<(), AllocError>
-    ensures { OnOk result (string_bytes text.new ≡ appended (string_bytes text.old) (map amount_bytes amounts.now)) }
+    ensures { OnOk result
+        (string_bytes text.new ≡ appended (string_bytes text.old) (map amount_bytes amounts.now)) }
 {
     'printing: for amount in amounts {
         push_field(text, &amount_text(alloc, *amount)?)?;
@@ -32,7 +35,8 @@ fn push_amounts(alloc: Global, text: &mut String, amounts: &[i64]) -> Result<(),
 }
 
 fn push_names(text: &mut String, names: &[String]) -> Result<(), AllocError>
-    ensures { OnOk result (string_bytes text.new ≡ appended (string_bytes text.old) (map string_bytes names.now)) }
+    ensures { OnOk result
+        (string_bytes text.new ≡ appended (string_bytes text.old) (map string_bytes names.now)) }
 {
     'printing: for name in names {
         push_field(text, name)?;
@@ -42,7 +46,8 @@ fn push_names(text: &mut String, names: &[String]) -> Result<(), AllocError>
 
 /// A rate of 1 is left out.
 fn push_term(alloc: Global, text: &mut String, term: &NamedTerm) -> Result<(), AllocError>
-    ensures { OnOk result (string_bytes text.new ≡ appended (string_bytes text.old) (term_tokens term.now)) }
+    ensures { OnOk result
+        (string_bytes text.new ≡ appended (string_bytes text.old) (term_tokens term.now)) }
 {
     if term.rate.unsigned_abs() != 1_000_000 {
         push_field(text, &amount_text(alloc, term.rate)?)?;
@@ -52,7 +57,8 @@ fn push_term(alloc: Global, text: &mut String, term: &NamedTerm) -> Result<(), A
 
 #[tactic(auto, using(crate::proofs::Printing::side_of_terms))]
 fn push_side(alloc: Global, text: &mut String, terms: &[NamedTerm]) -> Result<(), AllocError>
-    ensures { OnOk result (string_bytes text.new ≡ appended (string_bytes text.old) (side_tokens terms.now)) }
+    ensures { OnOk result
+        (string_bytes text.new ≡ appended (string_bytes text.old) (side_tokens terms.now)) }
 {
     let [first, rest @ ..] = terms else {
         return Ok(());
@@ -100,7 +106,8 @@ fn kind_word(kind: Kind) -> &'static str
 
 // The place, the names and the kind.
 fn push_head(text: &mut String, edit: &Edit) -> Result<(), AllocError>
-    ensures { OnOk result (string_bytes text.new ≡ appended (string_bytes text.old) (head_of (edit_of edit.now))) }
+    ensures { OnOk result
+        (string_bytes text.new ≡ appended (string_bytes text.old) (head_of (edit_of edit.now))) }
 {
     match edit {
         Edit::AddMaterial { at, name, kind, .. } => {
@@ -128,7 +135,8 @@ fn push_head(text: &mut String, edit: &Edit) -> Result<(), AllocError>
 
 // The amounts.
 fn push_amounts_of(alloc: Global, text: &mut String, edit: &Edit) -> Result<(), AllocError>
-    ensures { OnOk result (string_bytes text.new ≡ appended (string_bytes text.old) (amounts_of (edit_of edit.now))) }
+    ensures { OnOk result
+        (string_bytes text.new ≡ appended (string_bytes text.old) (amounts_of (edit_of edit.now))) }
 {
     match edit {
         Edit::Price { value, .. } | Edit::Fix { value, .. } | Edit::Proportional { value, .. } => {
@@ -162,7 +170,8 @@ fn push_amounts_of(alloc: Global, text: &mut String, edit: &Edit) -> Result<(), 
 // The sides, the units or the years.
 #[tactic(auto, using(crate::proofs::Printing::two_sides))]
 fn push_tail(alloc: Global, text: &mut String, edit: &Edit) -> Result<(), AllocError>
-    ensures { OnOk result (string_bytes text.new ≡ appended (string_bytes text.old) (tail_of (edit_of edit.now))) }
+    ensures { OnOk result
+        (string_bytes text.new ≡ appended (string_bytes text.old) (tail_of (edit_of edit.now))) }
 {
     match edit {
         Edit::AddUnit {
@@ -183,7 +192,8 @@ fn push_tail(alloc: Global, text: &mut String, edit: &Edit) -> Result<(), AllocE
 
 #[tactic(auto, using(crate::proofs::Printing::line_of))]
 fn push_line(alloc: Global, text: &mut String, edit: &Edit) -> Result<(), AllocError>
-    ensures { OnOk result (string_bytes text.new ≡ string_bytes text.old ++ edit_line (edit_of edit.now)) }
+    ensures { OnOk result
+        (string_bytes text.new ≡ string_bytes text.old ++ edit_line (edit_of edit.now)) }
 {
     text.push_str(word_text(edit))?;
     push_head(text, edit)?;
@@ -192,7 +202,8 @@ fn push_line(alloc: Global, text: &mut String, edit: &Edit) -> Result<(), AllocE
 }
 
 fn push_lines(alloc: Global, text: &mut String, edits: &[Edit]) -> Result<(), AllocError>
-    ensures { OnOk result (string_bytes text.new ≡ string_bytes text.old ++ edit_lines (map edit_of edits.now)) }
+    ensures { OnOk result
+        (string_bytes text.new ≡ string_bytes text.old ++ edit_lines (map edit_of edits.now)) }
 {
     'printing: for edit in edits {
         push_line(alloc, text, edit)?;

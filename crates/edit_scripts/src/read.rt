@@ -1,5 +1,6 @@
 //! The reader of a whole script.
-ghost use Rattle.std.specs.Prelude.{◌≡◌, ◌<◌, ◌+◌, ◌-◌, ◌∷◌, ◌^◌, ℕ, List, Ok, IfOk, IfErr, OnOk, length, map};
+ghost use Rattle.std.specs.Prelude.{◌≡◌, ◌<◌, ◌+◌, ◌-◌, ◌∷◌, ◌^◌, ℕ, List, Ok, IfOk, IfErr, OnOk};
+ghost use Rattle.std.specs.Prelude.{length, map};
 ghost use Rattle.script_rules.specs.Read.{lines_read, read_script};
 ghost use Rattle.text_lines.specs.Tells.{Tells};
 ghost use Rattle.edit_scripts.specs.Walk.{read_on};
@@ -24,8 +25,12 @@ impl Walk {
     // Takes a line; an empty one is skipped.
     #[tactic(auto, using(crate::proofs::Reading::take_edit, crate::proofs::Reading::line_told))]
     fn take(&mut self, alloc: Global, number: u32, text: &[u8]) -> Result<(), EditFault>
-        ensures ok { OnOk result ((lines : List (List ℕ)) → read_on self.new (number + 1) lines ≡ read_on self.old number (text.now ∷ lines)) }
-        ensures fault { IfErr result (λ fault. (lines : List (List ℕ)) → Tells (read_on self.old number (text.now ∷ lines)) fault) }
+        ensures ok { OnOk result
+            ((lines : List (List ℕ))
+            → read_on self.new (number + 1) lines ≡ read_on self.old number (text.now ∷ lines)) }
+        ensures fault { IfErr result
+            (λ fault. (lines : List (List ℕ))
+            → Tells (read_on self.old number (text.now ∷ lines)) fault) }
     {
         if text.is_empty() {
             return Ok(());
@@ -37,10 +42,12 @@ impl Walk {
     }
 }
 
-// All lines that are still to come.
+// All lines that remain.
 #[tactic(auto, using(crate::proofs::Reading::front_none, crate::proofs::Reading::read_to_end))]
 fn walk_rest(alloc: Global, mut lines: Lines<'_>) -> Result<Walk, EditFault>
-    ensures ok { IfOk result (λ w. lines_read lines.entry.number lines.entry.lines ≡ Ok (record { edits = map edit_of w.edits.items; lines = w.lines.items })) }
+    ensures ok { IfOk result
+        (λ w. lines_read lines.entry.number lines.entry.lines
+        ≡ Ok (record { edits = map edit_of w.edits.items; lines = w.lines.items })) }
     ensures fault { IfErr result (Tells (lines_read lines.entry.number lines.entry.lines)) }
 {
     let mut walk = Walk {
@@ -53,9 +60,9 @@ fn walk_rest(alloc: Global, mut lines: Lines<'_>) -> Result<Walk, EditFault>
     Ok(walk)
 }
 
-/// The script that the text stands for. `At` comes exactly where the text has a fault of form, with the least line that
-/// has one, counted from 1, and of the faults there the one with the least number. `Memory` is want of memory, at any
-/// moment. Linear in the text.
+/// The script that the text stands for. The answer is `At` exactly if the text has a fault of form,
+/// with the first line that has one, counted from 1, and of its faults the one with the least
+/// number. The answer `Memory` means out of memory, at any moment. The time is linear in the text.
 #[tactic(auto, using(crate::proofs::Reading::typed, crate::proofs::Reading::untyped))]
 pub fn read_script(alloc: Global, bytes: &[u8]) -> Result<Script, EditFault>
     requires { length bytes.now < 2 ^ 32 - 1 }

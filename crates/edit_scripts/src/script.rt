@@ -8,7 +8,8 @@ use crate::edit::Edit;
 use std::alloc::{AllocError, Global};
 use std::marker::Model;
 
-/// Edits without a fault of form, each with the number of its line, which rise. Contracts see both lists.
+/// Edits without a fault of form, each with the number of its line; these numbers rise. Contracts
+/// see both lists.
 #[derive(Drop)]
 pub struct Script {
     edits: Vec<Edit>,
@@ -25,7 +26,8 @@ impl Model for Script {
 
     ghost view = { λ s. record { edits = map edit_of s.edits.items; lines = s.lines.items } };
 
-    ghost invariant = { λ s. IsFormedScript (record { edits = map edit_of s.edits.items; lines = s.lines.items }) };
+    ghost invariant = { λ s. IsFormedScript
+        (record { edits = map edit_of s.edits.items; lines = s.lines.items }) };
 }
 
 // The numbers of as many lines as there are edits, from 2 on.
@@ -41,7 +43,7 @@ fn lines_of(alloc: Global, edits: &[Edit]) -> Result<Vec<u32>, AllocError>
 }
 
 impl Script {
-    /// The script of these edits, which stand at lines 2, 3 and so on.
+    /// The script of these edits, which are at lines 2, 3 and so on.
     #[tactic(auto, using(crate::proofs::ScriptLines::script_formed))]
     pub fn of(alloc: Global, edits: Vec<Edit>) -> Result<Script, AllocError>
         requires formed { Each IsFormed (map edit_of edits.items) }
@@ -52,9 +54,10 @@ impl Script {
         Ok(Script { edits, lines })
     }
 
-    /// The script of edits that stand at these lines.
+    /// The script of edits that are at these lines.
     pub(crate) fn from_lines(edits: Vec<Edit>, lines: Vec<u32>) -> Script
-        requires { IsFormedScript (record { edits = map edit_of edits.items; lines = lines.items }) }
+        requires { IsFormedScript
+            (record { edits = map edit_of edits.items; lines = lines.items }) }
         ensures { result ≡ record { edits = map edit_of edits.items; lines = lines.items } }
     {
         Script { edits, lines }
@@ -74,7 +77,8 @@ impl Script {
         &self.lines
     }
 
-    /// No edit has a fault of form, and the line numbers rise. A call tells a proof so, and does nothing.
+    /// No edit has a fault of form, and the line numbers rise. A call gives this to a proof, and
+    /// does nothing.
     pub fn is_formed(&self)
         ensures { IsFormedScript self.now }
     {

@@ -4,7 +4,8 @@ ghost use Rattle.std.specs.List.{list_any};
 ghost use Rattle.problem_rules.specs.Names.{is_among};
 ghost use Rattle.text_lines.specs.Once.{once};
 ghost use Rattle.text_lines.specs.Terms.{term_view, terms_view, sides_view};
-ghost use Rattle.script_rules.specs.Term.{term_fault, terms_fault, materials_of, are_bad_sides, sides_fault, term_read};
+ghost use Rattle.script_rules.specs.Term.{term_fault, terms_fault, materials_of, are_bad_sides};
+ghost use Rattle.script_rules.specs.Term.{sides_fault, term_read};
 
 use crate::term::NamedTerm;
 use crate::token::{lesser, name_fault, name_string, rate_fault};
@@ -20,7 +21,7 @@ fn term_fault(term: &Term<'_>) -> Option<EditKind>
     lesser(rate_fault(term.number), name_fault(term.name))
 }
 
-/// What is wrong with the terms of a side one by one.
+/// What is wrong with the single terms of a side.
 #[tactic(auto, using(crate::proofs::Least::lesser_assoc, std::proofs::lemmas::Grind::common_steps))]
 pub(crate) fn terms_fault(terms: &[Term<'_>]) -> Option<EditKind>
     ensures { result ≡ terms_fault (terms_view terms.now) }
@@ -32,7 +33,7 @@ pub(crate) fn terms_fault(terms: &[Term<'_>]) -> Option<EditKind>
     found
 }
 
-// The materials of a side, where none comes twice.
+// The materials of a side, if none is there twice.
 fn materials_once<'a>(alloc: Global, terms: &[Term<'a>]) -> Result<Option<NameSet<'a>>, AllocError>
     ensures { IfOk result (λ found. found ≡ once (materials_of (terms_view terms.now))) }
 {
@@ -54,9 +55,10 @@ fn some_among(names: &NameSet<'_>, terms: &[Term<'_>]) -> bool
     false
 }
 
-// A side without terms, or a material that comes twice.
+// Whether a side has no terms, or a material is there twice.
 fn are_bad_sides(alloc: Global, sides: &Sides<'_>) -> Result<bool, AllocError>
-    ensures { IfOk result (λ bad. bad ≡ are_bad_sides (sides_view sides.now).0 (sides_view sides.now).1) }
+    ensures { IfOk result
+        (λ bad. bad ≡ are_bad_sides (sides_view sides.now).0 (sides_view sides.now).1) }
 {
     if sides.inputs.is_empty() || sides.outputs.is_empty() {
         return Ok(true);
@@ -72,7 +74,8 @@ fn are_bad_sides(alloc: Global, sides: &Sides<'_>) -> Result<bool, AllocError>
 
 /// What is wrong with the sides of a unit as a whole.
 pub(crate) fn sides_fault(alloc: Global, sides: &Sides<'_>) -> Result<Option<EditKind>, AllocError>
-    ensures { IfOk result (λ kind. kind ≡ sides_fault (sides_view sides.now).0 (sides_view sides.now).1) }
+    ensures { IfOk result
+        (λ kind. kind ≡ sides_fault (sides_view sides.now).0 (sides_view sides.now).1) }
 {
     Ok(are_bad_sides(alloc, sides)?.then_some(EditKind::BadTerms))
 }

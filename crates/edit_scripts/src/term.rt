@@ -1,7 +1,7 @@
 //! The terms of a new unit.
 use std::marker::Model;
 
-/// A material, by its name, and the rate in millionths at which a unit of size 1 uses or makes it.
+/// The name of a material, and the rate in millionths at which a unit of size 1 uses or makes it.
 #[derive(Drop)]
 pub struct NamedTerm {
     pub name: String,

@@ -1,10 +1,13 @@
-//! What is wrong with a token by its place in a line, and what it stands for.
+//! What is wrong with a token in its place of a line, and what it stands for.
 ghost use Rattle.std.specs.Prelude.{◌≡◌, ◌≤◌, IfOk, IfErr, OnOk, Some, None, string_bytes};
 ghost use Rattle.text_rules.specs.Value.{kind_of};
 ghost use Rattle.pns_problem.specs.Kind as kinds;
 ghost use Rattle.text_lines.specs.View.{texts};
 ghost use Rattle.text_lines.specs.declared.fault.LineFault.TheVariants as line;
-ghost use Rattle.script_rules.specs.Fault.{kind_number, lesser, least, some_token, number_fault, name_fault, kind_fault, amount_fault, bound_fault, rate_fault, place_of, place_fault, years_of, years_fault, names_fault};
+ghost use Rattle.script_rules.specs.Fault.{kind_number, lesser, least, some_token, number_fault};
+ghost use Rattle.script_rules.specs.Fault.{name_fault, kind_fault, amount_fault, bound_fault};
+ghost use Rattle.script_rules.specs.Fault.{rate_fault, place_of, place_fault, years_of};
+ghost use Rattle.script_rules.specs.Fault.{years_fault, names_fault};
 ghost use Rattle.script_rules.specs.Line.{word_named};
 
 use crate::fault::LineFault;
@@ -50,7 +53,7 @@ fn kind_number(kind: EditKind) -> u32
     kind as u32 + 1
 }
 
-/// The one of two kinds with the lesser number.
+/// The one of two kinds with the lesser number, if there are two.
 pub(crate) fn lesser(first: Option<EditKind>, second: Option<EditKind>) -> Option<EditKind>
     ensures { result ≡ lesser first second }
 {
@@ -75,7 +78,8 @@ pub(crate) fn least(kinds: &[Option<EditKind>]) -> Option<EditKind>
 /// Refuses a line for the least of the faults of its tokens, if one of them has a fault.
 pub(crate) fn judge(faults: &[Option<EditKind>]) -> Result<(), LineFault>
     ensures ok { OnOk result (least faults.now ≡ None) }
-    ensures fault { IfErr result (λ fault. (kind : EditKind) × (least faults.now ≡ Some kind) × (fault ≡ line.Kind kind)) }
+    ensures fault { IfErr result
+        (λ fault. (kind : EditKind) × (least faults.now ≡ Some kind) × (fault ≡ line.Kind kind)) }
 {
     match least(faults) {
         Some(kind) => Err(LineFault::Kind(kind)),
@@ -83,7 +87,7 @@ pub(crate) fn judge(faults: &[Option<EditKind>]) -> Result<(), LineFault>
     }
 }
 
-// A token without bytes is none, so the line has not its form.
+// A token without bytes makes a bad line.
 fn some_token(token: &[u8], fault: Option<EditKind>) -> Option<EditKind>
     ensures { result ≡ some_token token.now fault }
 {
@@ -94,7 +98,7 @@ fn some_token(token: &[u8], fault: Option<EditKind>) -> Option<EditKind>
     }
 }
 
-/// What is wrong with a token in a name's place.
+/// What is wrong with a token in the place of a name.
 pub(crate) fn name_fault(token: &[u8]) -> Option<EditKind>
     ensures { result ≡ name_fault token.now }
 {
@@ -113,7 +117,7 @@ pub(crate) fn names_fault(tokens: &[&[u8]]) -> Option<EditKind>
     found
 }
 
-/// What is wrong with a token in a kind word's place.
+/// What is wrong with a token in the place of a kind word.
 pub(crate) fn kind_fault(token: &[u8]) -> Option<EditKind>
     ensures { result ≡ kind_fault token.now }
 {
@@ -169,7 +173,7 @@ pub(crate) fn bound_fault(token: &[u8]) -> Option<EditKind>
     some_token(token, fault)
 }
 
-/// What is wrong with a token in a rate's place.
+/// What is wrong with a token in the place of a rate.
 pub(crate) fn rate_fault(token: &[u8]) -> Option<EditKind>
     ensures { result ≡ rate_fault token.now }
 {
@@ -181,7 +185,7 @@ pub(crate) fn rate_fault(token: &[u8]) -> Option<EditKind>
     some_token(token, fault)
 }
 
-/// What is wrong with a token in the place of a place.
+/// What is wrong with a token that has to be a place.
 pub(crate) fn place_fault(token: &[u8]) -> Option<EditKind>
     ensures { result ≡ place_fault token.now }
 {
@@ -189,14 +193,14 @@ pub(crate) fn place_fault(token: &[u8]) -> Option<EditKind>
     some_token(token, place.is_none().then_some(EditKind::BadNumber))
 }
 
-/// The place, which is 0 where the token is none.
+/// The place, which is 0 if the token is none.
 pub(crate) fn place_of(token: &[u8]) -> u32
     ensures { result ≡ place_of token.now }
 {
     whole_within(4_294_967_295, token).unwrap_or(0) as u32
 }
 
-/// The payout period in years, which is 0 where the token is none.
+/// The payout period in years, which is 0 if the token is none.
 pub(crate) fn years_of(token: &[u8]) -> u64
     ensures value { result ≡ years_of token.now }
     ensures few { result ≤ 100 }
@@ -211,7 +215,7 @@ pub(crate) fn years_fault(token: &[u8]) -> Option<EditKind>
     some_token(token, (years_of(token) < 1).then_some(EditKind::BadNumber))
 }
 
-/// The name as text. A name is ASCII; a token that is not UTF-8 has a fault and does not come here.
+/// The name as text. A name is ASCII. A token that is not UTF-8 has a fault, so it is never given.
 pub(crate) fn name_text(name: &[u8]) -> Result<&str, AllocError>
     ensures { IfOk result (λ text. text.now ≡ name.now) }
 {

@@ -9,7 +9,8 @@ printable [] = true
 printable (byte ∷ bytes) = (leb 32 byte && leb byte 126) && printable bytes
 
 -- as a computation shows
-pub printable_line : (bytes : List ℕ) → printable bytes ≡ true → Each (λ byte. (32 ≤ byte) × (byte ≤ 126)) bytes
+pub printable_line : (bytes : List ℕ) → printable bytes ≡ true
+    → Each (λ byte. (32 ≤ byte) × (byte ≤ 126)) bytes
 printable_line [] e = tt
 printable_line (byte ∷ bytes) e =
     let both = and_parts (leb 32 byte && leb byte 126) (printable bytes) e in

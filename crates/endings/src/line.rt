@@ -23,7 +23,9 @@ pub fn push_unit_names(
     set: UnitSet,
 ) -> Result<(), AllocError>
     requires { length units.now ≤ 128 }
-    ensures { OnOk result (bytes.new.items ≡ bytes.old.items ++ spaced_names (names_in (has set) 0 (unit_names units.now))) }
+    ensures { OnOk result
+        (bytes.new.items ≡ bytes.old.items
+        ++ spaced_names (names_in (has set) 0 (unit_names units.now))) }
 {
     for u in set {
         if let Some(unit) = units.get(u as usize) {
@@ -40,7 +42,9 @@ pub fn push_material_names(
     set: MatSet,
 ) -> Result<(), AllocError>
     requires { length materials.now ≤ 256 }
-    ensures { OnOk result (bytes.new.items ≡ bytes.old.items ++ spaced_names (names_in (has set) 0 (material_names materials.now))) }
+    ensures { OnOk result
+        (bytes.new.items ≡ bytes.old.items
+        ++ spaced_names (names_in (has set) 0 (material_names materials.now))) }
 {
     for x in set {
         if let Some(material) = materials.get(x as usize) {

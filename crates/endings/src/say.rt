@@ -2,15 +2,21 @@
 //!
 //! `say` and its like put an answer on standard output. `tell` and its like put on standard error a
 //! line that says why there is no answer, and after it second lines for people.
-ghost use Rattle.std.specs.Prelude.{◌≡◌, ◌≤◌, ◌<◌, ◌++◌, ◌∷◌, [], ℕ, List, IfOk, codes, length, string_bytes};
+ghost use Rattle.std.specs.Prelude.{◌≡◌, ◌≤◌, ◌<◌, ◌++◌, ◌∷◌, [], ℕ, List, IfOk, codes};
+ghost use Rattle.std.specs.Prelude.{length};
+ghost use Rattle.std.specs.Prelude.{string_bytes};
 ghost use Rattle.io_rules.specs.State.{OutputsState};
 ghost use Rattle.tree_text_rules.specs.Line.{Token};
 ghost use Rattle.tree_text.specs.Prints.{Prints};
 ghost use Rattle.studio_rules.specs.Lines.{line, text_of};
 ghost use Rattle.studio_rules.specs.Seconds.{AreSeconds};
 ghost use Rattle.studio_rules.specs.Printed.{OneAnswer};
-ghost use Rattle.studio_rules.specs.Ending.{Ends, Tells, Only, OrMemory, IsOneOf, IsAnswer, IsUnfinished, IsRefusal};
-ghost use Rattle.studio_rules.specs.declared.status.Status.TheVariants.{Done, Past, Spent, Memory};
+ghost use Rattle.studio_rules.specs.Ending.{Ends, Tells, Only, OrMemory, IsOneOf};
+ghost use Rattle.studio_rules.specs.Ending.{IsAnswer};
+ghost use Rattle.studio_rules.specs.Ending.{IsUnfinished, IsRefusal};
+ghost use Rattle.studio_rules.specs.declared.status.Status.TheVariants.{Done, Past};
+ghost use Rattle.studio_rules.specs.declared.status.Status.TheVariants.{Spent};
+ghost use Rattle.studio_rules.specs.declared.status.Status.TheVariants.{Memory};
 
 use crate::line::line_of;
 use crate::outputs::{put_answer, put_error};
@@ -110,7 +116,8 @@ pub fn say_of<K: Sink, E: Sink>(
     status: Status,
 ) -> Status
     requires { IsAnswer status }
-    ensures { Ends (OrMemory (Only status (line (head.now ++ tail.now)))) out.old out.new result }
+    ensures { Ends (OrMemory (Only status (line (head.now ++ tail.now)))) out.old out.new
+        result }
 {
     match line_of(alloc, head, tail) {
         Ok(bytes) => say(out, &bytes, status),
@@ -156,7 +163,8 @@ pub fn say_searched<K: Sink, E: Sink>(
 ) -> Status
     requires printing { IsOneOf (Done ∷ Past ∷ Spent ∷ []) status }
     requires seconds { AreSeconds notes.now }
-    ensures { (lines : List (List Token)) (old : OutputsState) → out.old.err ≡ old.err → old.out.faults ≤ out.old.out.faults → Prints lines old.out out.old.out printed
+    ensures { (lines : List (List Token)) (old : OutputsState) → out.old.err ≡ old.err
+        → old.out.faults ≤ out.old.out.faults → Prints lines old.out out.old.out printed
         → Ends (Tells (OneAnswer status lines)) old out.new result }
 {
     match printed {
@@ -179,7 +187,8 @@ pub fn say_printed<K: Sink, E: Sink>(
     status: Status,
 ) -> Status
     requires { IsOneOf (Done ∷ Past ∷ Spent ∷ []) status }
-    ensures { (lines : List (List Token)) (old : OutputsState) → out.old.err ≡ old.err → old.out.faults ≤ out.old.out.faults → Prints lines old.out out.old.out printed
+    ensures { (lines : List (List Token)) (old : OutputsState) → out.old.err ≡ old.err
+        → old.out.faults ≤ out.old.out.faults → Prints lines old.out out.old.out printed
         → Ends (Tells (OneAnswer status lines)) old out.new result }
 {
     say_searched(out, printed, not_finished(status), status)
@@ -222,7 +231,8 @@ pub fn tell_of<K: Sink, E: Sink>(
     status: Status,
 ) -> Status
     requires { IsRefusal status }
-    ensures { Ends (OrMemory (Only status (line (head.now ++ tail.now)))) out.old out.new result }
+    ensures { Ends (OrMemory (Only status (line (head.now ++ tail.now)))) out.old out.new
+        result }
 {
     match line_of(alloc, head, tail) {
         Ok(bytes) => tell_line(out, &bytes, status),
@@ -240,7 +250,10 @@ pub fn tell_with<K: Sink, E: Sink>(
 ) -> Status
     requires refusal { IsRefusal status }
     requires seconds { AreSeconds notes.now }
-    ensures { Ends (OrMemory (Only status (line (words.entry.0.now ++ words.entry.1.now)))) out.old out.new result }
+    ensures { Ends
+        (OrMemory (Only status (line (words.entry.0.now ++ words.entry.1.now))))
+        out.old
+        out.new result }
 {
     match line_of(alloc, words.0, words.1) {
         Ok(bytes) => tell(out, &bytes, notes, status),

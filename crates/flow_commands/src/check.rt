@@ -32,7 +32,8 @@ fn say_judged<K: Sink, E: Sink>(
     tree: &Tree,
 ) -> Status
     requires few { length tree.now < 2 ^ 32 }
-    ensures { Ends (Tells (CheckWork site.now (claim_of claim.now) tree.now)) out.old out.new result }
+    ensures { Ends (Tells (CheckWork site.now (claim_of claim.now) tree.now)) out.old out.new
+        result }
 {
     match check_tree(alloc, site, claim, tree) {
         Ok(()) => say(out, b"accepted\n", Status::Done),
@@ -53,7 +54,8 @@ fn say_checked<K: Sink, E: Sink>(
     tree: &Tree,
 ) -> Status
     requires few { length tree.now < 2 ^ 32 }
-    ensures { Ends (Tells (CheckWork problem.now (claim_of claim.now) tree.now)) out.old out.new result }
+    ensures { Ends (Tells (CheckWork problem.now (claim_of claim.now) tree.now)) out.old out.new
+        result }
 {
     let Ok(graph) = Graph::of(alloc, problem) else {
         return say_memory(out);
@@ -69,7 +71,10 @@ fn say_tree<F: Shelf, K: Sink, E: Sink>(
     shelf: &mut F,
     out: &mut Outputs<K, E>,
 ) -> Status
-    ensures ends { Ends (Says (OnTree CheckWork (F.state shelf.old).held name.now problem.now) (λ other. other ≡ name.now) (F.state shelf.old) (F.state shelf.new)) out.old out.new result }
+    ensures ends { Ends
+        (Says (OnTree CheckWork (F.state shelf.old).held name.now problem.now)
+        (λ other. other ≡ name.now) (F.state shelf.old) (F.state shelf.new)) out.old out.new
+        result }
     ensures keeps { Keeps (F.state shelf.old) (F.state shelf.new) }
 {
     match tree_of(alloc, shelf, out, name, problem) {
@@ -95,7 +100,9 @@ pub fn check<F: Shelf, K: Sink, E: Sink>(
     shelf: &mut F,
     out: &mut Outputs<K, E>,
 ) -> Status
-    ensures ends { Ends (TwoFilesSay (OnTree CheckWork) file.now tree.now (F.state shelf.old) (F.state shelf.new)) out.old out.new result }
+    ensures ends { Ends
+        (TwoFilesSay (OnTree CheckWork) file.now tree.now (F.state shelf.old) (F.state shelf.new))
+        out.old out.new result }
     ensures keeps { Keeps (F.state shelf.old) (F.state shelf.new) }
     // If the status is 0, the one file gives a valid problem and the other a claim that is best.
     ensures accepted { result ≡ Done → FilesClaimBest (F.state shelf.old).held file.now tree.now }

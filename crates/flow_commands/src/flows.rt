@@ -40,7 +40,9 @@ fn print_least<K: Sink>(
 ) -> Result<(), PrintFault>
     requires units { AreUnits problem.now network.now.units }
     requires bound { KnowsEnd problem.now (end_of bound.now) }
-    ensures prints { Prints (network_lines problem.now network.now ++ end_line problem.now (end_of bound.now) ∷ []) (K.state out.old) (K.state out.new) result }
+    ensures prints { Prints
+        (network_lines problem.now network.now ++ end_line problem.now (end_of bound.now) ∷ [])
+        (K.state out.old) (K.state out.new) result }
     ensures later { (K.state out.old).faults ≤ (K.state out.new).faults }
 {
     match print_network(alloc, problem, network, out) {
@@ -57,7 +59,9 @@ fn print_none<K: Sink>(
     out: &mut K,
 ) -> Result<(), PrintFault>
     requires { KnowsEnd problem.now (end_of refuted.now) }
-    ensures prints { Prints (claim_lines problem.now claims.infeasible ++ end_line problem.now (end_of refuted.now) ∷ []) (K.state out.old) (K.state out.new) result }
+    ensures prints { Prints
+        (claim_lines problem.now claims.infeasible ++ end_line problem.now (end_of refuted.now)
+        ∷ []) (K.state out.old) (K.state out.new) result }
     ensures later { (K.state out.old).faults ≤ (K.state out.new).faults }
 {
     match out.put(b"infeasible\n") {
@@ -158,7 +162,9 @@ pub fn flows<F: Shelf, K: Sink, E: Sink>(
     shelf: &mut F,
     out: &mut Outputs<K, E>,
 ) -> Status
-    ensures ends { Ends (FileSays (FlowsWork units.now) file.now (F.state shelf.old) (F.state shelf.new)) out.old out.new result }
+    ensures ends { Ends
+        (FileSays (FlowsWork units.now) file.now (F.state shelf.old) (F.state shelf.new)) out.old
+        out.new result }
     ensures keeps { Keeps (F.state shelf.old) (F.state shelf.new) }
 {
     match problem_of(alloc, shelf, out, file) {

@@ -1,5 +1,6 @@
 -- Names of units and rows of the program of a node are known to its problem.
-use Rattle.std.proofs.Common.{◌≡◌, Bool, List, [], ◌∷◌, length, Option, Some, None, Result, Ok, Err, IfOk, sym, subst}
+use Rattle.std.proofs.Common.{◌≡◌, Bool, List, [], ◌∷◌, length, Option, Some, None, Result, Ok, Err}
+use Rattle.std.proofs.Common.{IfOk, sym, subst}
 use Rattle.number_sets.proofs.SetLemmas.{has_below, AreBelow-listed}
 use Rattle.problem_rules.specs.Each.{Each}
 use Rattle.problem_rules.specs.Problem.{Problem}
@@ -10,7 +11,8 @@ use Rattle.flow_rules.specs.Relaxed.{units, rows}
 use Rattle.flow_rules.specs.declared.place.Column.{Column}
 use Rattle.flow_rules.specs.declared.place.Column.TheVariants.{X, S, T, W, Right, Scale}
 use Rattle.flow_rules.specs.declared.place.Place.{Place}
-use Rattle.flow_rules.specs.declared.place.Place.TheVariants.{Entry, Flow, Cost, FlowSum, Bound, Refute}
+use Rattle.flow_rules.specs.declared.place.Place.TheVariants.{Entry, Flow, Cost, FlowSum, Bound}
+use Rattle.flow_rules.specs.declared.place.Place.TheVariants.{Refute}
 use Rattle.tree_rules.specs.Known.{KnowsColumn, KnowsRow, KnowsPlace}
 use Rattle.dual_simplex.specs.Rows.{basis}
 use Rattle.dual_simplex.specs.Bench.{Bench}
@@ -31,8 +33,10 @@ module _ (p : Problem) (n : Node) where
   pub column_known : (c : Column) → IsColumnOf own c → KnowsColumn p c
   column_known (X u) h = has_below (length p.units) (units (net_of p) n) u (AreBelow-listed _ _) h
   column_known (S u) h = has_below (length p.units) (units (net_of p) n) u (AreBelow-listed _ _) h
-  column_known (T x) h = has_below (length p.materials) (rows (net_of p) n) x (AreBelow-listed _ _) h
-  column_known (W x) h = has_below (length p.materials) (rows (net_of p) n) x (AreBelow-listed _ _) h
+  column_known (T x) h =
+      has_below (length p.materials) (rows (net_of p) n) x (AreBelow-listed _ _) h
+  column_known (W x) h =
+      has_below (length p.materials) (rows (net_of p) n) x (AreBelow-listed _ _) h
   column_known Right h = tt
   column_known Scale h = tt
 
@@ -45,23 +49,32 @@ module _ (p : Problem) (n : Node) where
   row_known (Some c) h = column_known c h
 
   pub place_known : (place : Place) → IsPlaceOf own place → KnowsPlace p place
-  place_known (Entry leave enter row column which) h = (column_known leave h.0, column_known enter h.1, row_known row h.2, column_known column h.3)
-  place_known (Flow unit which) h = has_below (length p.units) (units (net_of p) n) unit (AreBelow-listed _ _) h
+  place_known (Entry leave enter row column which) h =
+      (column_known leave h.0, column_known enter h.1, row_known row h.2, column_known column h.3)
+  place_known (Flow unit which) h =
+      has_below (length p.units) (units (net_of p) n) unit (AreBelow-listed _ _) h
   place_known (Cost at) h = tt
   place_known (FlowSum at) h = tt
   place_known (Bound at) h = tt
   place_known (Refute row at) h = column_known row h
 
   -- the columns outside the kept basis
-  pub kept_known : (b : Bench) → NonbasicAreOfProgram → b.nonbasic ≡ nonbasic_named own (basis b.rows) → Each (KnowsColumn p) b.nonbasic
-  kept_known b law same = subst (Each (KnowsColumn p)) (sym same) (columns_known (nonbasic_named own (basis b.rows)) (law own (basis b.rows)))
+  pub kept_known : (b : Bench) → NonbasicAreOfProgram
+      → b.nonbasic ≡ nonbasic_named own (basis b.rows) → Each (KnowsColumn p) b.nonbasic
+  kept_known b law same =
+      subst (Each (KnowsColumn p)) (sym same)
+      (columns_known (nonbasic_named own (basis b.rows)) (law own (basis b.rows)))
 
-  pub stopped_is : {A : Type 0} (columns : List Column) (place : Place) (r : Result Evaluation A) → IsPastAt p n columns place
-      → IfOk r (λ e. e ≡ Stopped (record { nonbasic = columns; place = place })) → (decided : Bool) → IfOk r (IsEvaluated IsPastAt p n decided)
+  pub stopped_is : {A : Type 0} (columns : List Column) (place : Place) (r : Result Evaluation A)
+      → IsPastAt p n columns place
+      → IfOk r (λ e. e ≡ Stopped (record { nonbasic = columns; place = place })) → (decided : Bool)
+      → IfOk r (IsEvaluated IsPastAt p n decided)
   stopped_is columns place (Ok e) h is decided = subst (IsEvaluated IsPastAt p n decided) (sym is) h
   stopped_is columns place (Err e) h is decided = tt
 
-  pub unproved_is : {A : Type 0} (columns : List Column) (place : Place) (r : Result Proof A) → IsPastAt p n columns place
-      → IfOk r (λ e. e ≡ proofs.Stopped (record { nonbasic = columns; place = place })) → (cost : CostOver) → IfOk r (IsProof IsPastAt p n cost)
+  pub unproved_is : {A : Type 0} (columns : List Column) (place : Place) (r : Result Proof A)
+      → IsPastAt p n columns place
+      → IfOk r (λ e. e ≡ proofs.Stopped (record { nonbasic = columns; place = place }))
+      → (cost : CostOver) → IfOk r (IsProof IsPastAt p n cost)
   unproved_is columns place (Ok e) h is cost = subst (IsProof IsPastAt p n cost) (sym is) h
   unproved_is columns place (Err e) h is cost = tt

@@ -11,7 +11,8 @@ module _ (x y p q : ℤ) (same : (p ≡ x) × (q ≡ y)) where
   right k = mul_comm_z y k ∙ (λ i. k *ℤ sym same.1 i)
 
   pub kept_le : (e k : ℤ) → (e *ℤ x) ≤ℤ (y *ℤ k) → (p *ℤ e) ≤ℤ (k *ℤ q)
-  kept_le e k h = subst (λ (z : ℤ). z ≤ℤ (k *ℤ q)) (left e) (subst (λ (z : ℤ). (e *ℤ x) ≤ℤ z) (right k) h)
+  kept_le e k h =
+      subst (λ (z : ℤ). z ≤ℤ (k *ℤ q)) (left e) (subst (λ (z : ℤ). (e *ℤ x) ≤ℤ z) (right k) h)
 
   pub kept_same : (e k : ℤ) → e *ℤ x ≡ y *ℤ k → p *ℤ e ≡ k *ℤ q
   kept_same e k h = sym (left e) ∙ (h ∙ right k)

@@ -41,7 +41,8 @@ fn stop_at(alloc: Global, bench: &Bench, place: Place) -> Result<PastStop, Alloc
 
 /// The evaluation of a node with this overflow.
 pub(crate) fn stopped(alloc: Global, bench: &Bench, place: Place) -> Result<Evaluation, AllocError>
-    ensures { IfOk result (λ e. e ≡ Stopped (record { nonbasic = bench.now.nonbasic; place = place })) }
+    ensures { IfOk result
+        (λ e. e ≡ Stopped (record { nonbasic = bench.now.nonbasic; place = place })) }
 {
     let stop = stop_at(alloc, bench, place)?;
     Ok(Evaluation::Stopped(stop))
@@ -49,7 +50,8 @@ pub(crate) fn stopped(alloc: Global, bench: &Bench, place: Place) -> Result<Eval
 
 /// The same in place of a proof.
 pub(crate) fn unproved(alloc: Global, bench: &Bench, place: Place) -> Result<Proof, AllocError>
-    ensures { IfOk result (λ e. e ≡ proofs.Stopped (record { nonbasic = bench.now.nonbasic; place = place })) }
+    ensures { IfOk result
+        (λ e. e ≡ proofs.Stopped (record { nonbasic = bench.now.nonbasic; place = place })) }
 {
     let stop = stop_at(alloc, bench, place)?;
     Ok(Proof::Stopped(stop))
@@ -64,7 +66,8 @@ pub(crate) fn refuted(
 ) -> Result<Evaluation, AllocError>
     requires sound { IsSound (shape_of site.now) (node_of node.now) }
     requires none { IsNoneOf (program_of (net_of site.now) (node_of node.now)) bench.now }
-    ensures { (decided : Bool) → IfOk result (IsEvaluated IsPastAt site.now (node_of node.now) decided) }
+    ensures { (decided : Bool)
+        → IfOk result (IsEvaluated IsPastAt site.now (node_of node.now) decided) }
 {
     let _problem = site.problem();
     none_is_refuted();
@@ -79,7 +82,14 @@ pub(crate) fn refuted(
 fn bound_at(alloc: Global, value: Mixed, bench: &Bench) -> Result<Bound, AllocError>
     requires scale_in_range { InRange bench.now.d }
     requires in_range { AllInRange bench.now.ys }
-    ensures { IfOk result (λ b. b ≡ record { value = value; low = value; scaled = record { d = bench.now.d; ys = bench.now.ys }; interval = None }) }
+    ensures { IfOk result
+        (λ b. b ≡ record {
+          value = value;
+          low = value;
+          scaled =
+              record { d = bench.now.d; ys = bench.now.ys };
+          interval = None;
+        }) }
 {
     let scaled = Scaled::of(alloc, bench.d(), bench.ys())?;
     Ok(Bound {
@@ -97,7 +107,14 @@ fn network_at(alloc: Global, node: &Node, bench: &Bench, cost: i128) -> Result<N
     requires den_in_range { InRange bench.now.flow_den }
     requires in_range { AllInRange bench.now.flows }
     requires cost_in_range { InRange cost }
-    ensures { IfOk result (λ w. w ≡ record { units = node.now.inside; sizes = bench.now.flows; d = bench.now.flow_den; cost = cost }) }
+    ensures { IfOk result
+        (λ w. w ≡ record {
+          units = node.now.inside;
+          sizes = bench.now.flows;
+          d =
+              bench.now.flow_den;
+          cost = cost;
+        }) }
 {
     let sizes = bench.flows().to_vec(alloc)?;
     Ok(Network::of(node.inside, sizes, bench.flow_den(), cost))
@@ -116,7 +133,9 @@ fn with_flows(
     requires decided { IsDecided (shape_of site.now) (node_of node.now) }
     requires program { program.now ≡ program_of (net_of site.now) (node_of node.now) }
     requires least { IsLeastOf program.now bench.old }
-    requires value { (numerator value ≡ bound (net_of site.now) (node_of node.now) bench.old.d (multiplier site.now (node_of node.now) bench.old.ys)) × (denominator value ≡ bench.old.d) }
+    requires value { (numerator value
+        ≡ bound (net_of site.now) (node_of node.now) bench.old.d
+        (multiplier site.now (node_of node.now) bench.old.ys)) × (denominator value ≡ bench.old.d) }
     requires formed { IsFormed site.now (node_of node.now) bench.old.d bench.old.ys }
     ensures rows { bench.new.rows ≡ bench.old.rows }
     ensures evaluated { IfOk result (IsEvaluated IsPastAt site.now (node_of node.now) true) }
@@ -150,7 +169,8 @@ pub(crate) fn proved(
 ) -> Result<Proof, AllocError>
     requires sound { IsSound (shape_of site.now) (node_of node.now) }
     requires least { IsLeastOf (program_of (net_of site.now) (node_of node.now)) bench.now }
-    ensures { (cost : CostOver) → IsPositive cost → IsWorth site.now (node_of node.now) cost → IfOk result (IsProof IsPastAt site.now (node_of node.now) cost) }
+    ensures { (cost : CostOver) → IsPositive cost → IsWorth site.now (node_of node.now) cost
+        → IfOk result (IsProof IsPastAt site.now (node_of node.now) cost) }
 {
     let _problem = site.problem();
     least_is_least();

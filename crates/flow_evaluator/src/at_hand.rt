@@ -119,7 +119,8 @@ fn structure_of(graph: &Graph, node: &Node, in_use: UnitSet, spared: UnitSet) ->
     requires known { (u : ℕ) → has in_use u ≡ true → u < (shape graph.now).units }
     requires inside { IsWithin (has node.now.inside) (has in_use) }
     requires outside { Avoids (has in_use) (has node.now.outside) }
-    ensures { IfSome result (λ s. IsBetween (shape graph.now) (has node.now.inside) (has node.now.outside) (has s)) }
+    ensures { IfSome result
+        (λ s. IsBetween (shape graph.now) (has node.now.inside) (has node.now.outside) (has s)) }
 {
     if is_structure(graph, in_use) {
         return Some(in_use);
@@ -136,7 +137,8 @@ pub(crate) fn structure_with(
     spared: UnitSet,
 ) -> Option<UnitSet>
     requires { IsSound (shape graph.now) (node_of node.now) }
-    ensures { IfSome result (λ s. InFamily (shape graph.now) (has node.now.inside) (has node.now.outside) (has s)) }
+    ensures { IfSome result
+        (λ s. InFamily (shape graph.now) (has node.now.inside) (has node.now.outside) (has s)) }
 {
     let in_use = units_in_use(graph, node, running);
     let set = structure_of(graph, node, in_use, spared)?;

@@ -51,7 +51,13 @@ impl Model for FlowEvaluator {
 
     ghost Value = { specs.Evaluating };
 
-    ghost view = { λ e. record { scales = e.certified; bench = e.bench; units = e.units; materials = e.materials } };
+    ghost view = { λ e. record {
+      scales = e.certified;
+      bench = e.bench;
+      units = e.units;
+      materials =
+          e.materials;
+    } };
 
     ghost invariant = { λ e. HasRoom e.bench e.units e.materials };
 }
@@ -94,7 +100,9 @@ fn prove_on(
     requires some { MayUndercut site.now None (node_of node.now) }
     ensures units { bench.new.rows.most_units ≡ bench.old.rows.most_units }
     ensures rows { bench.new.rows.most_rows ≡ bench.old.rows.most_rows }
-    ensures proved { (cost : claims.CostOver) → IsPositive cost → IsWorth site.now (node_of node.now) cost → IfOk result (IsProof IsPastAt site.now (node_of node.now) cost) }
+    ensures proved { (cost : claims.CostOver) → IsPositive cost
+        → IsWorth site.now (node_of node.now) cost
+        → IfOk result (IsProof IsPastAt site.now (node_of node.now) cost) }
 {
     entry_is_past();
     names_are_of_program();
@@ -141,7 +149,9 @@ impl FlowEvaluator {
     /// that at one node in 32, any will do.
     fn structure_to_try(&self, site: &Site<'_>, node: &Node) -> Option<UnitSet>
         requires sound { IsSound (shape_of site.now) (node_of node.now) }
-        ensures { IfSome result (λ s. InFamily (shape_of site.now) (has node.now.inside) (has node.now.outside) (has s)) }
+        ensures { IfSome result
+            (λ s. InFamily (shape_of site.now) (has node.now.inside) (has node.now.outside)
+            (has s)) }
     {
         let graph = site.graph();
         let running = running_units(site, node, self.sizes());
@@ -165,8 +175,11 @@ impl FlowEvaluator {
         set: UnitSet,
     ) -> Result<Option<Network>, AllocError>
         requires own { IsFor site.now self.old }
-        requires family { InFamily (shape_of site.now) (has node.now.inside) (has node.now.outside) (has set) }
-        ensures at_hand { IfOk result (λ found. IfSome found (IsAtHand site.now (node_of node.now))) }
+        requires family { InFamily (shape_of site.now) (has node.now.inside)
+            (has node.now.outside)
+            (has set) }
+        ensures at_hand { IfOk result
+            (λ found. IfSome found (IsAtHand site.now (node_of node.now))) }
         ensures own { IsFor site.now self.new }
     {
         allowed_is_decided();
@@ -195,7 +208,8 @@ impl FlowEvaluator {
         requires sound { IsSound (shape_of site.now) (node_of node) }
         requires split { decided ≡ true → IsDecided (shape_of site.now) (node_of node) }
         ensures same { self.new ≡ self.old }
-        ensures evaluated { IfOk result (λ found. IfSome found (IsEvaluated IsPastAt site.now (node_of node) decided)) }
+        ensures evaluated { IfOk result
+            (λ found. IfSome found (IsEvaluated IsPastAt site.now (node_of node) decided)) }
     {
         self.is_walked = false;
         let told = self.certified.look(alloc, site, node, decided)?;
@@ -214,7 +228,8 @@ impl FlowEvaluator {
         requires own { IsFor site.now self.old }
         requires sound { IsSound (shape_of site.now) (node_of node) }
         ensures same { self.new ≡ self.old }
-        ensures evaluated { IfOk result (λ found. IfSome found (IsEvaluated IsPastAt site.now (node_of node) false)) }
+        ensures evaluated { IfOk result
+            (λ found. IfSome found (IsEvaluated IsPastAt site.now (node_of node) false)) }
     {
         self.is_walked = false;
         let told = self.certified.settle(alloc, site, node, &bound.basis)?;

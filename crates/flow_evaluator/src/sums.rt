@@ -31,7 +31,10 @@ use unit_sets::Node;
 pub(crate) fn value_of(site: &Site<'_>, node: &Node, bench: &Bench) -> Result<Mixed, Place>
     requires sound { IsSound (shape_of site.now) (node_of node.now) }
     requires least { IsLeastOf (program_of (net_of site.now) (node_of node.now)) bench.now }
-    ensures value { IfOk result (λ v. (numerator v ≡ bound (net_of site.now) (node_of node.now) bench.now.d (multiplier site.now (node_of node.now) bench.now.ys)) × (denominator v ≡ bench.now.d)) }
+    ensures value { IfOk result
+        (λ v.
+        (numerator v ≡ bound (net_of site.now) (node_of node.now) bench.now.d
+        (multiplier site.now (node_of node.now) bench.now.ys)) × (denominator v ≡ bench.now.d)) }
     ensures formed { OnOk result (IsFormed site.now (node_of node.now) bench.now.d bench.now.ys) }
     ensures past { IfErr result (IsPastAt site.now (node_of node.now) bench.now.nonbasic) }
 {
@@ -72,10 +75,18 @@ pub(crate) fn cost_of_flows(site: &Site<'_>, node: &Node, bench: &Bench) -> Resu
     requires decided { IsDecided (shape_of site.now) (node_of node.now) }
     requires least { IsLeastOf (program_of (net_of site.now) (node_of node.now)) bench.now }
     requires flows { AreFlowsOf (program_of (net_of site.now) (node_of node.now)) bench.now }
-    ensures cost { IfOk result (λ total. total ≡ cost (net_of site.now) (has node.now.inside) (beside node.now.inside bench.now.flows) bench.now.flow_den) }
+    ensures cost { IfOk result
+        (λ total. total ≡ cost (net_of site.now) (has node.now.inside)
+        (beside node.now.inside bench.now.flows) bench.now.flow_den) }
     ensures in_range { IfOk result InRange }
-    ensures costs { OnOk result (AreInRange (cost_steps (net_of site.now) (has node.now.inside) (beside node.now.inside bench.now.flows) bench.now.flow_den)) }
-    ensures balances { OnOk result (AreInRange (feasible_steps (net_of site.now) (has node.now.inside) (beside node.now.inside bench.now.flows) bench.now.flow_den)) }
+    ensures costs { OnOk result
+        (AreInRange
+        (cost_steps (net_of site.now) (has node.now.inside) (beside node.now.inside bench.now.flows)
+        bench.now.flow_den)) }
+    ensures balances { OnOk result
+        (AreInRange
+        (feasible_steps (net_of site.now) (has node.now.inside)
+        (beside node.now.inside bench.now.flows) bench.now.flow_den)) }
     ensures past { IfErr result (IsPastAt site.now (node_of node.now) bench.now.nonbasic) }
 {
     let (problem, graph) = (site.problem(), site.graph());

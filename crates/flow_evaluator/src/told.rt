@@ -10,7 +10,13 @@ use certified_bounds::{Between, Certified, FirstBound, LeastBound};
 use node_evaluation::{Bound, Evaluation, FirstLook, Interval, LowerBound, PastStop};
 
 fn bound_of(least: LeastBound) -> Bound
-    ensures { result ≡ record { value = least.value; low = least.low; scaled = least.scaled; interval = None } }
+    ensures { result ≡ record {
+      value = least.value;
+      low = least.low;
+      scaled =
+          least.scaled;
+      interval = None;
+    } }
 {
     Bound {
         value: least.value,
@@ -22,7 +28,13 @@ fn bound_of(least: LeastBound) -> Bound
 
 /// What a node is worth whose path stops, by two costs between which its least cost lies.
 pub(crate) fn bound_between(between: Between, stop: PastStop) -> Bound
-    ensures { result ≡ record { value = between.low; low = between.low; scaled = between.scaled; interval = Some (record { reached = between.reached; stop = stop }) } }
+    ensures { result ≡ record {
+      value = between.low;
+      low = between.low;
+      scaled =
+          between.scaled;
+      interval = Some (record { reached = between.reached; stop = stop });
+    } }
 {
     Bound {
         value: between.low,
@@ -52,7 +64,8 @@ pub(crate) fn first_look_of(told: FirstBound) -> FirstLook
 
 /// The evaluation, if there is an answer.
 pub(crate) fn evaluation_of(told: Certified) -> Option<Evaluation>
-    ensures { (p : Problem) (n : Node) (decided : Bool) → IsCertified p n decided told → IfSome result (IsEvaluated IsPastAt p n decided) }
+    ensures { (p : Problem) (n : Node) (decided : Bool) → IsCertified p n decided told
+        → IfSome result (IsEvaluated IsPastAt p n decided) }
 {
     match told {
         Certified::Least(least) => Some(Evaluation::Least(bound_of(least))),

@@ -13,4 +13,6 @@ least_of factor low high = int_min (factor *ℤ low) (factor *ℤ high)
 
 abbrev pub column_steps : ℤ → ℤ → ℤ → ℤ → (ℕ → ℤ) → (ℕ → ℤ) → List ℕ → ℤ → List ℤ
 column_steps scale cost low high y rate js sum =
-    (scale *ℤ cost) ∷ (reduced_steps y rate js (scale *ℤ cost) ++ least_steps (left_of y rate js (scale *ℤ cost)) low high sum)
+    (scale *ℤ cost)
+    ∷ (reduced_steps y rate js (scale *ℤ cost)
+    ++ least_steps (left_of y rate js (scale *ℤ cost)) low high sum)

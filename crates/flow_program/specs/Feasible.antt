@@ -11,7 +11,8 @@ abbrev pub AreInBoxes : Net → (ℕ → ℤ) → ℤ → List ℕ → Type 0
 AreInBoxes net z d set = AllByRecursion (IsInBox net z d) set
 
 abbrev pub IsInRangeOf : Net → (ℕ → Bool) → (ℕ → ℤ) → ℤ → ℕ → Type 0
-IsInRangeOf net s z d j = ((low_end net j (net.lower j) *ℤ d) ≤ℤ balance net s z j) × (balance net s z j ≤ℤ (high_end net j (net.lower j) *ℤ d))
+IsInRangeOf net s z d j = ((low_end net j (net.lower j) *ℤ d) ≤ℤ balance net s z j)
+    × (balance net s z j ≤ℤ (high_end net j (net.lower j) *ℤ d))
 
 abbrev pub AreInRanges : Net → (ℕ → Bool) → (ℕ → ℤ) → ℤ → List ℕ → Type 0
 AreInRanges net s z d materials = AllByRecursion (IsInRangeOf net s z d) materials

@@ -1,4 +1,5 @@
--- The sets that are read of a node's program: its units, its rows, and the materials that have to be there.
+-- The sets that are read of a node's program: its units, its rows, and the materials that have to
+-- be there.
 use Rattle.std.specs.Prelude.{◌≡◌, ℕ, ◌||◌, List}
 use Rattle.number_sets.specs.Sets.{has, listed}
 use Rattle.pns_rules.specs.Shape.{Shape}

@@ -4,7 +4,7 @@ use Rattle.number_sets.specs.Sets.{has}
 use Rattle.problem_rules.specs.Problem.{Problem, rate_of}
 use Rattle.problem_rules.specs.WellFormed.{IsInRange}
 
--- `materials` are those of unit u, and at each of them its rate stands, which is not 0
+-- `materials` are those of unit u, and each of them has its rate in the table, which is not 0
 pub record AreRates (p : Problem) (u : ℕ) (materials : List ℕ) (rates : List ℤ) : Type 0 where
   pub size : length rates ≡ 256
   pub known : (j : ℕ) → has materials j ≡ true → j < length p.materials

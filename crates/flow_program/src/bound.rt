@@ -1,5 +1,6 @@
 //! Bounds and refutations of a node.
-ghost use Rattle.std.specs.Prelude.{◌≡◌, ◌<◌, ◌≤◌, ◌+◌, ◌-◌, ◌*◌, ◌^◌, ◌↔◌, ◌+ℤ◌, ◌*ℤ◌, ◌≤ℤ◌, ℕ, pos, true, length, SomeIff, IfOk, IfErr, OnOk, IsTrue};
+ghost use Rattle.std.specs.Prelude.{◌≡◌, ◌<◌, ◌≤◌, ◌+◌, ◌-◌, ◌*◌, ◌^◌, ◌↔◌, ◌+ℤ◌, ◌*ℤ◌, ◌≤ℤ◌, ℕ};
+ghost use Rattle.std.specs.Prelude.{pos, true, length, SomeIff, IfOk, IfErr, OnOk, IsTrue};
 ghost use Rattle.integer_laws.specs.Range.{InRange};
 ghost use Rattle.integer_laws.specs.Total.{total};
 ghost use Rattle.number_sets.specs.Sets.{has};
@@ -9,7 +10,9 @@ ghost use Rattle.pgraph.specs.View.{node_of};
 ghost use Rattle.flow_rules.specs.Net.{net_of, beside};
 ghost use Rattle.flow_rules.specs.Relaxed.{units, rows, row_part, unit_part, bound, Refutes};
 ghost use Rattle.flow_rules.specs.Steps.{AreInRange, IsFirstPast};
-ghost use Rattle.flow_rules.specs.BoundSteps.{least_steps, rows_steps, reduced_steps, units_steps, bound_steps};
+ghost use Rattle.flow_rules.specs.BoundSteps.{least_steps, rows_steps, reduced_steps};
+ghost use Rattle.flow_rules.specs.BoundSteps.{units_steps};
+ghost use Rattle.flow_rules.specs.BoundSteps.{bound_steps};
 ghost use Rattle.flow_program.specs.Columns.{left_of, least_of, column_steps};
 ghost use Rattle.flow_program.specs.Entry.{entry};
 ghost use Rattle.flow_program.specs.NodeSets.{AreNeeded};
@@ -26,7 +29,7 @@ use pgraph::Graph;
 use pns_problem::Problem;
 use unit_sets::{MatSet, Node, UnitSet};
 
-/// The lesser of `factor * low` and `factor * high`, where it is in range; the greater is not formed.
+/// The lesser of `factor * low` and `factor * high`, if it is in range. The greater is not formed.
 fn lesser_product(factor: i128, low: i128, high: i128) -> Option<i128>
     requires { low ≤ℤ high }
     ensures { SomeIff result (InRange (least_of factor low high)) (least_of factor low high) }
@@ -38,14 +41,16 @@ fn lesser_product(factor: i128, low: i128, high: i128) -> Option<i128>
     }
 }
 
-/// The sum with the lesser of `factor * low` and `factor * high`; its first step has the number `start`.
+/// The sum with the lesser of `factor * low` and `factor * high`. Its first step has the number
+/// `start`.
 fn with_least(start: u32, sum: i128, factor: i128, low: i128, high: i128) -> Result<i128, PastSum>
     requires room { start + 2 < 2 ^ 32 }
     requires ordered { low ≤ℤ high }
     ensures value { IfOk result (λ total. total ≡ sum +ℤ least_of factor low high) }
     ensures in_range { OnOk result (AreInRange (least_steps factor low high sum)) }
     ensures from_start { IfErr result (λ e. start ≤ e.at) }
-    ensures past { IfErr result (λ e. IsFirstPast (least_steps factor low high sum) (e.at - start)) }
+    ensures past { IfErr result
+        (λ e. IsFirstPast (least_steps factor low high sum) (e.at - start)) }
 {
     let Some(least) = lesser_product(factor, low, high) else {
         return Err(PastSum { at: start });
@@ -56,7 +61,8 @@ fn with_least(start: u32, sum: i128, factor: i128, low: i128, high: i128) -> Res
     }
 }
 
-/// What is left of a cost after the rows of the materials have paid, and the number of the step that comes next.
+/// What is left of a cost after the rows of the materials have paid, and the number of the next
+/// step.
 fn reduced(
     start: u32,
     cost: i128,
@@ -67,11 +73,15 @@ fn reduced(
     requires all_rates { length rates.now ≡ 256 }
     requires all_ys { length ys.now ≡ 256 }
     requires room { start ≤ 100000 }
-    ensures value { IfOk result (λ p. p.0 ≡ left_of (entry ys.now) (entry rates.now) materials cost) }
-    ensures in_range { OnOk result (AreInRange (reduced_steps (entry ys.now) (entry rates.now) materials cost)) }
+    ensures value { IfOk result
+        (λ p. p.0 ≡ left_of (entry ys.now) (entry rates.now) materials cost) }
+    ensures in_range { OnOk result
+        (AreInRange (reduced_steps (entry ys.now) (entry rates.now) materials cost)) }
     ensures count { IfOk result (λ p. p.1 ≡ start + 2 * length materials) }
     ensures from_start { IfErr result (λ e. start ≤ e.at) }
-    ensures past { IfErr result (λ e. IsFirstPast (reduced_steps (entry ys.now) (entry rates.now) materials cost) (e.at - start)) }
+    ensures past { IfErr result
+        (λ e. IsFirstPast (reduced_steps (entry ys.now) (entry rates.now) materials cost)
+        (e.at - start)) }
 {
     let mut rest = cost;
     let mut at = start;
@@ -88,7 +98,7 @@ fn reduced(
     Ok((rest, at))
 }
 
-/// The sum with the part of one unit, and the number of the step that comes next.
+/// The sum with the part of one unit, and the number of the next step.
 fn with_unit(
     start: u32,
     sum: i128,
@@ -102,11 +112,20 @@ fn with_unit(
     requires all_ys { length ys.now ≡ 256 }
     requires room { start ≤ 90000 }
     requires ordered { unit.low ≤ℤ unit.high }
-    ensures value { IfOk result (λ p. p.0 ≡ sum +ℤ least_of (left_of (entry ys.now) (entry rates.now) materials (d *ℤ unit.cost)) unit.low unit.high) }
-    ensures in_range { OnOk result (AreInRange (column_steps d unit.cost unit.low unit.high (entry ys.now) (entry rates.now) materials sum)) }
+    ensures value { IfOk result
+        (λ p. p.0 ≡ sum +ℤ least_of
+        (left_of (entry ys.now) (entry rates.now) materials (d *ℤ unit.cost)) unit.low unit.high) }
+    ensures in_range { OnOk result
+        (AreInRange
+        (column_steps d unit.cost unit.low unit.high (entry ys.now) (entry rates.now) materials
+        sum)) }
     ensures count { IfOk result (λ p. p.1 ≡ start + (3 + 2 * length materials)) }
     ensures from_start { IfErr result (λ e. start ≤ e.at) }
-    ensures past { IfErr result (λ e. IsFirstPast (column_steps d unit.cost unit.low unit.high (entry ys.now) (entry rates.now) materials sum) (e.at - start)) }
+    ensures past { IfErr result
+        (λ e. IsFirstPast
+        (column_steps d unit.cost unit.low unit.high (entry ys.now) (entry rates.now) materials
+        sum)
+        (e.at - start)) }
 {
     materials.rises();
     let Some(cost) = quick_product(d, unit.cost) else {
@@ -133,10 +152,15 @@ fn with_rows(
     requires known { (j : ℕ) → has rows j ≡ true → j < length problem.now.materials }
     requires needed { AreNeeded (shape_of problem.now) (node_of node.now) needed }
     requires all_ys { length ys.now ≡ 256 }
-    ensures value { IfOk result (λ t. t ≡ sum +ℤ total (row_part (net_of problem.now) (node_of node.now) (entry ys.now)) rows) }
-    ensures in_range { OnOk result (AreInRange (rows_steps (net_of problem.now) (node_of node.now) (entry ys.now) rows sum)) }
+    ensures value { IfOk result
+        (λ t. t ≡ sum +ℤ total (row_part (net_of problem.now) (node_of node.now) (entry ys.now))
+        rows) }
+    ensures in_range { OnOk result
+        (AreInRange (rows_steps (net_of problem.now) (node_of node.now) (entry ys.now) rows sum)) }
     ensures from_start { IfErr result (λ e. 1 ≤ e.at) }
-    ensures past { IfErr result (λ e. IsFirstPast (rows_steps (net_of problem.now) (node_of node.now) (entry ys.now) rows sum) (e.at - 1)) }
+    ensures past { IfErr result
+        (λ e. IsFirstPast
+        (rows_steps (net_of problem.now) (node_of node.now) (entry ys.now) rows sum) (e.at - 1)) }
 {
     problem.is_valid();
     let mut total = sum;
@@ -167,10 +191,18 @@ fn with_units(
     requires units { set ≡ units (net_of problem.now) (node_of node.now) }
     requires all_ys { length ys.now ≡ 256 }
     requires room { start ≤ 1000 }
-    ensures value { IfOk result (λ t. t ≡ sum +ℤ total (unit_part (net_of problem.now) (node_of node.now) d (entry ys.now)) set) }
-    ensures in_range { OnOk result (AreInRange (units_steps (net_of problem.now) (node_of node.now) d (entry ys.now) set sum)) }
+    ensures value { IfOk result
+        (λ t. t
+        ≡ sum +ℤ total (unit_part (net_of problem.now) (node_of node.now) d (entry ys.now))
+        set) }
+    ensures in_range { OnOk result
+        (AreInRange
+        (units_steps (net_of problem.now) (node_of node.now) d (entry ys.now) set sum)) }
     ensures from_start { IfErr result (λ e. start ≤ e.at) }
-    ensures past { IfErr result (λ e. IsFirstPast (units_steps (net_of problem.now) (node_of node.now) d (entry ys.now) set sum) (e.at - start)) }
+    ensures past { IfErr result
+        (λ e. IsFirstPast
+        (units_steps (net_of problem.now) (node_of node.now) d (entry ys.now) set sum)
+        (e.at - start)) }
 {
     problem.is_valid();
     let mut rates = [0; 256];
@@ -191,10 +223,10 @@ fn with_units(
     Ok(total)
 }
 
-/// The bound of a node for the multiplier `d` of the cost and one multiplier for each row in rising order, in the measure
-/// of costs times `d`; or the number of the first step of the sum that is out of range. For a `d` that is not below 0 no
-/// flows at the node cost less, over `d`. Linear in the number of rates of the units that are not left out; takes no
-/// memory.
+/// The bound of a node for the multiplier `d` of the cost and one multiplier for each row in rising
+/// order, in the measure of costs times `d`. Or the number of the first step of the sum that is out
+/// of range. For a `d` of at least 0 no flows at the node cost less, over `d`. Linear in the number
+/// of rates of the units that are not left out. It takes no memory.
 pub fn bound_of(
     problem: &Problem,
     graph: &Graph,
@@ -205,9 +237,17 @@ pub fn bound_of(
     requires graph { shape graph.now ≡ shape_of problem.now }
     requires known { (u : ℕ) → has node.inside u ≡ true → u < (shape graph.now).units }
     requires multipliers { length ys.now ≡ length (rows (net_of problem.now) (node_of node)) }
-    ensures value { IfOk result (λ b. b ≡ bound (net_of problem.now) (node_of node) d (beside (rows (net_of problem.now) (node_of node)) ys.now)) }
-    ensures in_range { OnOk result (AreInRange (bound_steps (net_of problem.now) (node_of node) d (beside (rows (net_of problem.now) (node_of node)) ys.now))) }
-    ensures past { IfErr result (λ e. IsFirstPast (bound_steps (net_of problem.now) (node_of node) d (beside (rows (net_of problem.now) (node_of node)) ys.now)) e.at) }
+    ensures value { IfOk result
+        (λ b. b ≡ bound (net_of problem.now) (node_of node) d
+        (beside (rows (net_of problem.now) (node_of node)) ys.now)) }
+    ensures in_range { OnOk result
+        (AreInRange
+        (bound_steps (net_of problem.now) (node_of node) d
+        (beside (rows (net_of problem.now) (node_of node)) ys.now))) }
+    ensures past { IfErr result
+        (λ e. IsFirstPast
+        (bound_steps (net_of problem.now) (node_of node) d
+        (beside (rows (net_of problem.now) (node_of node)) ys.now)) e.at) }
 {
     problem.is_valid();
     node.inside.rises();
@@ -236,15 +276,25 @@ pub fn bound_of(
     }
 }
 
-/// Whether the multipliers, one for each row in rising order, refute the node, so that no structure of it has flows; or
-/// the number of the first step of their bound that is out of range. Takes no memory.
+/// Whether the multipliers, one for each row in rising order, refute the node, so that no structure
+/// of it has flows. Or the number of the first step of their bound that is out of range. It takes
+/// no memory.
 pub fn refutes(problem: &Problem, graph: &Graph, node: Node, ys: &[i128]) -> Result<bool, PastSum>
     requires graph { shape graph.now ≡ shape_of problem.now }
     requires known { (u : ℕ) → has node.inside u ≡ true → u < (shape graph.now).units }
     requires multipliers { length ys.now ≡ length (rows (net_of problem.now) (node_of node)) }
-    ensures value { IfOk result (λ b. IsTrue b ↔ Refutes (net_of problem.now) (node_of node) (beside (rows (net_of problem.now) (node_of node)) ys.now)) }
-    ensures in_range { OnOk result (AreInRange (bound_steps (net_of problem.now) (node_of node) (pos 0) (beside (rows (net_of problem.now) (node_of node)) ys.now))) }
-    ensures past { IfErr result (λ e. IsFirstPast (bound_steps (net_of problem.now) (node_of node) (pos 0) (beside (rows (net_of problem.now) (node_of node)) ys.now)) e.at) }
+    ensures value { IfOk result
+        (λ b. IsTrue b
+        ↔ Refutes (net_of problem.now) (node_of node)
+        (beside (rows (net_of problem.now) (node_of node)) ys.now)) }
+    ensures in_range { OnOk result
+        (AreInRange
+        (bound_steps (net_of problem.now) (node_of node) (pos 0)
+        (beside (rows (net_of problem.now) (node_of node)) ys.now))) }
+    ensures past { IfErr result
+        (λ e. IsFirstPast
+        (bound_steps (net_of problem.now) (node_of node) (pos 0)
+        (beside (rows (net_of problem.now) (node_of node)) ys.now)) e.at) }
 {
     match bound_of(problem, graph, node, 0, ys) {
         Err(past) => Err(past),

@@ -1,5 +1,6 @@
 //! The cost of flows.
-ghost use Rattle.std.specs.Prelude.{◌≡◌, ◌<◌, ◌≤◌, ◌+◌, ◌-◌, ◌^◌, ◌+ℤ◌, ◌*ℤ◌, ℕ, true, length, IfOk, IfErr, OnOk};
+ghost use Rattle.std.specs.Prelude.{◌≡◌, ◌<◌, ◌≤◌, ◌+◌, ◌-◌, ◌^◌, ◌+ℤ◌, ◌*ℤ◌, ℕ, true, length};
+ghost use Rattle.std.specs.Prelude.{IfOk, IfErr, OnOk};
 ghost use Rattle.number_sets.specs.Sets.{has};
 ghost use Rattle.pns_rules.specs.Shape.{shape_of};
 ghost use Rattle.pgraph.specs.Tables.{shape};
@@ -47,9 +48,10 @@ fn with_unit(
     }
 }
 
-/// The cost over `d`, in 10^-18 of the money unit times the payout period, of the network of these units, where each has
-/// the size, in millionths over `d`, that stands beside it in rising order; or the number of the first step of the sum
-/// that is out of range. Linear in the number of the units' rates; takes no memory.
+/// The cost of the network of these units, over `d`, in 10^-18 of the money unit times the payout
+/// period. Or the number of the first step of the sum that is out of range. The sizes are in
+/// millionths over `d`, one for each unit in rising order. Linear in the number of the units'
+/// rates. It takes no memory.
 pub fn cost_of(
     problem: &Problem,
     graph: &Graph,
@@ -60,9 +62,13 @@ pub fn cost_of(
     requires graph { shape graph.now ≡ shape_of problem.now }
     requires known { (u : ℕ) → has set u ≡ true → u < (shape graph.now).units }
     requires sizes { length sizes.now ≡ length set }
-    ensures value { IfOk result (λ total. total ≡ cost (net_of problem.now) (has set) (beside set sizes.now) d) }
-    ensures in_range { OnOk result (AreInRange (cost_steps (net_of problem.now) (has set) (beside set sizes.now) d)) }
-    ensures past { IfErr result (λ e. IsFirstPast (cost_steps (net_of problem.now) (has set) (beside set sizes.now) d) e.at) }
+    ensures value { IfOk result
+        (λ total. total ≡ cost (net_of problem.now) (has set) (beside set sizes.now) d) }
+    ensures in_range { OnOk result
+        (AreInRange (cost_steps (net_of problem.now) (has set) (beside set sizes.now) d)) }
+    ensures past { IfErr result
+        (λ e. IsFirstPast (cost_steps (net_of problem.now) (has set) (beside set sizes.now) d)
+        e.at) }
 {
     graph.is_proper();
     let size_at = by_unit(set, sizes);

@@ -1,5 +1,6 @@
 //! What units cost over the payout period. None of these numbers can leave the range.
-ghost use Rattle.std.specs.Prelude.{◌≡◌, ◌<◌, ◌≤◌, ◌^◌, ◌*◌, ◌*ℤ◌, ◌+ℤ◌, pos, cond, int_div, length, unsigned_abs, ℕ, true};
+ghost use Rattle.std.specs.Prelude.{◌≡◌, ◌<◌, ◌≤◌, ◌^◌, ◌*◌, ◌*ℤ◌, ◌+ℤ◌, pos, cond, int_div};
+ghost use Rattle.std.specs.Prelude.{length, unsigned_abs, ℕ, true};
 ghost use Rattle.std.specs.Ordering.{int_eq};
 ghost use Rattle.integer_laws.specs.Total.{total};
 ghost use Rattle.number_sets.specs.Sets.{has};
@@ -31,7 +32,7 @@ fn with_once(years: i64, yearly: i64, once: i64) -> i128
     over_years(years, yearly) + once as i128
 }
 
-/// An amount at so high a rate.
+/// An amount at this rate.
 fn at_rate(amount: i128, rate: i64) -> i128
     requires amount { unsigned_abs amount ≤ 10 ^ 17 }
     requires rate { IsInRange rate }
@@ -85,7 +86,7 @@ fn proportional_cost(problem: &Problem, u: u32) -> i128
     )
 }
 
-/// The price of the material at so high a rate.
+/// The price of the material at this rate.
 fn worth(problem: &Problem, j: u32, rate: i64) -> i128
     requires known { j < length problem.now.materials }
     requires rate { IsInRange rate }
@@ -97,7 +98,7 @@ fn worth(problem: &Problem, j: u32, rate: i64) -> i128
     at_rate(over_years(problem.payout(), material.price), rate)
 }
 
-/// What a unit of size 1 costs, its fixed cost aside.
+/// What a unit of size 1 costs without its fixed cost.
 pub(crate) fn size_cost(problem: &Problem, u: u32, materials: MatSet, rates: &[i64]) -> i128
     requires unit { u < length problem.now.units }
     requires rates { AreRates problem.now u materials rates.now }
@@ -114,7 +115,8 @@ pub(crate) fn size_cost(problem: &Problem, u: u32, materials: MatSet, rates: &[i
 /// The slope by which a free unit pays for its fixed cost.
 pub(crate) fn slope(fixed: i128, upper: i64) -> i128
     requires fixed { unsigned_abs fixed ≤ 2 * 10 ^ 17 }
-    ensures value { result ≡ cond (int_eq upper (pos 0)) (pos 0) (int_div (fixed *ℤ million) upper) }
+    ensures value { result ≡ cond (int_eq upper (pos 0)) (pos 0)
+        (int_div (fixed *ℤ million) upper) }
     ensures small { unsigned_abs result ≤ 2 * 10 ^ 23 }
 {
     if upper == 0 {

@@ -1,5 +1,7 @@
 //! Whether sizes of units are flows.
-ghost use Rattle.std.specs.Prelude.{◌≡◌, ◌<◌, ◌≤◌, ◌+◌, ◌-◌, ◌*◌, ◌^◌, ◌↔◌, ◌-ℤ◌, ◌*ℤ◌, ◌≤ℤ◌, ◌<ℤ◌, ◌||◌, ◌&&◌, ℕ, pos, true, length, IfOk, IfErr, OnOk, IsTrue};
+ghost use Rattle.std.specs.Prelude.{◌≡◌, ◌<◌, ◌≤◌, ◌+◌, ◌-◌, ◌*◌, ◌^◌, ◌↔◌, ◌-ℤ◌, ◌*ℤ◌, ◌≤ℤ◌};
+ghost use Rattle.std.specs.Prelude.{◌<ℤ◌};
+ghost use Rattle.std.specs.Prelude.{◌||◌, ◌&&◌, ℕ, pos, true, length, IfOk, IfErr, OnOk, IsTrue};
 ghost use Rattle.integer_laws.specs.Total.{total};
 ghost use Rattle.number_sets.specs.Sets.{has};
 ghost use Rattle.problem_rules.specs.Problem.{rate_in, rate_of};
@@ -10,7 +12,8 @@ ghost use Rattle.pgraph.specs.Tables.{shape};
 ghost use Rattle.flow_rules.specs.Net.{net_of, beside, units_of, materials_of};
 ghost use Rattle.flow_rules.specs.Flows.{balance, IsFlows};
 ghost use Rattle.flow_rules.specs.Steps.{AreInRange, IsFirstPast};
-ghost use Rattle.flow_rules.specs.FeasibleSteps.{units_at, balance_steps, materials_steps, feasible_steps};
+ghost use Rattle.flow_rules.specs.FeasibleSteps.{units_at, balance_steps, materials_steps};
+ghost use Rattle.flow_rules.specs.FeasibleSteps.{feasible_steps};
 ghost use Rattle.flow_program.specs.Entry.{entry};
 ghost use Rattle.flow_program.specs.Feasible.{AreInBoxes, AreInRanges};
 
@@ -22,7 +25,7 @@ use pgraph::Graph;
 use pns_problem::{Problem, Term};
 use unit_sets::{MatSet, UnitSet};
 
-/// The rate of the material among the terms, 0 where it is not there.
+/// The rate of the material among the terms; 0 if it is not there.
 fn rate_among(terms: &[Term], j: u32) -> i64
     ensures { result ≡ rate_in terms.now j }
 {
@@ -42,7 +45,7 @@ fn difference(made: i64, used: i64) -> i64
     made - used
 }
 
-/// The unit's rate of the material, which its terms are looked through for.
+/// The unit's rate of the material, which is looked up in its terms.
 pub fn rate_at(problem: &Problem, j: u32, u: u32) -> i64
     requires { u < length problem.now.units }
     ensures { result ≡ rate_of problem.now j u }
@@ -68,8 +71,8 @@ fn goes_on_from(range: Range, number: i128) -> bool
     range.low <= number && number < range.high
 }
 
-/// Whether the number over `d` is in the range. The floor of the quotient and the remainder tell, so that no end of the range
-/// is multiplied by `d`.
+/// Whether the number over `d` is in the range. The floor of the quotient and the remainder decide
+/// it, so no end of the range is multiplied by `d`.
 pub fn is_within(number: i128, d: i128, range: Range) -> bool
     requires { pos 1 ≤ℤ d }
     ensures { IsTrue result ↔ (((range.low *ℤ d) ≤ℤ number) × (number ≤ℤ (range.high *ℤ d))) }
@@ -108,7 +111,7 @@ fn in_boxes(problem: &Problem, set: UnitSet, d: i128, size_at: &[i128]) -> bool
     true
 }
 
-/// What the units make of the material less what they use, and the number of the step that comes next.
+/// What the units make of the material less what they use, and the number of the next step.
 fn balance_of(
     start: u32,
     problem: &Problem,
@@ -119,11 +122,15 @@ fn balance_of(
     requires known { (u : ℕ) → has units u ≡ true → u < length problem.now.units }
     requires all_sizes { length size_at.now ≡ 128 }
     requires room { start ≤ 100000 }
-    ensures value { IfOk result (λ p. p.0 ≡ total (λ i. rate_of problem.now j i *ℤ entry size_at.now i) units) }
-    ensures in_range { OnOk result (AreInRange (balance_steps (net_of problem.now) (entry size_at.now) j units (pos 0))) }
+    ensures value { IfOk result
+        (λ p. p.0 ≡ total (λ i. rate_of problem.now j i *ℤ entry size_at.now i) units) }
+    ensures in_range { OnOk result
+        (AreInRange (balance_steps (net_of problem.now) (entry size_at.now) j units (pos 0))) }
     ensures count { IfOk result (λ p. p.1 ≡ start + 2 * length units) }
     ensures from_start { IfErr result (λ e. start ≤ e.at) }
-    ensures past { IfErr result (λ e. IsFirstPast (balance_steps (net_of problem.now) (entry size_at.now) j units (pos 0)) (e.at - start)) }
+    ensures past { IfErr result
+        (λ e. IsFirstPast (balance_steps (net_of problem.now) (entry size_at.now) j units (pos 0))
+        (e.at - start)) }
 {
     let mut sum = 0;
     let mut at = start;
@@ -144,7 +151,9 @@ fn balance_of(
 /// The units of the set that make or use the material.
 pub fn units_with(graph: &Graph, set: UnitSet, j: u32) -> UnitSet
     requires { j < (shape graph.now).materials }
-    ensures { (u : ℕ) → has result u ≡ (((shape graph.now).makes u j || (shape graph.now).uses u j) && has set u) }
+    ensures { (u : ℕ)
+        → has result u
+        ≡ (((shape graph.now).makes u j || (shape graph.now).uses u j) && has set u) }
 {
     graph.producers(j).union(graph.consumers(j)).meet(set)
 }
@@ -163,9 +172,15 @@ fn in_ranges(
     requires known { (j : ℕ) → has materials j ≡ true → j < length problem.now.materials }
     requires all_sizes { length size_at.now ≡ 128 }
     requires positive { pos 1 ≤ℤ d }
-    ensures value { IfOk result (λ b. IsTrue b ↔ AreInRanges (net_of problem.now) (has set) (entry size_at.now) d materials) }
-    ensures in_range { OnOk result (AreInRange (materials_steps (net_of problem.now) (has set) (entry size_at.now) materials)) }
-    ensures past { IfErr result (λ e. IsFirstPast (materials_steps (net_of problem.now) (has set) (entry size_at.now) materials) e.at) }
+    ensures value { IfOk result
+        (λ b. IsTrue b
+        ↔ AreInRanges (net_of problem.now) (has set) (entry size_at.now) d materials) }
+    ensures in_range { OnOk result
+        (AreInRange
+        (materials_steps (net_of problem.now) (has set) (entry size_at.now) materials)) }
+    ensures past { IfErr result
+        (λ e. IsFirstPast
+        (materials_steps (net_of problem.now) (has set) (entry size_at.now) materials) e.at) }
 {
     problem.is_valid();
     let mut hold = true;
@@ -186,10 +201,12 @@ fn in_ranges(
     Ok(hold)
 }
 
-/// Whether the sizes, in millionths over `d`, that stand beside the units of the set in rising order are flows for it: each
-/// size is within its unit's bounds, and each material of the set leaves over no less and no more than its bounds; or the
-/// number of the first step that is out of range, all steps being formed before the answer. Only what materials leave over
-/// is formed: nothing is multiplied by `d`. A unit's terms are looked through for each of its materials. Takes no memory.
+/// Whether the sizes are flows for the set: each size is within its unit's bounds, and each
+/// material of the set leaves over no less and no more than its bounds. Or the number of the first
+/// step that is out of range; all steps are formed before the answer. The sizes are in millionths
+/// over `d`, one for each unit of the set in rising order. Only what materials leave over is
+/// formed, and nothing is multiplied by `d`. A unit's terms are looked through for each of its
+/// materials. It takes no memory.
 pub fn feasible(
     problem: &Problem,
     graph: &Graph,
@@ -201,9 +218,13 @@ pub fn feasible(
     requires known { (u : ℕ) → has set u ≡ true → u < (shape graph.now).units }
     requires sizes { length sizes.now ≡ length set }
     requires positive { pos 1 ≤ℤ d }
-    ensures value { IfOk result (λ b. IsTrue b ↔ IsFlows (net_of problem.now) (has set) (beside set sizes.now) d) }
-    ensures in_range { OnOk result (AreInRange (feasible_steps (net_of problem.now) (has set) (beside set sizes.now) d)) }
-    ensures past { IfErr result (λ e. IsFirstPast (feasible_steps (net_of problem.now) (has set) (beside set sizes.now) d) e.at) }
+    ensures value { IfOk result
+        (λ b. IsTrue b ↔ IsFlows (net_of problem.now) (has set) (beside set sizes.now) d) }
+    ensures in_range { OnOk result
+        (AreInRange (feasible_steps (net_of problem.now) (has set) (beside set sizes.now) d)) }
+    ensures past { IfErr result
+        (λ e. IsFirstPast (feasible_steps (net_of problem.now) (has set) (beside set sizes.now) d)
+        e.at) }
 {
     set.rises();
     graph.is_proper();

@@ -1,14 +1,16 @@
-//! Flows of a plant, exactly: the program of a node, its bounds and refutations, and the cost and the feasibility of given
-//! flows. The definitions, and the laws that make a bound a bound, stand in `flow_rules`.
+//! Bounds, refutations, costs and feasibility of flows, exactly.
 //!
-//! [`bound_of`], [`refutes`], [`cost_of`] and [`feasible`] take a problem beside its graph and no memory. Each gives the
-//! value of its definition exactly where every number that is formed on the way is in range, and else, as [`PastSum`], the
-//! number of the first that is not. The numbers that a sum starts from, as costs and ranges, cannot leave the range.
-//! [`Program::of`] gives the numbers of a node's program as lists, from which a simplex method starts.
-//! [`sets_of`], [`unit_numbers`], [`row_range`] and [`put_rates`] give the same numbers one unit or row at a time, without memory.
+//! The definitions, and the laws that make a bound a bound, are in `flow_rules`. [`bound_of`],
+//! [`refutes`], [`cost_of`] and [`feasible`] take a problem and its graph, and no memory. Each
+//! gives the value of its definition exactly if every number that is formed on the way is in range.
+//! Else it gives, as [`PastSum`], the place of the first that is not. The numbers that a sum starts
+//! from, such as costs and ranges, cannot leave the range. [`Program::of`] gives the numbers of a
+//! node's program as lists, from which a simplex method starts. [`sets_of`], [`unit_numbers`],
+//! [`row_range`] and [`put_rates`] give the same numbers one unit or row at a time, without memory.
 //!
-//! Modules: `costs`, `ranges` and `rates` read a problem; `node_sets` and `node_numbers` say what a node makes of it; `tables`
-//! finds a value by the number of a material or unit; `products` multiplies; `bound`, `cost`, `feasibility` and `program` are the calls.
+//! Modules: `costs`, `ranges` and `rates` read a problem; `node_sets` and `node_numbers` say what
+//! it is at a node; `tables` finds a value by the number of a material or unit; `products`
+//! multiplies; `bound`, `cost`, `feasibility` and `program` are the calls.
 #![tactic(auto)]
 
 mod bound;

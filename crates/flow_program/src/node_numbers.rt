@@ -1,5 +1,6 @@
 //! The numbers of units and rows at a node. None of them can leave the range.
-ghost use Rattle.std.specs.Prelude.{◌≡◌, ◌<◌, ◌≤◌, ◌*◌, ◌^◌, ◌+ℤ◌, ◌*ℤ◌, ◌≤ℤ◌, pos, cond, int_div, length, unsigned_abs};
+ghost use Rattle.std.specs.Prelude.{◌≡◌, ◌<◌, ◌≤◌, ◌*◌, ◌^◌, ◌+ℤ◌, ◌*ℤ◌, ◌≤ℤ◌, pos, cond, int_div};
+ghost use Rattle.std.specs.Prelude.{length, unsigned_abs};
 ghost use Rattle.std.specs.Ordering.{int_eq};
 ghost use Rattle.pns_rules.specs.Shape.{shape_of};
 ghost use Rattle.pgraph.specs.View.{node_of};
@@ -31,10 +32,11 @@ pub fn row_range(problem: &Problem, node: &Node, needed: MatSet, j: u32) -> Rang
     }
 }
 
-/// What a free unit of size 1 pays in place of its fixed cost.
+/// What a free unit of size 1 pays instead of its fixed cost.
 fn slope_cost(fixed: i128, upper: i64) -> i128
     requires { unsigned_abs fixed ≤ 2 * 10 ^ 17 }
-    ensures value { result ≡ cond (int_eq upper (pos 0)) (pos 0) (int_div (fixed *ℤ million) upper) *ℤ million }
+    ensures value { result ≡ cond (int_eq upper (pos 0)) (pos 0) (int_div (fixed *ℤ million) upper)
+        *ℤ million }
     ensures small { unsigned_abs result ≤ 2 * 10 ^ 29 }
 {
     slope(fixed, upper) * 1_000_000
@@ -74,7 +76,7 @@ pub struct UnitNumbers {
     pub high: i128,
 }
 
-/// The numbers of a unit at a node, whose materials and rates are handed in.
+/// The numbers of a unit at a node, from its materials and rates.
 pub fn unit_numbers(
     problem: &Problem,
     node: &Node,

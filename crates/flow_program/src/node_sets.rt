@@ -8,8 +8,8 @@ ghost use Rattle.flow_program.specs.NodeSets.{AreSetsOf};
 use pgraph::Graph;
 use unit_sets::{MatSet, Node, UnitSet};
 
-/// The units of the program, its rows, and the materials that have to be there: the products and those of the units that
-/// are taken in.
+/// The units of the program, its rows, and the materials that have to be there: the products and
+/// the materials of the units that are taken in.
 #[derive(Clone, Copy)]
 pub struct NodeSets {
     pub units: UnitSet,
@@ -20,7 +20,8 @@ pub struct NodeSets {
 /// The sets of a node's program.
 pub fn sets_of(graph: &Graph, node: &Node) -> NodeSets
     requires { (u : ℕ) → has node.now.inside u ≡ true → u < (shape graph.now).units }
-    ensures { AreSetsOf (shape graph.now) (node_of node.now) result.units result.rows result.needed }
+    ensures { AreSetsOf (shape graph.now) (node_of node.now) result.units result.rows
+        result.needed }
 {
     graph.is_proper();
     let units = UnitSet::below(graph.unit_count()).minus(node.outside);

@@ -13,7 +13,8 @@ fn short_product(a: i64, b: i64) -> i128
     a as i128 * b as i128
 }
 
-/// The product, or `None` exactly where it is out of range. Where both numbers are short there is nothing to check.
+/// The product, or `None` exactly if it is out of range. If both numbers are short there is nothing
+/// to check.
 pub(crate) fn quick_product(a: i128, b: i128) -> Option<i128>
     ensures { SomeIff result (InRange (a *ℤ b)) (a *ℤ b) }
 {

@@ -20,10 +20,10 @@ use std::alloc::{AllocError, Global};
 use std::marker::Model;
 use unit_sets::{MatSet, Node, UnitSet};
 
-/// The relaxed flow program of a node. Its units and its rows stand in rising order; by their places in this order, each
-/// unit has what a size of 1 costs and the range of its size, each row the range of what its material leaves over, and
-/// each unit has its rate in each row. Sizes and rates are in millionths, the rest in the measure of their products. No
-/// range is empty.
+/// The relaxed flow program of a node. Its units and its rows are in rising order. By their places
+/// in this order, each unit has what a size of 1 costs, the range of its size, and its rate in each
+/// row. Each row has the range of what its material leaves over. Sizes and rates are in millionths,
+/// the rest in the measure of their products. No range is empty.
 #[derive(Drop)]
 pub struct Program {
     units: UnitSet,
@@ -42,7 +42,19 @@ impl Model for Program {
 
     ghost Value = { rules.Program };
 
-    ghost view = { λ q. record { units = q.units; rows = q.rows; fixed = q.fixed; costs = q.costs.items; lows = q.lows.items; highs = q.highs.items; floors = q.floors.items; ceilings = q.ceilings.items; rates = q.rates.items } };
+    ghost view = { λ q. record {
+      units = q.units;
+      rows = q.rows;
+      fixed = q.fixed;
+      costs =
+          q.costs.items;
+      lows = q.lows.items;
+      highs = q.highs.items;
+      floors =
+          q.floors.items;
+      ceilings = q.ceilings.items;
+      rates = q.rates.items;
+    } };
 
     ghost invariant = { λ q. rules.IsProgram (record {
       units = q.units;
@@ -73,7 +85,7 @@ struct Bands {
     ceilings: Vec<i128>,
 }
 
-/// The rate in the row of a material, 0 where it is none of the unit's.
+/// The rate in the row of a material; 0 if it is no material of the unit.
 fn rate_in_row(materials: MatSet, rates: &[i64], j: u32) -> i128
     requires all_rates { length rates.now ≡ 256 }
     requires known { j < 256 }
@@ -94,7 +106,8 @@ fn push_rates(
     rates: &[i64],
 ) -> Result<(), AllocError>
     requires { length rates.now ≡ 256 }
-    ensures { OnOk result (list.new.items ≡ list.old.items ++ map (rate_beside materials rates.now) rows) }
+    ensures { OnOk result
+        (list.new.items ≡ list.old.items ++ map (rate_beside materials rates.now) rows) }
 {
     for j in rows {
         list.push(rate_in_row(materials, rates, j))?;
@@ -112,8 +125,10 @@ fn columns_of(
 ) -> Result<Columns, AllocError>
     requires graph { shape graph.now ≡ shape_of problem.now }
     requires known { (u : ℕ) → has units u ≡ true → u < length problem.now.units }
-    ensures costs { IfOk result (λ k. k.costs.items ≡ map (unit_cost (net_of problem.now) (node_of node.now)) units) }
-    ensures lows { IfOk result (λ k. k.lows.items ≡ map (unit_low (net_of problem.now) (node_of node.now)) units) }
+    ensures costs { IfOk result
+        (λ k. k.costs.items ≡ map (unit_cost (net_of problem.now) (node_of node.now)) units) }
+    ensures lows { IfOk result
+        (λ k. k.lows.items ≡ map (unit_low (net_of problem.now) (node_of node.now)) units) }
     ensures highs { IfOk result (λ k. k.highs.items ≡ map (net_of problem.now).most units) }
     ensures rates { IfOk result (λ k. k.rates.items ≡ rates_over (net_of problem.now) rows units) }
 {
@@ -147,8 +162,10 @@ fn bands_of(
 ) -> Result<Bands, AllocError>
     requires known { (j : ℕ) → has rows j ≡ true → j < length problem.now.materials }
     requires needed { AreNeeded (shape_of problem.now) (node_of node.now) needed }
-    ensures floors { IfOk result (λ b. b.floors.items ≡ map (row_low (net_of problem.now) (node_of node.now)) rows) }
-    ensures ceilings { IfOk result (λ b. b.ceilings.items ≡ map (row_high (net_of problem.now) (node_of node.now)) rows) }
+    ensures floors { IfOk result
+        (λ b. b.floors.items ≡ map (row_low (net_of problem.now) (node_of node.now)) rows) }
+    ensures ceilings { IfOk result
+        (λ b. b.ceilings.items ≡ map (row_high (net_of problem.now) (node_of node.now)) rows) }
 {
     let mut floors = Vec::new(alloc);
     let mut ceilings = Vec::new(alloc);
@@ -195,7 +212,7 @@ impl Program {
         })
     }
 
-    /// What holds of every program. A clause sees the value alone.
+    /// Every program has this. A call gives it to a proof.
     pub fn is_program(&self)
         ensures { IsProgram self.now }
     {

@@ -30,7 +30,7 @@ fn negated_millionfold(amount: i64) -> i128
     millionfold(-amount)
 }
 
-/// The range of a material whose lower bound is taken as so much.
+/// The range of a material with this lower bound.
 pub(crate) fn range_of(problem: &Problem, j: u32, lower: i64) -> Range
     requires known { j < length problem.now.materials }
     requires lower { IsInRange lower }

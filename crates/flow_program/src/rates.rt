@@ -10,7 +10,7 @@ use pgraph::Graph;
 use pns_problem::{Problem, Term};
 use unit_sets::MatSet;
 
-/// The rate, negative where it is of an input.
+/// The rate, negative if it is of an input.
 fn signed(rate: i64, used: bool) -> i64
     requires { IsInRange rate }
     ensures { result ≡ cond used (neg_ℤ rate) rate }
@@ -24,7 +24,10 @@ fn put(rates: &mut [i64], terms: &[Term], used: bool, materials: u32)
     requires few { materials ≤ 256 }
     requires formed { IsWellFormedSide materials terms.now }
     ensures size { length rates.new ≡ 256 }
-    ensures written { (x : ℕ) → slice_index_or rates.new x (pos 0) ≡ cond (terms_have terms.now x) (cond used (neg_ℤ (rate_in terms.now x)) (rate_in terms.now x)) (slice_index_or rates.old x (pos 0)) }
+    ensures written { (x : ℕ) → slice_index_or rates.new x (pos 0)
+        ≡ cond (terms_have terms.now x)
+        (cond used (neg_ℤ (rate_in terms.now x)) (rate_in terms.now x))
+        (slice_index_or rates.old x (pos 0)) }
 {
     'writing: for term in terms {
         rates[term.material as usize] = signed(term.rate, used);

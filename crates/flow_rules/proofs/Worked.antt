@@ -1,5 +1,6 @@
--- Worked nodes and networks: the flow program of the example problem where U3 is taken in and U4 and U5 are left out, costs
--- of networks with yearly costs and over a payout period, a refutation, and the first step that is out of range.
+-- Worked nodes and networks: the flow program of the example problem with U3 taken in and U4 and U5
+-- left out; costs of networks with yearly costs and over a payout period; a refutation; and the
+-- first step that is out of range.
 use Rattle.std.proofs.Common.{◌≡◌, ℕ, pos, negsuc, ℤ, [], ◌∷◌, refl, length}
 use Rattle.number_sets.specs.Sets.{has, listed}
 use Rattle.pns_rules.specs.Nodes.{Node}
@@ -36,33 +37,44 @@ its_steps : length (bound_steps (net_of example) node (pos 1) multipliers) ≡ 3
 unfolding listed
 its_steps = refl
 
-first_network : cost (net_of example) (has (0 ∷ 2 ∷ [])) (beside (0 ∷ 2 ∷ []) (pos 20000000 ∷ pos 20000000 ∷ [])) (pos 1) ≡ pos 75000000000000000000
+first_network : cost (net_of example) (has (0 ∷ 2 ∷ []))
+    (beside (0 ∷ 2 ∷ []) (pos 20000000 ∷ pos 20000000 ∷ [])) (pos 1) ≡ pos 75000000000000000000
 unfolding listed
 first_network = refl
 
-second_network : cost (net_of example) (has (1 ∷ 2 ∷ [])) (beside (1 ∷ 2 ∷ []) (pos 20000000 ∷ pos 20000000 ∷ [])) (pos 1) ≡ pos 86000000000000000000
+second_network : cost (net_of example) (has (1 ∷ 2 ∷ []))
+    (beside (1 ∷ 2 ∷ []) (pos 20000000 ∷ pos 20000000 ∷ [])) (pos 1) ≡ pos 86000000000000000000
 unfolding listed
 second_network = refl
 
-third_network : cost (net_of example) (has (0 ∷ 1 ∷ 2 ∷ [])) (beside (0 ∷ 1 ∷ 2 ∷ []) (pos 20000000 ∷ pos 0 ∷ pos 20000000 ∷ [])) (pos 1) ≡ pos 76000000000000000000
+third_network : cost (net_of example) (has (0 ∷ 1 ∷ 2 ∷ []))
+    (beside (0 ∷ 1 ∷ 2 ∷ []) (pos 20000000 ∷ pos 0 ∷ pos 20000000 ∷ [])) (pos 1)
+    ≡ pos 76000000000000000000
 unfolding listed
 third_network = refl
 
 -- what a network of U1 and U3 leaves over of A, C and P
-left_over : balance (net_of example) (has (0 ∷ 2 ∷ [])) (beside (0 ∷ 2 ∷ []) (pos 20000000 ∷ pos 20000000 ∷ [])) 0 ≡ negsuc 19999999999999
+left_over : balance (net_of example) (has (0 ∷ 2 ∷ []))
+    (beside (0 ∷ 2 ∷ []) (pos 20000000 ∷ pos 20000000 ∷ [])) 0 ≡ negsuc 19999999999999
 unfolding listed
 left_over = refl
 
--- U1 without a yearly fixed cost, and a payout period of ten years: an investment of 100, or of 1000
-with_investment : cost (net_of (example_with (pos 0) (pos 100000000) (pos 10) (pos 20000000))) (has (0 ∷ 2 ∷ [])) (beside (0 ∷ 2 ∷ []) (pos 20000000 ∷ pos 20000000 ∷ [])) (pos 1) ≡ pos 750000000000000000000
+-- U1 without a yearly fixed cost, and a payout period of ten years: an investment of 100, or of
+-- 1000
+with_investment : cost (net_of (example_with (pos 0) (pos 100000000) (pos 10) (pos 20000000)))
+    (has (0 ∷ 2 ∷ [])) (beside (0 ∷ 2 ∷ []) (pos 20000000 ∷ pos 20000000 ∷ [])) (pos 1)
+    ≡ pos 750000000000000000000
 unfolding listed
 with_investment = refl
 
-with_other_unit : cost (net_of (example_with (pos 0) (pos 1000000000) (pos 10) (pos 20000000))) (has (1 ∷ 2 ∷ [])) (beside (1 ∷ 2 ∷ []) (pos 20000000 ∷ pos 20000000 ∷ [])) (pos 1) ≡ pos 860000000000000000000
+with_other_unit : cost (net_of (example_with (pos 0) (pos 1000000000) (pos 10) (pos 20000000)))
+    (has (1 ∷ 2 ∷ [])) (beside (1 ∷ 2 ∷ []) (pos 20000000 ∷ pos 20000000 ∷ [])) (pos 1)
+    ≡ pos 860000000000000000000
 unfolding listed
 with_other_unit = refl
 
 -- 200 of P are wanted, and U3 has a size of at most 150
-refuted : bound (net_of (example_with (pos 10000000) (pos 0) (pos 1) (pos 200000000))) node (pos 0) (beside (0 ∷ 1 ∷ 2 ∷ 5 ∷ []) (pos 0 ∷ pos 0 ∷ pos 0 ∷ pos 1 ∷ [])) ≡ pos 50000000000000
+refuted : bound (net_of (example_with (pos 10000000) (pos 0) (pos 1) (pos 200000000))) node (pos 0)
+    (beside (0 ∷ 1 ∷ 2 ∷ 5 ∷ []) (pos 0 ∷ pos 0 ∷ pos 0 ∷ pos 1 ∷ [])) ≡ pos 50000000000000
 unfolding listed
 refuted = refl

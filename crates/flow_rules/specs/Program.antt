@@ -1,10 +1,13 @@
--- The numbers of the flow program of a node, as lists in rising order of units and rows: what a simplex method starts from.
-use Rattle.std.specs.Prelude.{◌≤◌, ◌^◌, ℕ, ℤ, ◌≤ℤ◌, unsigned_abs, List, [], ◌∷◌, ◌++◌, map, length, All}
+-- The numbers of the flow program of a node, as lists in rising order of units and rows. A simplex
+-- method starts from them.
+use Rattle.std.specs.Prelude.{◌≤◌, ◌^◌, ℕ, ℤ, ◌≤ℤ◌, unsigned_abs, List, [], ◌∷◌, ◌++◌, map, length}
+use Rattle.std.specs.Prelude.{All}
 use Rattle.std.specs.Prelude.{◌≡◌, ◌*◌}
 use Rattle.number_sets.specs.Sets.{IsSet}
 use Rattle.pns_rules.specs.Nodes.{Node}
 use Rattle.flow_rules.specs.Net.{Net}
-use Rattle.flow_rules.specs.Relaxed.{units, rows, row_low, row_high, unit_low, unit_cost, fixed_cost}
+use Rattle.flow_rules.specs.Relaxed.{units, rows, row_low, row_high, unit_low, unit_cost}
+use Rattle.flow_rules.specs.Relaxed.{fixed_cost}
 
 pub record Program : Type 0 where
   pub units : List ℕ
@@ -41,15 +44,16 @@ program_of net n = record {
 abbrev pub IsWithin : ℕ → ℤ → Type 0
 IsWithin limit z = unsigned_abs z ≤ limit
 
--- the ranges, of which there are as many low as high ends, are not empty, and their ends are within the limit
+-- the ranges are not empty, there are as many low as high ends, and the ends are within the limit
 abbrev pub AreRanges : ℕ → List ℤ → List ℤ → Type 0
 AreRanges limit [] [] = Unit {0}
 AreRanges limit [] (high ∷ highs) = ⊥
 AreRanges limit (low ∷ lows) [] = ⊥
-AreRanges limit (low ∷ lows) (high ∷ highs) = IsWithin limit low × IsWithin limit high × (low ≤ℤ high) × AreRanges limit lows highs
+AreRanges limit (low ∷ lows) (high ∷ highs) =
+    IsWithin limit low × IsWithin limit high × (low ≤ℤ high) × AreRanges limit lows highs
 
--- what holds of the program of each node: no box of a unit and no range of a row is empty, and every number is small enough
--- that its products with the others are in range
+-- what is known of the program of each node: no box of a unit and no range of a row is empty, and
+-- every number is so small that its products with the others are in range
 pub record IsProgram (q : Program) : Type 0 where
   pub units_set : IsSet 128 q.units
   pub rows_set : IsSet 256 q.rows

@@ -1,24 +1,32 @@
-//! Flows of a set of operating units and their cost, the relaxed flow program of a node, its bounds and refutations, the
-//! numbers that each such sum forms on its way, and the laws that tie them: weak duality above all.
+//! No flows in a node's family cost less than its bound; a refuted node has none.
 //!
-//! The definitions stand in `specs/`: `Net` (a problem as functions of numbers), `Flows`, `Relaxed`, and, for each sum, the
-//! list of its steps with the words that say which step is the first out of range. [`Column`] and [`Place`] name where a number of
-//! a simplex method is. Each law is the contract of a function without a body, which a proof elsewhere calls to have it.
+//! This crate defines flows of a set of operating units and their cost, the relaxed flow program of
+//! a node, its bounds and its refutations. Its laws tie them, weak duality above all.
+//!
+//! In `specs/`: `Net`, a problem as functions of numbers; `Flows`, `Relaxed` and `Program`;
+//! `Steps`, `BoundSteps`, `CostSteps` and `FeasibleSteps`, the numbers that each sum forms on its
+//! way, and which is the first out of range. [`Column`] and [`Place`] name the place of a number of
+//! a simplex method. Each law is the contract of a function without a body. A proof elsewhere calls
+//! the function to use the law.
 #![tactic(auto)]
 
 mod place;
 
-ghost use Rattle.flow_rules.specs.Laws.{RelaxedDuality, FlowsAreRelaxed, RelaxedCostsLess, SlopeIsGreatest, WeakDuality, RefutationHolds, RefutedIsEmpty, BoundIsLast, CostIsLast, ReducedIsLast, BalanceIsLast};
+ghost use Rattle.flow_rules.specs.Laws.{RelaxedDuality, FlowsAreRelaxed, RelaxedCostsLess};
+ghost use Rattle.flow_rules.specs.Laws.{SlopeIsGreatest, WeakDuality, RefutationHolds};
+ghost use Rattle.flow_rules.specs.Laws.{RefutedIsEmpty, BoundIsLast, CostIsLast, ReducedIsLast};
+ghost use Rattle.flow_rules.specs.Laws.{BalanceIsLast};
 
 pub use place::{Column, FlowStep, Place};
 
-/// No flows for a solution structure that has the units taken in at a node and none that is left out, cost less than a
-/// bound of the node, for any multipliers and any scale of the cost.
+/// For any multipliers and any scale of the cost from 0 on: no flows for a solution structure cost
+/// less than a bound of a node, if the structure has the units that are taken in at the node and
+/// none that is left out.
 pub fn weak_duality()
     ensures { WeakDuality }
 {}
 
-/// Where multipliers refute a node, no such structure has flows, and the node has no relaxed flows.
+/// If multipliers refute a node, no such structure has flows, and the node has no relaxed flows.
 pub fn refutation()
     ensures structures { RefutationHolds }
     ensures relaxed { RefutedIsEmpty }
@@ -29,13 +37,15 @@ pub fn relaxed_duality()
     ensures { RelaxedDuality }
 {}
 
-/// Flows for a structure of a node are relaxed flows of the node, and their relaxed cost is at most their cost.
+/// Flows for a structure of a node are relaxed flows of the node, and their relaxed cost is at most
+/// their cost.
 pub fn flows_are_relaxed()
     ensures relaxed { FlowsAreRelaxed }
     ensures cost { RelaxedCostsLess }
 {}
 
-/// The slope by which a free unit pays for its fixed cost is the greatest that does not pay more.
+/// The slope by which a free unit pays for its fixed cost is the greatest that does not pay more
+/// than that cost.
 pub fn slope_is_greatest()
     ensures { SlopeIsGreatest }
 {}

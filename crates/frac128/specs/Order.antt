@@ -1,4 +1,5 @@
--- The order of fractions: a / b stands to c / d as a * d to c * b, since the denominators b and d are above 0.
+-- The order of fractions: a / b compares to c / d as a * d to c * b, since the denominators b and d
+-- are above 0.
 use Rattle.std.specs.Prelude.{◌*ℤ◌}
 use Rattle.std.specs.Ordering.{int_cmp}
 use Rattle.std.specs.declared.cmp.Ordering.{Ordering}

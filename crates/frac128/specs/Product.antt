@@ -1,4 +1,4 @@
--- A fraction that cannot be kept, because its lowest terms leave the range.
+-- A fraction that cannot be kept, because in lowest terms it leaves the range.
 use Rattle.std.specs.Prelude.{ℤ}
 use Rattle.integer_laws.specs.Range.{InRange}
 use Rattle.integer_laws.specs.Lowest.{IsLowest}

@@ -5,7 +5,8 @@ ghost use Rattle.std.specs.Ordering.{int_cmp};
 use crate::euclid::compare_fractions;
 use std::cmp::Ordering;
 
-/// A cost over d, which is at least 1. It is in no lowest terms: two costs may be one number.
+/// A cost over d, which is at least 1. It need not be in lowest terms, so two costs may be one
+/// number.
 #[derive(Clone, Copy, Debug, PartialEq, Eq)]
 pub struct CostOver {
     pub cost: i128,
@@ -27,7 +28,8 @@ impl CostOver {
 
     /// Whether the cost is at most the other one, whatever the size of the cross products.
     pub fn is_no_more(&self, other: &CostOver) -> bool
-        ensures { IsTrue result ↔ ((self.now.cost *ℤ other.now.d) ≤ℤ (other.now.cost *ℤ self.now.d)) }
+        ensures { IsTrue result
+            ↔ ((self.now.cost *ℤ other.now.d) ≤ℤ (other.now.cost *ℤ self.now.d)) }
     {
         self.is_reached(other.cost, other.d)
     }

@@ -1,4 +1,5 @@
-// The comparison of two fractions by their quotients, remainder after remainder, so that no product is formed.
+// The comparison of two fractions by their quotients, remainder after remainder, so that no product
+// is formed.
 ghost use Rattle.std.specs.Prelude.{◌≡◌, ◌<◌, ◌*◌};
 ghost use Rattle.std.specs.Ordering.{nat_cmp};
 
@@ -21,7 +22,7 @@ pub fn compare_fractions(a: u128, b: u128, c: u128, d: u128) -> Ordering
             return rest.cmp(&other);
         }
 
-        // The fractions left over compare as their reciprocals do, the other way round.
+        // The remaining fractions compare as their reciprocals do, in reverse.
         (a, b, c, d) = (d, other, b, rest);
     }
 }

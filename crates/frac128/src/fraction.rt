@@ -1,5 +1,6 @@
 // A fraction in lowest terms, and its arithmetic.
-ghost use Rattle.std.specs.Prelude.{◌≡◌, ◌+ℤ◌, ◌*ℤ◌, ◌<ℤ◌, ◌↔◌, pos, unsigned_abs, IfOk, IsErr, Some};
+ghost use Rattle.std.specs.Prelude.{◌≡◌, ◌+ℤ◌, ◌*ℤ◌, ◌<ℤ◌, ◌↔◌, pos, unsigned_abs, IfOk, IsErr};
+ghost use Rattle.std.specs.Prelude.{Some};
 ghost use Rattle.std.specs.Int.{IsGcd};
 ghost use Rattle.std.specs.Ordering.{int_cmp};
 ghost use Rattle.integer_laws.specs.Range.{InRange};
@@ -11,7 +12,8 @@ use crate::euclid::compare_fractions;
 use int_rows::{checked_product, checked_sum, lowest_terms};
 use std::cmp::Ordering;
 
-/// A fraction in lowest terms: the denominator is at least 1, and no number above 1 divides numerator and denominator.
+/// A fraction in lowest terms: the denominator is at least 1, and no number above 1 divides both
+/// numerator and denominator.
 #[derive(Clone, Copy, Debug, PartialEq, Eq, Hash)]
 pub struct Frac {
     pub num: i128,
@@ -22,7 +24,7 @@ pub struct Frac {
     ghost lowest: { IsGcd (unsigned_abs num) (unsigned_abs den) 1 },
 }
 
-/// A number formed on the way is out of range: its absolute value is above 2^127 - 1.
+/// A number that was formed on the way is out of range: its absolute value is above 2^127 - 1.
 #[derive(Clone, Copy, Debug, PartialEq, Eq)]
 pub struct Past;
 
@@ -43,7 +45,7 @@ fn of_products(a: i128, c: i128, b: i128, d: i128) -> Result<Frac, Past>
 }
 
 impl Frac {
-    /// num / den, where den is at least 1.
+    /// num / den; den is at least 1.
     pub fn of(num: i128, den: i128) -> Frac
         requires num_in_range { InRange num }
         requires den_in_range { InRange den }
@@ -68,10 +70,13 @@ impl Frac {
         self.den
     }
 
-    /// The sum. It is refused exactly where one of the numbers formed for it is out of range.
+    /// The sum. It is refused exactly if one of the numbers formed for it is out of range.
     pub fn add(&self, other: &Frac) -> Result<Frac, Past>
-        ensures value { IfOk result (λ f. IsLowest (self.now.num *ℤ other.now.den +ℤ other.now.num *ℤ self.now.den) (self.now.den *ℤ other.now.den) f.num f.den) }
-        ensures past { IsErr result ↔ IsPastSum self.now.num self.now.den other.now.num other.now.den }
+        ensures value { IfOk result
+            (λ f. IsLowest (self.now.num *ℤ other.now.den +ℤ other.now.num *ℤ self.now.den)
+            (self.now.den *ℤ other.now.den) f.num f.den) }
+        ensures past { IsErr result
+            ↔ IsPastSum self.now.num self.now.den other.now.num other.now.den }
     {
         let (own_part, other_part) = lowest_terms(self.den, other.den);
         let Some(left) = checked_product(self.num, other_part) else {
@@ -89,10 +94,14 @@ impl Frac {
         Ok(Frac::of(num, den))
     }
 
-    /// The product. It is refused exactly where its numerator or denominator in lowest terms is out of range.
+    /// The product. It is refused exactly if its numerator or denominator in lowest terms is out of
+    /// range.
     pub fn mul(&self, other: &Frac) -> Result<Frac, Past>
-        ensures value { IfOk result (λ f. IsLowest (self.now.num *ℤ other.now.num) (self.now.den *ℤ other.now.den) f.num f.den) }
-        ensures past { IsErr result ↔ IsPastLowest (self.now.num *ℤ other.now.num) (self.now.den *ℤ other.now.den) }
+        ensures value { IfOk result
+            (λ f. IsLowest (self.now.num *ℤ other.now.num) (self.now.den *ℤ other.now.den) f.num
+            f.den) }
+        ensures past { IsErr result
+            ↔ IsPastLowest (self.now.num *ℤ other.now.num) (self.now.den *ℤ other.now.den) }
     {
         let (left_num, left_den) = lowest_terms(self.num, other.den);
         let (right_num, right_den) = lowest_terms(other.num, self.den);
@@ -113,7 +122,7 @@ impl Ord for Frac {
 
     ghost matches_eq = { fraction_cmp_ties };
 
-    /// Compares the two numbers. No product of theirs has to be in range.
+    /// Compares the two numbers. Their cross products need not be in range.
     fn cmp(&self, other: &Frac) -> Ordering {
         let left = checked_product(self.num, other.den);
         let right = checked_product(other.num, self.den);
@@ -124,7 +133,7 @@ impl Ord for Frac {
     }
 }
 
-/// The comparison where a cross product may be out of range.
+/// The comparison if a cross product may be out of range.
 fn compare_by_steps(left: &Frac, right: &Frac) -> Ordering
     ensures { result ≡ int_cmp (left.now.num *ℤ right.now.den) (right.now.num *ℤ left.now.den) }
 {
@@ -146,7 +155,8 @@ impl PartialOrd for Frac {
 
     ghost partial_cmp = { λ x y. Some (fraction_cmp x y) };
 
-    ghost laws = { partial_order_from_agreeing_total fraction_cmp fraction_cmp_total (λ x y. refl) fraction_cmp_ties };
+    ghost laws = { partial_order_from_agreeing_total fraction_cmp fraction_cmp_total (λ x y. refl)
+        fraction_cmp_ties };
 
     fn partial_cmp(&self, other: &Frac) -> Option<Ordering> {
         Some(self.cmp(other))

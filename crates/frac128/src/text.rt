@@ -7,9 +7,10 @@ use crate::Frac;
 use std::alloc::{AllocError, Global};
 
 impl Frac {
-    /// `n` where the denominator is 1, else `n/d`, in decimal.
+    /// `n` if the denominator is 1, else `n/d`, in decimal.
     pub fn text(&self, alloc: Global) -> Result<String, AllocError>
-        ensures { IfOk result (λ text. string_bytes text ≡ fraction_text self.now.num self.now.den) }
+        ensures { IfOk result
+            (λ text. string_bytes text ≡ fraction_text self.now.num self.now.den) }
     {
         let (num, den) = (self.num(), self.den());
         if den == 1 {

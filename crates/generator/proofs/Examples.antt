@@ -7,11 +7,12 @@ use Rattle.problem_rules.specs.Draws.{first_state, next_state, state_after}
 use Rattle.problem_rules.specs.Generated.{generated}
 
 states : map (λ draws. state_after draws (first_state 0)) (range_with_len 1 18)
-    ≡ 74 ∷ 5624 ∷ 28652 ∷ 51790 ∷ 17641 ∷ 12409 ∷ 13231 ∷ 9344 ∷ 45504 ∷ 4950 ∷ 43639 ∷ 61686 ∷ 38934 ∷ 36496 ∷ 50257 ∷ 33740 ∷ 40168 ∷ 63509 ∷ []
+    ≡ 74 ∷ 5624 ∷ 28652 ∷ 51790 ∷ 17641 ∷ 12409 ∷ 13231 ∷ 9344 ∷ 45504 ∷ 4950 ∷ 43639 ∷ 61686
+    ∷ 38934 ∷ 36496 ∷ 50257 ∷ 33740 ∷ 40168 ∷ 63509 ∷ []
 unfolding next_state
 states = refl
 
--- a number is taken by its last 16 bits
+-- only the last 16 bits of a number count
 last_bits : generated 65536 3 ≡ generated 0 3
 last_bits = refl
 

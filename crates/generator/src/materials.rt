@@ -1,7 +1,9 @@
 //! The materials of a generated problem.
 ghost use Rattle.std.specs.Prelude.{◌≡◌, ◌++◌, IfOk, OnOk, string_bytes};
 ghost use Rattle.problem_rules.specs.Draws.{state_after};
-ghost use Rattle.problem_rules.specs.Generated.{numbered, whole, raw_priced, raw_materials, intermediate_of, intermediates, end_product, materials_of};
+ghost use Rattle.problem_rules.specs.Generated.{numbered, whole, raw_priced, raw_materials};
+ghost use Rattle.problem_rules.specs.Generated.{intermediate_of, intermediates, end_product};
+ghost use Rattle.problem_rules.specs.Generated.{materials_of};
 
 use crate::draws::Draws;
 use pns_problem::{Kind, Material};

@@ -10,8 +10,8 @@ use pns_problem::{Parts, Problem};
 use problem_rules::valid_is_well_formed;
 use std::alloc::{AllocError, Global};
 
-/// The problem of this number with so many operating units, 1 to 128. Linear in the units; the number counts by its last
-/// 16 bits. Its only refusal is want of memory.
+/// The problem of this number with so many operating units, 1 to 128. The time is linear in the
+/// units. Only the last 16 bits of the number count. The only refusal is out of memory.
 pub fn generate(alloc: Global, number: u64, units: u32) -> Result<Problem, AllocError>
     requires some { 1 ≤ units }
     requires few { units ≤ 128 }
@@ -49,7 +49,8 @@ fn build_valid(alloc: Global, parts: Parts) -> Result<Problem, AllocError>
     }
 }
 
-/// Each number and each count of 1 to 128 units give a valid problem. A call tells a proof so, and does nothing.
+/// For each number and each count of 1 to 128 units the problem is valid. A call gives this to a
+/// proof, and does nothing.
 pub fn generated_is_valid()
     ensures { GeneratedIsValid }
 {

@@ -1,13 +1,20 @@
 //! The lines of arcs.
-ghost use Rattle.std.specs.Prelude.{◌≡◌, ◌++◌, ◌∷◌, [], ◌<◌, ◌≤ℤ◌, ℕ, true, Some, pos, unsigned_abs, codes, OnOk, string_bytes, length, map};
+ghost use Rattle.std.specs.Prelude.{◌≡◌, ◌++◌, ◌∷◌, [], ◌<◌, ◌≤ℤ◌, ℕ, true, Some, pos};
+ghost use Rattle.std.specs.Prelude.{unsigned_abs, codes, OnOk, string_bytes, length, map};
 ghost use Rattle.integer_laws.specs.Range.{InRange};
 ghost use Rattle.number_sets.specs.Sets.{has};
 ghost use Rattle.problem_rules.specs.Problem.{terms_have};
 ghost use Rattle.pns_problem.specs.Kind.{kind_of};
 ghost use Rattle.pns_problem.specs.Printing.{printed};
 ghost use Rattle.tree_rules.specs.Claim.{IsFeasible, size_in};
-ghost use Rattle.report_rules.specs.Drawn.{built_role, is_unit_limited, role_of, flow_text, greatest_flow, width_words};
-ghost use Rattle.report_rules.specs.Graph.{rate_label, flow_label, look_in, arc_look, arc_tip, arc_end, plain_line, use_look, use_text, use_arc, use_line, input_line, output_line};
+ghost use Rattle.report_rules.specs.Drawn.{built_role, is_unit_limited, role_of};
+ghost use Rattle.report_rules.specs.Drawn.{flow_text};
+ghost use Rattle.report_rules.specs.Drawn.{greatest_flow, width_words};
+ghost use Rattle.report_rules.specs.Graph.{rate_label, flow_label, look_in, arc_look};
+ghost use Rattle.report_rules.specs.Graph.{arc_tip};
+ghost use Rattle.report_rules.specs.Graph.{arc_end, plain_line, use_look, use_text};
+ghost use Rattle.report_rules.specs.Graph.{use_arc};
+ghost use Rattle.report_rules.specs.Graph.{use_line, input_line, output_line};
 ghost use Rattle.graph_text.specs.Kept.{picture_of};
 
 use crate::greatest::moved;
@@ -23,7 +30,8 @@ use std::alloc::AllocError;
 
 /// The rate of an arc, if it is not 1.
 fn push_rate(text: &mut String, rate: i64) -> Result<(), AllocError>
-    ensures { OnOk result (string_bytes text.new ≡ string_bytes text.old ++ rate_label rate) }
+    ensures { OnOk result
+        (string_bytes text.new ≡ string_bytes text.old ++ rate_label rate) }
 {
     if rate.unsigned_abs() == 1_000_000 {
         return Ok(());
@@ -36,7 +44,10 @@ fn push_rate(text: &mut String, rate: i64) -> Result<(), AllocError>
 /// How wide the arc of this flow is.
 fn push_width(text: &mut String, picture: &Picture<'_>, flow: i128) -> Result<(), AllocError>
     requires { InRange flow }
-    ensures { OnOk result (string_bytes text.new ≡ string_bytes text.old ++ (codes ", weight=4, penwidth=" ++ width_words (greatest_flow picture.now.problem picture.now.network) (unsigned_abs flow))) }
+    ensures { OnOk result
+        (string_bytes text.new ≡ string_bytes text.old
+        ++ (codes ", weight=4, penwidth="
+        ++ width_words (greatest_flow picture.now.problem picture.now.network) (unsigned_abs flow))) }
 {
     text.push_str(", weight=4, penwidth=")?;
     text.push_str(width(picture.greatest(), flow.unsigned_abs()))?;
@@ -47,7 +58,9 @@ fn push_width(text: &mut String, picture: &Picture<'_>, flow: i128) -> Result<()
 fn push_label(text: &mut String, flow: i128, d: i128) -> Result<(), AllocError>
     requires in_range { InRange flow }
     requires positive { pos 1 ≤ℤ d }
-    ensures { OnOk result (string_bytes text.new ≡ string_bytes text.old ++ (codes ", label=\" " ++ (flow_text flow (unsigned_abs d) ++ 34 ∷ []))) }
+    ensures { OnOk result
+        (string_bytes text.new ≡ string_bytes text.old
+        ++ (codes ", label=\" " ++ (flow_text flow (unsigned_abs d) ++ 34 ∷ []))) }
 {
     text.push_str(", label=\" ")?;
     push_flow(text, flow, d)?;
@@ -66,7 +79,9 @@ fn push_moved(
     requires unit { u < length picture.now.problem.units }
     requires in_network { has network.now.units u ≡ true }
     requires feasible { IsFeasible picture.now.problem network.now }
-    ensures { OnOk result (string_bytes text.new ≡ string_bytes text.old ++ flow_label (picture_of picture.now) network.now u j) }
+    ensures { OnOk result
+        (string_bytes text.new ≡ string_bytes text.old
+        ++ flow_label (picture_of picture.now) network.now u j) }
 {
     network.is_sized();
     let flow = moved(picture.problem(), network, u, j);
@@ -76,7 +91,8 @@ fn push_moved(
 
 /// The look of an arc of a unit that is left out.
 fn push_left_out(text: &mut String) -> Result<(), AllocError>
-    ensures { OnOk result (string_bytes text.new ≡ string_bytes text.old ++ codes ", color=gray75") }
+    ensures { OnOk result
+        (string_bytes text.new ≡ string_bytes text.old ++ codes ", color=gray75") }
 {
     text.push_str(", color=gray75")?;
     Ok(())
@@ -93,7 +109,12 @@ fn push_look_of(
     requires unit { u < length picture.now.problem.units }
     requires in_network { has network.now.units u ≡ true }
     requires feasible { IsFeasible picture.now.problem network.now }
-    ensures { OnOk result (string_bytes text.new ≡ string_bytes text.old ++ look_in (built_role (size_in network.now u) (is_unit_limited picture.now.problem network.now u)) (flow_label (picture_of picture.now) network.now u j)) }
+    ensures { OnOk result
+        (string_bytes text.new ≡ string_bytes text.old
+        ++ look_in
+        (built_role (size_in network.now u)
+        (is_unit_limited picture.now.problem network.now u))
+        (flow_label (picture_of picture.now) network.now u j)) }
 {
     let size = size_at(network, u);
     if size == 0 {
@@ -112,7 +133,10 @@ fn push_look_in(
 ) -> Result<(), AllocError>
     requires unit { u < length picture.now.problem.units }
     requires feasible { IsFeasible picture.now.problem network.now }
-    ensures { OnOk result (string_bytes text.new ≡ string_bytes text.old ++ look_in (role_of picture.now.problem (Some network.now) u) (flow_label (picture_of picture.now) network.now u j)) }
+    ensures { OnOk result
+        (string_bytes text.new ≡ string_bytes text.old
+        ++ look_in (role_of picture.now.problem (Some network.now) u)
+        (flow_label (picture_of picture.now) network.now u j)) }
 {
     if is_in(picture.problem(), network, u) {
         push_look_of(text, picture, network, u, j)
@@ -129,7 +153,9 @@ fn push_look(
     term: &Term,
 ) -> Result<(), AllocError>
     requires { u < length picture.now.problem.units }
-    ensures { OnOk result (string_bytes text.new ≡ string_bytes text.old ++ arc_look (picture_of picture.now) picture.now.network u term.now) }
+    ensures { OnOk result
+        (string_bytes text.new ≡ string_bytes text.old
+        ++ arc_look (picture_of picture.now) picture.now.network u term.now) }
 {
     match picture.network() {
         None => push_rate(text, term.rate),
@@ -140,7 +166,9 @@ fn push_look(
 /// Appends what a pointer on the arc of a term shows.
 fn push_tip(text: &mut String, picture: &Picture<'_>, u: u32, term: &Term) -> Result<(), AllocError>
     requires { u < length picture.now.problem.units }
-    ensures { OnOk result (string_bytes text.new ≡ string_bytes text.old ++ arc_tip (picture_of picture.now) u term.now) }
+    ensures { OnOk result
+        (string_bytes text.new ≡ string_bytes text.old
+        ++ arc_tip (picture_of picture.now) u term.now) }
 {
     text.push_str(picture.problem().unit_name(u))?;
     push_told(text, ": ", term.rate)?;
@@ -152,7 +180,9 @@ fn push_tip(text: &mut String, picture: &Picture<'_>, u: u32, term: &Term) -> Re
 /// Appends the rest of the line of the arc of a term, after its two nodes.
 fn push_end(text: &mut String, picture: &Picture<'_>, u: u32, term: &Term) -> Result<(), AllocError>
     requires { u < length picture.now.problem.units }
-    ensures { OnOk result (string_bytes text.new ≡ string_bytes text.old ++ arc_end (picture_of picture.now) u term.now) }
+    ensures { OnOk result
+        (string_bytes text.new ≡ string_bytes text.old
+        ++ arc_end (picture_of picture.now) u term.now) }
 {
     text.push_str(" [tooltip=\"")?;
     push_tip(text, picture, u, term)?;
@@ -170,7 +200,9 @@ fn push_plain_input(
     term: &Term,
 ) -> Result<(), AllocError>
     requires { u < length picture.now.problem.units }
-    ensures { OnOk result (string_bytes text.new ≡ string_bytes text.old ++ plain_line (picture_of picture.now) u term.now) }
+    ensures { OnOk result
+        (string_bytes text.new ≡ string_bytes text.old
+        ++ plain_line (picture_of picture.now) u term.now) }
 {
     let problem = picture.problem();
     text.push_str("  ")?;
@@ -188,7 +220,9 @@ fn push_use_arc(
     term: &Term,
 ) -> Result<(), AllocError>
     requires { u < length picture.now.problem.units }
-    ensures { OnOk result (string_bytes text.new ≡ string_bytes text.old ++ use_arc (picture_of picture.now) u term.now) }
+    ensures { OnOk result
+        (string_bytes text.new ≡ string_bytes text.old
+        ++ use_arc (picture_of picture.now) u term.now) }
 {
     let problem = picture.problem();
     let unit = problem.unit_name(u);
@@ -207,7 +241,9 @@ fn push_use_look(
     kind: Kind,
 ) -> Result<(), AllocError>
     requires { u < length picture.now.problem.units }
-    ensures { OnOk result (string_bytes text.new ≡ string_bytes text.old ++ use_look (picture_of picture.now) u (kind_of kind)) }
+    ensures { OnOk result
+        (string_bytes text.new ≡ string_bytes text.old
+        ++ use_look (picture_of picture.now) u (kind_of kind)) }
 {
     text.push_str(shape(kind))?;
     text.push_str(grey_unless(is_built(picture, u)))?;
@@ -218,7 +254,9 @@ fn push_use_look(
 fn push_use(text: &mut String, picture: &Picture<'_>, u: u32, j: u32) -> Result<(), AllocError>
     requires unit { u < length picture.now.problem.units }
     requires material { j < length picture.now.problem.materials }
-    ensures { OnOk result (string_bytes text.new ≡ string_bytes text.old ++ use_text (picture_of picture.now) u j) }
+    ensures { OnOk result
+        (string_bytes text.new ≡ string_bytes text.old
+        ++ use_text (picture_of picture.now) u j) }
 {
     let problem = picture.problem();
     let name = problem.material_name(j);
@@ -242,7 +280,9 @@ fn push_use_input(
 ) -> Result<(), AllocError>
     requires unit { u < length picture.now.problem.units }
     requires material { term.now.material < length picture.now.problem.materials }
-    ensures { OnOk result (string_bytes text.new ≡ string_bytes text.old ++ use_line (picture_of picture.now) u term.now) }
+    ensures { OnOk result
+        (string_bytes text.new ≡ string_bytes text.old
+        ++ use_line (picture_of picture.now) u term.now) }
 {
     push_use(text, picture, u, term.material)?;
     push_use_arc(text, picture, u, term)
@@ -257,7 +297,9 @@ fn push_input(
 ) -> Result<(), AllocError>
     requires unit { u < length picture.now.problem.units }
     requires material { term.now.material < length picture.now.problem.materials }
-    ensures { OnOk result (string_bytes text.new ≡ string_bytes text.old ++ input_line (picture_of picture.now) u term.now) }
+    ensures { OnOk result
+        (string_bytes text.new ≡ string_bytes text.old
+        ++ input_line (picture_of picture.now) u term.now) }
 {
     if picture.is_spread(term.material) {
         push_use_input(text, picture, u, term)
@@ -274,7 +316,9 @@ fn push_output(
     term: &Term,
 ) -> Result<(), AllocError>
     requires { u < length picture.now.problem.units }
-    ensures { OnOk result (string_bytes text.new ≡ string_bytes text.old ++ output_line (picture_of picture.now) u term.now) }
+    ensures { OnOk result
+        (string_bytes text.new ≡ string_bytes text.old
+        ++ output_line (picture_of picture.now) u term.now) }
 {
     let problem = picture.problem();
     text.push_str("  ")?;
@@ -292,8 +336,11 @@ pub(crate) fn push_inputs(
     terms: &[Term],
 ) -> Result<(), AllocError>
     requires unit { u < length picture.now.problem.units }
-    requires known { (j : ℕ) → terms_have terms.now j ≡ true → j < length picture.now.problem.materials }
-    ensures { OnOk result (string_bytes text.new ≡ string_bytes text.old ++ printed (map (input_line (picture_of picture.now) u) terms.now)) }
+    requires known { (j : ℕ) → terms_have terms.now j ≡ true
+        → j < length picture.now.problem.materials }
+    ensures { OnOk result
+        (string_bytes text.new ≡ string_bytes text.old
+        ++ printed (map (input_line (picture_of picture.now) u) terms.now)) }
 {
     'printing: for term in terms {
         push_input(text, picture, u, term)?;
@@ -310,7 +357,9 @@ pub(crate) fn push_outputs(
     terms: &[Term],
 ) -> Result<(), AllocError>
     requires { u < length picture.now.problem.units }
-    ensures { OnOk result (string_bytes text.new ≡ string_bytes text.old ++ printed (map (output_line (picture_of picture.now) u) terms.now)) }
+    ensures { OnOk result
+        (string_bytes text.new ≡ string_bytes text.old
+        ++ printed (map (output_line (picture_of picture.now) u) terms.now)) }
 {
     'printing: for term in terms {
         push_output(text, picture, u, term)?;

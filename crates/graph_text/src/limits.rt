@@ -42,7 +42,8 @@ fn is_least(lower: i128, z: i128, d: i128) -> bool
 /// Whether z over d is at its upper bound or at its lower one, which is not 0.
 fn is_at_some(lower: i128, upper: i128, z: i128, d: i128) -> bool
     requires { InRange z }
-    ensures { result ≡ (int_eq z (upper *ℤ d) || (not (int_eq lower (pos 0)) && int_eq z (lower *ℤ d))) }
+    ensures { result
+        ≡ (int_eq z (upper *ℤ d) || (not (int_eq lower (pos 0)) && int_eq z (lower *ℤ d))) }
 {
     if is_at(z, upper, d) {
         true

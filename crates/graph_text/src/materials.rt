@@ -1,5 +1,6 @@
 //! The lines of materials.
-ghost use Rattle.std.specs.Prelude.{◌≡◌, ◌++◌, ◌<◌, ◌≤◌, ℕ, true, Some, OnOk, IfSome, option_map, string_bytes, length, map};
+ghost use Rattle.std.specs.Prelude.{◌≡◌, ◌++◌, ◌<◌, ◌≤◌, ℕ, true, Some, OnOk, IfSome, option_map};
+ghost use Rattle.std.specs.Prelude.{string_bytes, length, map};
 ghost use Rattle.number_sets.specs.Sets.{has, IsSet};
 ghost use Rattle.problem_rules.specs.Problem.{material_at};
 ghost use Rattle.pns_problem.specs.Kind.{kind_of};
@@ -28,7 +29,8 @@ fn is_in(picture: &Picture<'_>, network: &Network, j: u32) -> bool
     requires material { j < length picture.now.problem.materials }
     requires feasible { IsFeasible picture.now.problem network.now }
     ensures value { result ≡ mats (shape_of picture.now.problem) (has network.now.units) j }
-    ensures material { result ≡ true → has (materials_of (net_of picture.now.problem) (has network.now.units)) j ≡ true }
+    ensures material { result ≡ true
+        → has (materials_of (net_of picture.now.problem) (has network.now.units)) j ≡ true }
 {
     let materials = picture.graph().materials(network.units());
     materials.has(j)
@@ -44,7 +46,11 @@ fn push_net_of(
     requires known { j < length problem.now.materials }
     requires material { has (materials_of (net_of problem.now) (has network.now.units)) j ≡ true }
     requires feasible { IsFeasible problem.now network.now }
-    ensures { OnOk result (string_bytes text.new ≡ string_bytes text.old ++ net_label (material_at problem.now j).price (balance (net_of problem.now) (has network.now.units) (size_in network.now) j) network.now.d) }
+    ensures { OnOk result
+        (string_bytes text.new ≡ string_bytes text.old
+        ++ net_label (material_at problem.now j).price
+        (balance (net_of problem.now) (has network.now.units) (size_in network.now) j)
+        network.now.d) }
 {
     network.is_sized();
     let material = material_of(problem, j);
@@ -60,7 +66,9 @@ fn push_flow_in(
 ) -> Result<(), AllocError>
     requires material { j < length picture.now.problem.materials }
     requires feasible { IsFeasible picture.now.problem network.now }
-    ensures { OnOk result (string_bytes text.new ≡ string_bytes text.old ++ material_flow picture.now.problem (Some network.now) j) }
+    ensures { OnOk result
+        (string_bytes text.new ≡ string_bytes text.old
+        ++ material_flow picture.now.problem (Some network.now) j) }
 {
     if is_in(picture, network, j) {
         push_net_of(text, picture.problem(), network, j)
@@ -72,7 +80,9 @@ fn push_flow_in(
 /// Appends the amount of the material that comes in or goes out, if a network is given.
 fn push_flow(text: &mut String, picture: &Picture<'_>, j: u32) -> Result<(), AllocError>
     requires { j < length picture.now.problem.materials }
-    ensures { OnOk result (string_bytes text.new ≡ string_bytes text.old ++ material_flow picture.now.problem picture.now.network j) }
+    ensures { OnOk result
+        (string_bytes text.new ≡ string_bytes text.old
+        ++ material_flow picture.now.problem picture.now.network j) }
 {
     match picture.network() {
         None => Ok(()),
@@ -105,7 +115,8 @@ fn drawn_look(picture: &Picture<'_>, j: u32) -> &'static str
 
 /// Appends what a pointer on the material shows.
 fn push_tip(text: &mut String, material: &Material) -> Result<(), AllocError>
-    ensures { OnOk result (string_bytes text.new ≡ string_bytes text.old ++ material_tip material.now) }
+    ensures { OnOk result
+        (string_bytes text.new ≡ string_bytes text.old ++ material_tip material.now) }
 {
     text.push_str(&material.name)?;
     push_told(text, ": price ", material.price)?;
@@ -116,7 +127,9 @@ fn push_tip(text: &mut String, material: &Material) -> Result<(), AllocError>
 /// Appends the line of a material.
 fn push_material(text: &mut String, picture: &Picture<'_>, j: u32) -> Result<(), AllocError>
     requires { j < length picture.now.problem.materials }
-    ensures { OnOk result (string_bytes text.new ≡ string_bytes text.old ++ material_line (picture_of picture.now) j) }
+    ensures { OnOk result
+        (string_bytes text.new ≡ string_bytes text.old
+        ++ material_line (picture_of picture.now) j) }
 {
     let problem = picture.problem();
     let name = problem.material_name(j);
@@ -142,7 +155,9 @@ pub(crate) fn push_materials(
     materials: MatSet,
 ) -> Result<(), AllocError>
     requires known { (j : ℕ) → has materials j ≡ true → j < length picture.now.problem.materials }
-    ensures { OnOk result (string_bytes text.new ≡ string_bytes text.old ++ printed (map (material_line (picture_of picture.now)) materials)) }
+    ensures { OnOk result
+        (string_bytes text.new ≡ string_bytes text.old
+        ++ printed (map (material_line (picture_of picture.now)) materials)) }
 {
     for j in materials {
         push_material(text, picture, j)?;

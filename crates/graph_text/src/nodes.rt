@@ -8,7 +8,8 @@ use std::alloc::AllocError;
 
 /// The node of a name of a sort.
 pub(crate) fn push_node(text: &mut String, word: &str, name: &str) -> Result<(), AllocError>
-    ensures { OnOk result (string_bytes text.new ≡ string_bytes text.old ++ node word.now name.now) }
+    ensures { OnOk result
+        (string_bytes text.new ≡ string_bytes text.old ++ node word.now name.now) }
 {
     text.push('"')?;
     text.push_str(word)?;
@@ -20,7 +21,8 @@ pub(crate) fn push_node(text: &mut String, word: &str, name: &str) -> Result<(),
 
 /// The node of a material at one of its users.
 pub(crate) fn push_use_node(text: &mut String, material: &str, unit: &str) -> Result<(), AllocError>
-    ensures { OnOk result (string_bytes text.new ≡ string_bytes text.old ++ use_node material.now unit.now) }
+    ensures { OnOk result
+        (string_bytes text.new ≡ string_bytes text.old ++ use_node material.now unit.now) }
 {
     text.push_str("\"use ")?;
     text.push_str(material)?;

@@ -1,10 +1,12 @@
 //! Sizes, flows, money and the numbers of a plant.
-ghost use Rattle.std.specs.Prelude.{◌≡◌, ◌++◌, ◌≤ℤ◌, ◌<ℤ◌, pos, unsigned_abs, codes, OnOk, string_bytes};
+ghost use Rattle.std.specs.Prelude.{◌≡◌, ◌++◌, ◌≤ℤ◌, ◌<ℤ◌, pos, unsigned_abs, codes, OnOk};
+ghost use Rattle.std.specs.Prelude.{string_bytes};
 ghost use Rattle.integer_laws.specs.Range.{InRange};
 ghost use Rattle.flow_rules.specs.Net.{million};
 ghost use Rattle.report_rules.specs.Number.{number_text};
 ghost use Rattle.report_rules.specs.Amounts.{quotient};
-ghost use Rattle.report_rules.specs.Drawn.{below, flow_text, way_words, money, money_label, net_label, width_words};
+ghost use Rattle.report_rules.specs.Drawn.{below, flow_text, way_words, money, money_label};
+ghost use Rattle.report_rules.specs.Drawn.{net_label, width_words};
 ghost use Rattle.report_rules.specs.Graph.{exact, told};
 
 use decimals::{push_signed, push_six_digits};
@@ -44,7 +46,8 @@ fn without_sign(number: i128) -> i128
 pub(crate) fn push_flow(text: &mut String, flow: i128, d: i128) -> Result<(), AllocError>
     requires in_range { InRange flow }
     requires positive { pos 1 ≤ℤ d }
-    ensures { OnOk result (string_bytes text.new ≡ string_bytes text.old ++ flow_text flow (unsigned_abs d)) }
+    ensures { OnOk result
+        (string_bytes text.new ≡ string_bytes text.old ++ flow_text flow (unsigned_abs d)) }
 {
     push_six_digits(text, 500_000, without_sign(flow), d)
 }
@@ -89,7 +92,12 @@ fn push_paid(text: &mut String, price: i64, flow: i128, d: i128) -> Result<(), A
     requires in_range { InRange flow }
     requires d_in_range { InRange d }
     requires positive { pos 1 ≤ℤ d }
-    ensures { OnOk result (string_bytes text.new ≡ string_bytes text.old ++ (below ++ (codes "at " ++ (number_text (quotient price million) ++ (codes ": " ++ number_text (money price flow d)))))) }
+    ensures { OnOk result
+        (string_bytes text.new ≡ string_bytes text.old
+        ++ (below
+        ++ (codes "at "
+        ++ (number_text (quotient price million)
+        ++ (codes ": " ++ number_text (money price flow d)))))) }
 {
     let each = price_of(price);
     let paid = money(price, flow, d);
@@ -104,7 +112,8 @@ fn push_money(text: &mut String, price: i64, flow: i128, d: i128) -> Result<(), 
     requires in_range { InRange flow }
     requires d_in_range { InRange d }
     requires positive { pos 1 ≤ℤ d }
-    ensures { OnOk result (string_bytes text.new ≡ string_bytes text.old ++ money_label price flow d) }
+    ensures { OnOk result
+        (string_bytes text.new ≡ string_bytes text.old ++ money_label price flow d) }
 {
     if price == 0 {
         Ok(())
@@ -118,7 +127,10 @@ fn push_some_net(text: &mut String, price: i64, net: i128, d: i128) -> Result<()
     requires in_range { InRange net }
     requires d_in_range { InRange d }
     requires positive { pos 1 ≤ℤ d }
-    ensures { OnOk result (string_bytes text.new ≡ string_bytes text.old ++ (below ++ (way_words net ++ (flow_text net (unsigned_abs d) ++ money_label price net d)))) }
+    ensures { OnOk result
+        (string_bytes text.new ≡ string_bytes text.old
+        ++ (below
+        ++ (way_words net ++ (flow_text net (unsigned_abs d) ++ money_label price net d)))) }
 {
     text.push_str("\\n")?;
     text.push_str(way(net))?;

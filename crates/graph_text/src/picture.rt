@@ -1,5 +1,6 @@
 //! What is drawn.
-ghost use Rattle.std.specs.Prelude.{◌≡◌, ◌≤◌, ◌<◌, ℕ, true, IfSome, length, option_map, unsigned_abs};
+ghost use Rattle.std.specs.Prelude.{◌≡◌, ◌≤◌, ◌<◌, ℕ, true, IfSome, length, option_map};
+ghost use Rattle.std.specs.Prelude.{unsigned_abs};
 ghost use Rattle.number_sets.specs.Sets.{has};
 ghost use Rattle.problem_rules.specs.Validity.{IsValid};
 ghost use Rattle.pns_rules.specs.Shape.{IsProper, shape_of};
@@ -32,9 +33,20 @@ impl<'a> Model for Picture<'a> {
 
     ghost Value = { specs.Drawing };
 
-    ghost view = { λ d. record { problem = d.problem.now; network = option_map (λ n. n.now) d.network; units = d.units } };
+    ghost view = { λ d. record {
+      problem = d.problem.now;
+      network =
+          option_map (λ n. n.now) d.network;
+      units = d.units;
+    } };
 
-    ghost invariant = { λ d. specs.IsKept (shape d.graph.now) d.greatest (record { problem = d.problem.now; network = option_map (λ n. n.now) d.network; units = d.units }) };
+    ghost invariant = { λ d. specs.IsKept (shape d.graph.now) d.greatest
+        (record {
+          problem = d.problem.now;
+          network = option_map (λ n. n.now) d.network;
+          units =
+              d.units;
+        }) };
 }
 
 impl<'a> Picture<'a> {
@@ -42,7 +54,13 @@ impl<'a> Picture<'a> {
     pub(crate) fn of(site: &Site<'a>, network: Option<&'a Network>, units: UnitSet) -> Picture<'a>
         requires known { (u : ℕ) → has units u ≡ true → u < length site.now.units }
         requires feasible { IfSome network (λ n. IsFeasible site.now n.now) }
-        ensures { result ≡ record { problem = site.now; network = option_map (λ n. n.now) network.entry; units = units } }
+        ensures { result
+            ≡ record {
+              problem = site.now;
+              network = option_map (λ n. n.now) network.entry;
+              units =
+                  units;
+            } }
     {
         let problem = site.problem();
         let graph = site.graph();

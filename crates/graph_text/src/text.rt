@@ -1,9 +1,14 @@
 //! The whole text.
-ghost use Rattle.std.specs.Prelude.{◌≡◌, ◌++◌, ◌∷◌, ◌<◌, ℕ, [], true, Some, OnOk, IfOk, IfSome, option_map, string_bytes, length};
+ghost use Rattle.std.specs.Prelude.{◌≡◌, ◌++◌, ◌∷◌, ◌<◌, ℕ, [], true, Some, OnOk, IfOk};
+ghost use Rattle.std.specs.Prelude.{IfSome};
+ghost use Rattle.std.specs.Prelude.{option_map, string_bytes, length};
 ghost use Rattle.number_sets.specs.Sets.{has};
 ghost use Rattle.pns_problem.specs.Printing.{printed};
 ghost use Rattle.tree_rules.specs.Claim.{IsFeasible};
-ghost use Rattle.report_rules.specs.Graph.{cost_text, sort_words, total_lines, total_line, head_lines, legend, rate_legend, flow_legend, picture_lines, graph_lines, empty_lines};
+ghost use Rattle.report_rules.specs.Graph.{cost_text, sort_words, total_lines};
+ghost use Rattle.report_rules.specs.Graph.{total_line};
+ghost use Rattle.report_rules.specs.Graph.{head_lines, legend, rate_legend, flow_legend};
+ghost use Rattle.report_rules.specs.Graph.{picture_lines, graph_lines, empty_lines};
 ghost use Rattle.graph_text.specs.Kept.{picture_of};
 
 use crate::materials::push_materials;
@@ -18,7 +23,9 @@ use unit_sets::UnitSet;
 
 /// The cost in one year.
 fn push_cost(text: &mut String, problem: &Problem, network: &Network) -> Result<(), AllocError>
-    ensures { OnOk result (string_bytes text.new ≡ string_bytes text.old ++ cost_text problem.now network.now) }
+    ensures { OnOk result
+        (string_bytes text.new ≡ string_bytes text.old
+        ++ cost_text problem.now network.now) }
 {
     problem.is_valid();
     network.is_sized();
@@ -47,7 +54,8 @@ const FLOW_LEGEND: &str =
 
 /// Appends the legend of a plant.
 fn push_rate_legend(text: &mut String) -> Result<(), AllocError>
-    ensures { OnOk result (string_bytes text.new ≡ string_bytes text.old ++ printed (legend ++ rate_legend)) }
+    ensures { OnOk result
+        (string_bytes text.new ≡ string_bytes text.old ++ printed (legend ++ rate_legend)) }
 {
     text.push_str(LEGEND)?;
     text.push_str(RATE_LEGEND)?;
@@ -56,7 +64,9 @@ fn push_rate_legend(text: &mut String) -> Result<(), AllocError>
 
 /// Appends the legend of a plant with a network.
 fn push_flow_legend(text: &mut String) -> Result<(), AllocError>
-    ensures { OnOk result (string_bytes text.new ≡ string_bytes text.old ++ (printed legend ++ printed flow_legend)) }
+    ensures { OnOk result
+        (string_bytes text.new ≡ string_bytes text.old
+        ++ (printed legend ++ printed flow_legend)) }
 {
     text.push_str(LEGEND)?;
     text.push_str(FLOW_LEGEND)?;
@@ -69,7 +79,9 @@ fn push_total_line(
     problem: &Problem,
     network: &Network,
 ) -> Result<(), AllocError>
-    ensures { OnOk result (string_bytes text.new ≡ string_bytes text.old ++ printed (total_line problem.now network.now ∷ [])) }
+    ensures { OnOk result
+        (string_bytes text.new ≡ string_bytes text.old
+        ++ printed (total_line problem.now network.now ∷ [])) }
 {
     text.push_str("  label=\"claimed total in one year: ")?;
     push_cost(text, problem, network)?;
@@ -80,14 +92,18 @@ fn push_total_line(
 
 /// Appends the legend and the line of the total.
 fn push_total_of(text: &mut String, problem: &Problem, network: &Network) -> Result<(), AllocError>
-    ensures { OnOk result (string_bytes text.new ≡ string_bytes text.old ++ printed (total_lines problem.now (Some network.now))) }
+    ensures { OnOk result
+        (string_bytes text.new ≡ string_bytes text.old
+        ++ printed (total_lines problem.now (Some network.now))) }
 {
     push_flow_legend(text)?;
     push_total_line(text, problem, network)
 }
 
 fn push_total(text: &mut String, picture: &Picture<'_>) -> Result<(), AllocError>
-    ensures { OnOk result (string_bytes text.new ≡ string_bytes text.old ++ printed (total_lines picture.now.problem picture.now.network)) }
+    ensures { OnOk result
+        (string_bytes text.new ≡ string_bytes text.old
+        ++ printed (total_lines picture.now.problem picture.now.network)) }
 {
     match picture.network() {
         None => push_rate_legend(text),
@@ -101,7 +117,8 @@ const HEAD: &str =
 
 /// Appends the lines with which each text begins.
 fn push_head(text: &mut String) -> Result<(), AllocError>
-    ensures { OnOk result (string_bytes text.new ≡ string_bytes text.old ++ printed head_lines) }
+    ensures { OnOk result
+        (string_bytes text.new ≡ string_bytes text.old ++ printed head_lines) }
 {
     text.push_str(HEAD)?;
     Ok(())
@@ -112,7 +129,9 @@ const LAST: &str = "  { rank=sink; legend; }\n}\n";
 
 /// Appends all lines.
 fn push_picture(text: &mut String, picture: &Picture<'_>) -> Result<(), AllocError>
-    ensures { OnOk result (string_bytes text.new ≡ string_bytes text.old ++ printed (picture_lines (picture_of picture.now))) }
+    ensures { OnOk result
+        (string_bytes text.new ≡ string_bytes text.old
+        ++ printed (picture_lines (picture_of picture.now))) }
 {
     let units = picture.units();
     units.rises();
@@ -135,7 +154,10 @@ pub fn graph_of(
 ) -> Result<Vec<u8>, AllocError>
     requires known { (u : ℕ) → has units u ≡ true → u < length site.now.units }
     requires feasible { IfSome network (λ n. IsFeasible site.now n.now) }
-    ensures { IfOk result (λ bytes. bytes.items ≡ printed (graph_lines site.now (option_map (λ n. n.now) network.entry) (has units))) }
+    ensures { IfOk result
+        (λ bytes. bytes.items
+        ≡ printed
+        (graph_lines site.now (option_map (λ n. n.now) network.entry) (has units))) }
 {
     let picture = Picture::of(site, network, units);
     let mut text = String::new(alloc);

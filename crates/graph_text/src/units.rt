@@ -1,5 +1,6 @@
 //! The lines of units, each before those of its arcs.
-ghost use Rattle.std.specs.Prelude.{◌≡◌, ◌++◌, ◌<◌, ℕ, true, Some, OnOk, string_bytes, length, flat_map};
+ghost use Rattle.std.specs.Prelude.{◌≡◌, ◌++◌, ◌<◌, ℕ, true, Some, OnOk, string_bytes, length};
+ghost use Rattle.std.specs.Prelude.{flat_map};
 ghost use Rattle.number_sets.specs.Sets.{has};
 ghost use Rattle.problem_rules.specs.Problem.{unit_at};
 ghost use Rattle.pns_problem.specs.Printing.{printed};
@@ -29,7 +30,8 @@ fn push_size_of(
     u: u32,
 ) -> Result<(), AllocError>
     requires { u < length problem.now.units }
-    ensures { OnOk result (string_bytes text.new ≡ string_bytes text.old ++ size_label problem.now network.now u) }
+    ensures { OnOk result
+        (string_bytes text.new ≡ string_bytes text.old ++ size_label problem.now network.now u) }
 {
     text.push_str("\\nsize ")?;
     size(network, u).push(text)?;
@@ -44,7 +46,9 @@ fn push_size_in(
     u: u32,
 ) -> Result<(), AllocError>
     requires { u < length problem.now.units }
-    ensures { OnOk result (string_bytes text.new ≡ string_bytes text.old ++ unit_size problem.now (Some network.now) u) }
+    ensures { OnOk result
+        (string_bytes text.new ≡ string_bytes text.old
+        ++ unit_size problem.now (Some network.now) u) }
 {
     if is_in(problem, network, u) {
         push_size_of(text, problem, network, u)
@@ -56,7 +60,9 @@ fn push_size_in(
 /// Appends the size and the cost of a unit, if it is in a network.
 fn push_size(text: &mut String, picture: &Picture<'_>, u: u32) -> Result<(), AllocError>
     requires { u < length picture.now.problem.units }
-    ensures { OnOk result (string_bytes text.new ≡ string_bytes text.old ++ unit_size picture.now.problem picture.now.network u) }
+    ensures { OnOk result
+        (string_bytes text.new ≡ string_bytes text.old
+        ++ unit_size picture.now.problem picture.now.network u) }
 {
     match picture.network() {
         None => Ok(()),
@@ -86,7 +92,8 @@ fn push_tip(text: &mut String, unit: &OperatingUnit) -> Result<(), AllocError>
 /// Appends the line of a unit.
 fn push_unit(text: &mut String, picture: &Picture<'_>, u: u32) -> Result<(), AllocError>
     requires { u < length picture.now.problem.units }
-    ensures { OnOk result (string_bytes text.new ≡ string_bytes text.old ++ unit_line (picture_of picture.now) u) }
+    ensures { OnOk result
+        (string_bytes text.new ≡ string_bytes text.old ++ unit_line (picture_of picture.now) u) }
 {
     let problem = picture.problem();
     let name = problem.unit_name(u);
@@ -107,7 +114,9 @@ fn push_unit(text: &mut String, picture: &Picture<'_>, u: u32) -> Result<(), All
 /// Appends the line of a unit and those of its arcs.
 fn push_unit_lines(text: &mut String, picture: &Picture<'_>, u: u32) -> Result<(), AllocError>
     requires { u < length picture.now.problem.units }
-    ensures { OnOk result (string_bytes text.new ≡ string_bytes text.old ++ printed (unit_lines (picture_of picture.now) u)) }
+    ensures { OnOk result
+        (string_bytes text.new ≡ string_bytes text.old
+        ++ printed (unit_lines (picture_of picture.now) u)) }
 {
     let problem = picture.problem();
     valid_is_proper();
@@ -125,7 +134,9 @@ pub(crate) fn push_units(
     units: UnitSet,
 ) -> Result<(), AllocError>
     requires known { (u : ℕ) → has units u ≡ true → u < length picture.now.problem.units }
-    ensures { OnOk result (string_bytes text.new ≡ string_bytes text.old ++ printed (flat_map (unit_lines (picture_of picture.now)) units)) }
+    ensures { OnOk result
+        (string_bytes text.new ≡ string_bytes text.old
+        ++ printed (flat_map (unit_lines (picture_of picture.now)) units)) }
 {
     for u in units {
         push_unit_lines(text, picture, u)?;

@@ -4,7 +4,8 @@
 -- 20 - 20 * 1 = 0, so with U1 a network costs 60 + 5 + 10 at least, and U1 is left out; with U2 at
 -- size 1 or more it costs 60 + 5 + 1 + 1, so U2 is not larger. What is known then charges the node
 -- with 65: no network costs less, and the tree is one leaf.
-use Rattle.std.proofs.Common.{◌≡◌, ℤ, pos, negsuc, true, false, List, [], ◌∷◌, refl, arith, inl, inr, map}
+use Rattle.std.proofs.Common.{◌≡◌, ℤ, pos, negsuc, true, false, List, [], ◌∷◌, refl, arith, inl}
+use Rattle.std.proofs.Common.{inr, map}
 use Rattle.std.specs.Prelude.{Option, Some}
 use Rattle.number_sets.specs.Sets.{listed}
 use Rattle.pns_rules.specs.Nodes.{Node, sole}
@@ -17,7 +18,8 @@ use Rattle.tree_rules.specs.Leaf.{multiplier}
 use Rattle.tree_rules.specs.Accepted.{first_node}
 use Rattle.head_rules.specs.Charged.{handed, IsCharged}
 use Rattle.head_rules.specs.Trim.{MayTrim}
-use Rattle.head_rules.specs.Head.{HeadLine, step, cap, out, trim, Known, known_first, with_in, with_least, after_lines, LinesPass}
+use Rattle.head_rules.specs.Head.{HeadLine, step, cap, out, trim, Known, known_first, with_in}
+use Rattle.head_rules.specs.Head.{with_least, after_lines, LinesPass}
 use Rattle.head_rules.proofs.ExampleProblem.{example}
 use Rattle.head_rules.proofs.Worked.{in_range, at_most, not_at_most, EachBelow, each_below, no_case}
 

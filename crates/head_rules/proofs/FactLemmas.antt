@@ -1,5 +1,6 @@
 -- Facts with another least or greatest size of one unit, and the flows that fit them.
-use Rattle.std.proofs.Common.{◌≡◌, ℕ, ◌==◌, refl, sym, subst, pos, ℤ, ◌*ℤ◌, ◌≤ℤ◌, Bool, true, false, cond, eqb-true}
+use Rattle.std.proofs.Common.{◌≡◌, ℕ, ◌==◌, refl, sym, subst, pos, ℤ, ◌*ℤ◌, ◌≤ℤ◌, Bool, true, false}
+use Rattle.std.proofs.Common.{cond, eqb-true}
 use Rattle.flow_rules.specs.Net.{Net}
 use Rattle.charge_rules.specs.Facts.{Facts, AreFacts, Fit}
 use Rattle.head_rules.specs.Head.{with_least, with_most}

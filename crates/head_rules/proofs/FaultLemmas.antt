@@ -9,7 +9,8 @@ use Rattle.head_rules.specs.declared.line_why.LineWhy.{LineWhy}
 use Rattle.head_rules.specs.Head.{HeadLine, step, cap, out, trim, Known, after_line, LinePasses}
 use Rattle.head_rules.specs.Charged.{handed}
 use Rattle.head_rules.specs.Faults.{line_why, LineFails}
-use Rattle.head_rules.specs.Laws.{PassingHasNoFault, FaultIsOne, ChargedHasNoFault, ChargeFaultIsOne}
+use Rattle.head_rules.specs.Laws.{PassingHasNoFault, FaultIsOne, ChargedHasNoFault}
+use Rattle.head_rules.specs.Laws.{ChargeFaultIsOne}
 
 none : ⊥ → ⊥
 none x = x

@@ -1,6 +1,7 @@
 -- Lines that pass lose nothing that costs less than what is claimed, and what is known after them
 -- are facts.
-use Rattle.std.proofs.Common.{◌≡◌, ℕ, ◌==◌, inl, inr, refl, sym, ap, ◌∙◌, subst, arith, pos, ℤ, ◌*ℤ◌, ◌≤ℤ◌, ◌<ℤ◌, List, [], ◌∷◌, not, Bool, true, false, eqb-true}
+use Rattle.std.proofs.Common.{◌≡◌, ℕ, ◌==◌, inl, inr, refl, sym, ap, ◌∙◌, subst, arith, pos, ℤ}
+use Rattle.std.proofs.Common.{◌*ℤ◌, ◌≤ℤ◌, ◌<ℤ◌, List, [], ◌∷◌, not, Bool, true, false, eqb-true}
 use Rattle.std.specs.Prelude.{Option}
 use Rattle.std.proofs.lemmas.Int.{ints, by_lt_z}
 use Rattle.std.proofs.lemmas.Bool.{or_cases, cases_Bool, both_ways, false_from_ne_true}
@@ -20,11 +21,14 @@ use Rattle.charge_rules.specs.Facts.{AreFacts}
 use Rattle.charge_rules.proofs.DualityLemmas.{own_facts_hold, flows_fit}
 use Rattle.tree_rules.specs.Claim.{CostOver}
 use Rattle.head_rules.specs.Trim.{trimmed_size}
-use Rattle.head_rules.specs.Head.{HeadLine, step, cap, out, trim, Known, known_first, with_in, with_out, with_least, with_most, after_line, after_lines, LinePasses, LinesPass}
+use Rattle.head_rules.specs.Head.{HeadLine, step, cap, out, trim, Known, known_first, with_in}
+use Rattle.head_rules.specs.Head.{with_out, with_least, with_most, after_line, after_lines}
+use Rattle.head_rules.specs.Head.{LinePasses, LinesPass}
 use Rattle.head_rules.specs.Keeps.{MayFit}
 use Rattle.head_rules.specs.Laws.{IsCost, HeadKeeps, HeadHasFacts, HeadKeepsLeast}
 use Rattle.head_rules.proofs.ChargedLemmas.{charged_is_empty}
-use Rattle.head_rules.proofs.FactLemmas.{with_most_facts, with_least_facts, with_most_fit, with_least_fit}
+use Rattle.head_rules.proofs.FactLemmas.{with_most_facts, with_least_facts, with_most_fit}
+use Rattle.head_rules.proofs.FactLemmas.{with_least_fit}
 use Rattle.head_rules.proofs.TrimLemmas.{trimmed_least, trim_fits}
 
 -- ---- facts
@@ -91,7 +95,7 @@ taken_in g n u s e f = record {
   avoids = f.avoids;
 }
 
--- and one that has not is one of the node with the unit left out
+-- and one that does not have it is one of the node with the unit left out
 left_out : (g : Shape) (n : Node) (u : ℕ) (s : ℕ → Bool) → s u ≡ false
     → InFamily g n.inside n.outside s
     → InFamily g (with_out n u).inside (with_out n u).outside s

@@ -1,32 +1,39 @@
 -- Flows in which the size of a unit is put down to what can be of use are flows, and cost no more.
-use Rattle.std.proofs.Common.{◌≡◌, ℕ, ◌<◌, ◌==◌, inl, inr, sym, subst, arith, pos, ℤ, ◌+ℤ◌, ◌*ℤ◌, ◌≤ℤ◌, ◌<ℤ◌, neg_ℤ, map, Bool, true, false, cond, eqb-true}
+use Rattle.std.proofs.Common.{◌≡◌, ℕ, ◌<◌, ◌==◌, inl, inr, sym, subst, arith, pos, ℤ, ◌+ℤ◌, ◌*ℤ◌}
+use Rattle.std.proofs.Common.{◌≤ℤ◌, ◌<ℤ◌, neg_ℤ, map, Bool, true, false, cond, eqb-true}
 use Rattle.std.specs.Prelude.{int_lt, Option, Some, None, IfSome}
 use Rattle.std.specs.Int.{int_max}
 use Rattle.std.proofs.lemmas.Int.{ints, clamps, by_lt_z}
 use Rattle.std.proofs.lemmas.Bool.{true_from_ne_false}
 use Rattle.integer_laws.specs.Total.{total}
 use Rattle.integer_laws.proofs.Ring.{ring_z}
-use Rattle.integer_laws.proofs.Order.{sign_cases, mul_nonneg, mul-le_left, mul-le_right, mul-le_left_neg, le_trans_z, le-int_min, left-le_int_max, right-le_int_max}
+use Rattle.integer_laws.proofs.Order.{sign_cases, mul_nonneg, mul-le_left, mul-le_right}
+use Rattle.integer_laws.proofs.Order.{mul-le_left_neg, le_trans_z, le-int_min, left-le_int_max}
+use Rattle.integer_laws.proofs.Order.{right-le_int_max}
 use Rattle.integer_laws.proofs.Totals.{total-le, total-add, total-mul_right}
 use Rattle.number_sets.specs.Sets.{IsWithin}
 use Rattle.problem_rules.specs.Problem.{Problem}
 use Rattle.pns_rules.specs.Structure.{mats}
 use Rattle.pns_rules.specs.Nodes.{Node}
-use Rattle.flow_rules.specs.Net.{Net, net_of, million, trillion, size_cost, units_of, low_end, high_end}
+use Rattle.flow_rules.specs.Net.{Net, net_of, million, trillion, size_cost, units_of, low_end}
+use Rattle.flow_rules.specs.Net.{high_end}
 use Rattle.flow_rules.specs.Flows.{IsFlows, balance, cost}
 use Rattle.flow_rules.specs.Relaxed.{stays}
 use Rattle.flow_rules.proofs.ListedLemmas.{All-listed}
 use Rattle.flow_rules.proofs.NetLemmas.{IsNet}
 use Rattle.charge_rules.specs.Facts.{Facts, AreFacts, Fit, use_rate, use_of}
 use Rattle.charge_rules.specs.Charge.{users_most, at_most}
-use Rattle.charge_rules.proofs.UsefulLemmas.{rounded_up_most, use_rate_nonneg, users_most_nonneg, use_of_under}
+use Rattle.charge_rules.proofs.UsefulLemmas.{rounded_up_most, use_rate_nonneg, users_most_nonneg}
+use Rattle.charge_rules.proofs.UsefulLemmas.{use_of_under}
 use Rattle.tree_rules.specs.Claim.{CostOver}
-use Rattle.head_rules.specs.Trim.{make_rate, makers_most, useful_there, enough_of, outputs, trimmed_size, MayTrim}
+use Rattle.head_rules.specs.Trim.{make_rate, makers_most, useful_there, enough_of, outputs}
+use Rattle.head_rules.specs.Trim.{trimmed_size, MayTrim}
 use Rattle.head_rules.specs.Head.{with_most}
 use Rattle.head_rules.specs.Keeps.{IsBelow, Undercuts, MayFit}
 use Rattle.head_rules.specs.Laws.{IsCost}
 use Rattle.head_rules.proofs.FactLemmas.{of_one}
-use Rattle.head_rules.proofs.SumLemmas.{listed-each, term_under, total-larger, greatest_first, greatest_each}
+use Rattle.head_rules.proofs.SumLemmas.{listed-each, term_under, total-larger, greatest_first}
+use Rattle.head_rules.proofs.SumLemmas.{greatest_each}
 
 -- the sizes with that of unit u put down to w
 abbrev put_down : (ℕ → ℤ) → ℕ → ℤ → ℕ → ℤ

@@ -11,7 +11,7 @@ use Rattle.tree_rules.specs.Leaf.{IsClaimed}
 abbrev pub handed : ℤ → List ℤ → List Cover → Handed
 handed d ys covers = record { d = d; ys = ys; covers = covers }
 
--- a leaf that hands these in passes at the node
+-- a leaf with these passes at the node
 abbrev pub IsCharged : Problem → Option CostOver → Node → Facts → ℤ → List ℤ → List Cover → Type 0
 IsCharged p claimed n f d ys covers =
     ChargePasses p (IsClaimed claimed) (IsAtLeast claimed) n f (handed d ys covers)

@@ -1,5 +1,5 @@
 -- The first line at the head of a tree that fails, and its cause. A charge is judged last, for the
--- causes of a leaf that hands in the same, in their order.
+-- causes of a leaf with the same numbers and covers, in their order.
 use Rattle.std.specs.Prelude.{◌≡◌, ℕ, zero, suc, ◌<◌, ℤ, ◌≤ℤ◌, false, List, [], ◌∷◌, Option}
 use Rattle.problem_rules.specs.Problem.{Problem}
 use Rattle.pns_rules.specs.Shape.{shape_of}
@@ -17,7 +17,8 @@ use Rattle.head_rules.specs.declared.line_why.LineWhy.{LineWhy}
 use Rattle.head_rules.specs.declared.line_why.LineWhy.TheVariants as causes
 use Rattle.head_rules.specs.Charged.{handed}
 use Rattle.head_rules.specs.Trim.{MayTrim}
-use Rattle.head_rules.specs.Head.{HeadLine, step, cap, out, trim, Known, with_in, with_least, after_line, LinePasses}
+use Rattle.head_rules.specs.Head.{HeadLine, step, cap, out, trim, Known, with_in, with_least}
+use Rattle.head_rules.specs.Head.{after_line, LinePasses}
 
 -- the cause of a leaf, as that of a line
 abbrev pub line_why : ChargeWhy → LineWhy
@@ -31,7 +32,7 @@ ChargeFails p claimed n f d ys covers why =
     (cause : ChargeWhy) × (why ≡ line_why cause)
     × leaves.ChargeFails p (IsClaimed claimed) (IsAtLeast claimed) n f (handed d ys covers) cause
 
--- what is asked of a cap before its charge
+-- the conditions of a cap before its charge
 abbrev pub IsSize : Problem → Known → ℕ → ℤ → Type 0
 IsSize p k u v =
     (u < (net_of p).graph.units) × (k.node.outside u ≡ false)

@@ -11,7 +11,7 @@ use Rattle.charge_rules.specs.Facts.{Facts, Fit}
 use Rattle.tree_rules.specs.Claim.{CostOver}
 use Rattle.head_rules.specs.Head.{Known}
 
--- the number over d is below the claimed cost; each is where no cost is claimed
+-- the number over d is below the claimed cost; if no cost is claimed, each number is
 abbrev pub IsBelow : Option CostOver → ℤ → ℤ → Type 0
 IsBelow None n d = Unit {0}
 IsBelow (Some claimed) n d = (n *ℤ claimed.d) <ℤ (claimed.cost *ℤ d)

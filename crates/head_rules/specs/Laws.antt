@@ -39,7 +39,7 @@ CheaperIsCharged =
     → HasFallen claimed cheaper → (n : Node) (f : Facts) (d : ℤ) (ys : List ℤ) (covers : List Cover)
     → IsCharged p claimed n f d ys covers → IsCharged p cheaper n f d ys covers
 
--- and lines that pass for it pass there
+-- and lines that pass for the claim pass for the cheaper one
 abbrev pub CheaperPasses : Type 0
 CheaperPasses =
     (p : Problem) (claimed cheaper : Option CostOver) → IsCost claimed → IsCost cheaper
@@ -70,21 +70,21 @@ HeadKeepsLeast =
 
 -- ---- faults
 
--- where lines pass, none is the first that fails
+-- if lines pass, none is the first that fails
 abbrev pub PassingHasNoFault : Type 0
 PassingHasNoFault =
     (p : Problem) (claimed : Option CostOver) (k : Known) (lines : List HeadLine)
     → LinesPass p claimed k lines
     → (i : ℕ) (why : LineWhy) → IsFirstToFail p claimed k lines i why → ⊥
 
--- and one at most is, for one cause
+-- at most one is, for one cause
 abbrev pub FaultIsOne : Type 0
 FaultIsOne =
     (p : Problem) (claimed : Option CostOver) (k : Known) (lines : List HeadLine)
     → (i j : ℕ) (why other : LineWhy) → IsFirstToFail p claimed k lines i why
     → IsFirstToFail p claimed k lines j other → (i ≡ j) × (why ≡ other)
 
--- a node that is charged what is claimed has no cause to fail, and one that is not has one at most
+-- a node that is charged what is claimed has no cause to fail, and one that is not has at most one
 abbrev pub ChargedHasNoFault : Type 0
 ChargedHasNoFault =
     (p : Problem) (claimed : Option CostOver) (n : Node) (f : Facts) (d : ℤ) (ys : List ℤ)

@@ -1,17 +1,20 @@
-//! The lines at the head of a branch tree: facts that are found before the first branch, which of
-//! them pass, and the laws that make them safe.
+//! A head that passes loses no structure below the claim; not used yet.
 //!
-//! A line takes units in or leaves them out, or bounds the size of a unit. It passes by what is
-//! known at its place, and by the cost that is claimed: what it rules out has no flows that cost
-//! less. The definitions are in `specs/`: `Charged` (nodes whose charge reaches the claim), `Trim`
-//! (units of which no more than so much can be of use), `Head` (the lines), `Keeps` (what is not
-//! lost), `Faults` (the first line that fails, and its cause) and `Laws`. Each law is the contract
-//! of a function without a body.
+//! The head of a branch tree is lines with facts that are found before the first branch. A line
+//! takes units in or leaves them out, or bounds the size of a unit. It passes by what is known at
+//! its place, and by the cost that is claimed: what it rules out has no flows that cost less.
+//!
+//! The definitions are in `specs/`: `Charged` (nodes whose charge reaches the claim), `Trim` (units
+//! of which no more than so much can be of use), `Head` (the lines), `Keeps` (what is not lost),
+//! `Faults` (the first line that fails, and its cause) and `Laws`. Each law is the contract of a
+//! function without a body.
 #![tactic(auto)]
 
 mod line_why;
 
-ghost use Rattle.head_rules.specs.Laws.{ChargedIsEmpty, CheaperIsCharged, CheaperPasses, HeadKeeps, HeadHasFacts, HeadKeepsLeast, PassingHasNoFault, FaultIsOne, ChargedHasNoFault, ChargeFaultIsOne};
+ghost use Rattle.head_rules.specs.Laws.{ChargedIsEmpty, CheaperIsCharged, CheaperPasses, HeadKeeps};
+ghost use Rattle.head_rules.specs.Laws.{HeadHasFacts, HeadKeepsLeast, PassingHasNoFault};
+ghost use Rattle.head_rules.specs.Laws.{FaultIsOne, ChargedHasNoFault, ChargeFaultIsOne};
 
 pub use line_why::LineWhy;
 
@@ -27,16 +30,16 @@ pub fn cheaper_passes()
     ensures lines { CheaperPasses }
 {}
 
-/// Lines that pass lose nothing that costs less than what is claimed, and what is known after them
-/// are facts.
+/// Lines that pass lose nothing that costs less than what is claimed. What is known after them are
+/// facts.
 pub fn head_keeps()
     ensures keeps { HeadKeeps }
     ensures facts { HeadHasFacts }
     ensures least { HeadKeepsLeast }
 {}
 
-/// Lines that pass have no fault, and lines that do not have one at most, for one cause. The same
-/// holds of a charged node.
+/// Lines that pass have no fault. Lines that do not pass have at most one, for one cause. The same
+/// is true of a charged node.
 pub fn one_fault()
     ensures passing { PassingHasNoFault }
     ensures one { FaultIsOne }

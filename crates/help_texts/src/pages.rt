@@ -52,7 +52,8 @@ pub fn command_page_on(topic: &str) -> Option<&'static [u8]>
 
 /// The first page on the topic, of pages with their topics.
 fn text_among<'a>(mut pages: &[(&[u8], &'a [u8])], topic: &str) -> Option<&'a [u8]>
-    ensures { option_map (λ page. page.now) result ≡ text_among (map (λ page. (page.0.now, page.1.now)) pages.entry.now) topic.now }
+    ensures { option_map (λ page. page.now) result
+        ≡ text_among (map (λ page. (page.0.now, page.1.now)) pages.entry.now) topic.now }
 {
     while let [page, rest @ ..] = pages {
         if page.0 == topic.as_bytes() {

@@ -1,7 +1,8 @@
 //! The pages on claimed networks as people read them.
 ghost use Rattle.std.specs.Prelude.{◌≡◌};
 ghost use Rattle.studio_rules.specs.PageLines.{text_of};
-ghost use Rattle.studio_rules.specs.ReportPages.{table_page, report_page, json_page, graph_page, stable_page};
+ghost use Rattle.studio_rules.specs.ReportPages.{table_page, report_page, json_page, graph_page};
+ghost use Rattle.studio_rules.specs.ReportPages.{stable_page};
 
 /// The page on `table`.
 #[tactic(auto, unfolding(studio_rules::specs::ReportPages::table_page))]

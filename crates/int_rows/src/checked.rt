@@ -3,7 +3,7 @@ ghost use Rattle.std.specs.Prelude.{◌≡◌, ◌+ℤ◌, ◌-ℤ◌, ◌*ℤ�
 ghost use Rattle.std.specs.Option.{SomeIff};
 ghost use Rattle.integer_laws.specs.Range.{InRange};
 
-/// The product, or `None` exactly where it is out of range.
+/// The product, or `None` exactly if it is out of range.
 pub fn checked_product(a: i128, b: i128) -> Option<i128>
     ensures { SomeIff result (InRange (a *ℤ b)) (a *ℤ b) }
 {
@@ -13,7 +13,7 @@ pub fn checked_product(a: i128, b: i128) -> Option<i128>
     }
 }
 
-/// The sum, or `None` exactly where it is out of range.
+/// The sum, or `None` exactly if it is out of range.
 pub fn checked_sum(a: i128, b: i128) -> Option<i128>
     ensures { SomeIff result (InRange (a +ℤ b)) (a +ℤ b) }
 {
@@ -23,7 +23,7 @@ pub fn checked_sum(a: i128, b: i128) -> Option<i128>
     }
 }
 
-/// The difference, or `None` exactly where it is out of range.
+/// The difference, or `None` exactly if it is out of range.
 pub fn checked_difference(a: i128, b: i128) -> Option<i128>
     ensures { SomeIff result (InRange (a -ℤ b)) (a -ℤ b) }
 {

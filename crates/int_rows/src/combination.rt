@@ -1,19 +1,22 @@
 // A row combined with a pivot row: the step of an elimination in whole numbers.
-ghost use Rattle.std.specs.Prelude.{◌≡◌, ◌<◌, ◌<ℤ◌, ◌*ℤ◌, ◌-ℤ◌, pos, length, IfOk, IfErr, OnErr, OnOk, ℕ, slice_index_or, None, Some, IsTrue, ◌↔◌, ◌^◌, unsigned_abs};
+ghost use Rattle.std.specs.Prelude.{◌≡◌, ◌<◌, ◌<ℤ◌, ◌*ℤ◌, ◌-ℤ◌, pos, length, IfOk, IfErr, OnErr};
+ghost use Rattle.std.specs.Prelude.{OnOk, ℕ, slice_index_or, None, Some, IsTrue, ◌↔◌, ◌^◌};
+ghost use Rattle.std.specs.Prelude.{unsigned_abs};
 ghost use Rattle.integer_laws.specs.Range.{InRange, AllInRange};
-ghost use Rattle.integer_laws.specs.Combined.{past_of, past_at, combined, IsCombined, IsPastEntry};
+ghost use Rattle.integer_laws.specs.Combined.{past_of, past_at, combined, IsCombined};
+ghost use Rattle.integer_laws.specs.Combined.{IsPastEntry};
 
 use crate::{checked_difference, checked_product, lowest_terms, primitive};
 use integer_laws::Which;
 
-/// The first number out of range among all places.
+/// The first number of the row that is out of range, by its place.
 #[derive(Clone, Copy, Debug, PartialEq, Eq)]
 pub struct PastEntry {
     pub j: usize,
     pub which: Which,
 }
 
-/// Whether the number has less than 64 bits.
+/// Whether the absolute value of the number is below 2^63.
 fn is_small(number: i128) -> bool
     ensures { IsTrue result ↔ (unsigned_abs number < 2 ^ 63) }
 {
@@ -26,7 +29,7 @@ const SMALL: i128 = 1 << 63;
 fn first_past(p: i128, x: i128, q: i128, y: i128) -> Option<Which>
     ensures { result ≡ past_of p x q y }
 {
-    // Most numbers of a row are small, and their products need no check.
+    // Most numbers of a row are small, so their products need no check.
     if is_small(p) && is_small(x) && is_small(q) && is_small(y) {
         return None;
     }
@@ -42,7 +45,7 @@ fn first_past(p: i128, x: i128, q: i128, y: i128) -> Option<Which>
     }
 }
 
-/// `p * x - q * y`, where all three numbers are in range.
+/// `p * x - q * y`, if both products and the difference are in range.
 fn entry_within(p: i128, x: i128, q: i128, y: i128) -> i128
     requires { past_of p x q y ≡ None }
     ensures value { result ≡ p *ℤ x -ℤ q *ℤ y }
@@ -53,10 +56,12 @@ fn entry_within(p: i128, x: i128, q: i128, y: i128) -> i128
 
 fn check_entries(row: &[i128], pivot: &[i128], p: i128, q: i128) -> Result<(), PastEntry>
     requires { length row.now ≡ length pivot.now }
-    ensures ok { OnOk result ((k : ℕ) → k < length row.now → past_at p q row.now pivot.now k ≡ None) }
+    ensures ok { OnOk result ((k : ℕ) → k < length row.now
+        → past_at p q row.now pivot.now k ≡ None) }
     ensures within { IfErr result (λ e. e.j < length row.now) }
     ensures past { IfErr result (λ e. past_at p q row.now pivot.now e.j ≡ Some e.which) }
-    ensures before { IfErr result (λ e. (k : ℕ) → k < e.j → past_at p q row.now pivot.now k ≡ None) }
+    ensures before { IfErr result
+        (λ e. (k : ℕ) → k < e.j → past_at p q row.now pivot.now k ≡ None) }
 {
     for j in 0..row.len() {
         if let Some(which) = first_past(p, row[j], q, pivot[j]) {
@@ -77,9 +82,10 @@ fn write_entries(row: &mut [i128], pivot: &[i128], p: i128, q: i128)
     }
 }
 
-/// `p * row - q * pivot`, made primitive. p and q are `pivot[c]` and `row[c]` divided by their greatest common divisor, so place c
-/// becomes 0. Refused exactly where one of the products or differences is out of range: the error names the least such place and the
-/// first such number there, and the row is as it was.
+/// `p * row - q * pivot`, made primitive. p and q are `pivot[c]` and `row[c]` divided by their
+/// greatest common divisor, so place c becomes 0. The call is refused exactly if one of the
+/// products or differences is out of range. The error names the first such place and the first such
+/// number there, and the row is as it was.
 pub fn combine(row: &mut [i128], pivot: &[i128], c: usize) -> Result<(), PastEntry>
     requires lengths { length row.old ≡ length pivot.now }
     requires place { c < length row.old }

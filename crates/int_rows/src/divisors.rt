@@ -21,7 +21,7 @@ pub fn gcd(a: i128, b: i128) -> i128
         return x as i128;
     }
 
-    // 64 bits do for both, or for what one more step leaves. Their division is many times faster.
+    // 64 bits are enough for both, or for what one more step leaves. Division in 64 bits is faster.
     if x <= WIDE {
         return narrow_gcd(x as u64, y as u64) as i128;
     }
@@ -52,7 +52,7 @@ fn quotient(entry: i128, divisor: i128) -> i128
     entry / divisor
 }
 
-/// x and y divided by their greatest common divisor, so x / y in lowest terms.
+/// x and y divided by their greatest common divisor: x / y in lowest terms.
 pub fn lowest_terms(x: i128, y: i128) -> (i128, i128)
     requires x_in_range { InRange x }
     requires y_in_range { InRange y }

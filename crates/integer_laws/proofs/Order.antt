@@ -1,5 +1,6 @@
 -- Products and the order of the integers.
-use Rattle.std.proofs.Common.{◌≡◌, zero, suc, ◌⊎◌, inl, inr, arith, refl, sym, ap, ◌∙◌, pos, negsuc, ℤ, ◌-ℤ◌, ◌*ℤ◌, neg_ℤ, ◌<ℤ◌, ◌≤ℤ◌}
+use Rattle.std.proofs.Common.{◌≡◌, zero, suc, ◌⊎◌, inl, inr, arith, refl, sym, ap, ◌∙◌, pos, negsuc}
+use Rattle.std.proofs.Common.{ℤ, ◌-ℤ◌, ◌*ℤ◌, neg_ℤ, ◌<ℤ◌, ◌≤ℤ◌}
 use Rattle.std.proofs.lemmas.Int.{ints, clamps}
 use Rattle.std.specs.Int.{int_min, int_max}
 use Rattle.std.specs.Cmp.{int_cmp_is, int_ranks}
@@ -44,7 +45,7 @@ mul-le_left c a b h k =
 pub mul-le_right : (a b c : ℤ) → a ≤ℤ b → pos 0 ≤ℤ c → (a *ℤ c) ≤ℤ (b *ℤ c)
 mul-le_right a b c h k = let f : (c *ℤ a) ≤ℤ (c *ℤ b) = mul-le_left c a b h k in omega (arith, ints)
 
--- a factor below 0 turns the order
+-- a factor below 0 reverses the order
 pub mul-le_left_neg : (c a b : ℤ) → a ≤ℤ b → c ≤ℤ pos 0 → (c *ℤ b) ≤ℤ (c *ℤ a)
 mul-le_left_neg c a b h k =
     let n : pos 0 ≤ℤ neg_ℤ c = omega (arith, ints) in
@@ -124,11 +125,14 @@ int_max-le x y z h k = omega (arith, ints, clamps)
 
 -- ---- comparison
 
-scaled_rank : (k a b : ℤ) → pos 0 <ℤ k → (r : Ordering) → MatchOrdering r (a <ℤ b) (a ≡ b) (b <ℤ a) → MatchOrdering r ((k *ℤ a) <ℤ (k *ℤ b)) (k *ℤ a ≡ k *ℤ b) ((k *ℤ b) <ℤ (k *ℤ a))
+scaled_rank : (k a b : ℤ) → pos 0 <ℤ k → (r : Ordering) → MatchOrdering r (a <ℤ b) (a ≡ b) (b <ℤ a)
+    → MatchOrdering r ((k *ℤ a) <ℤ (k *ℤ b)) (k *ℤ a ≡ k *ℤ b) ((k *ℤ b) <ℤ (k *ℤ a))
 scaled_rank k a b p Less h = mul-lt_left k a b h p
 scaled_rank k a b p Equal h = ap (λ (z : ℤ). k *ℤ z) h
 scaled_rank k a b p Greater h = mul-lt_left k b a h p
 
 -- a factor above 0 on both sides changes no comparison
 pub int_cmp-mul : (k a b : ℤ) → pos 0 <ℤ k → int_cmp (k *ℤ a) (k *ℤ b) ≡ int_cmp a b
-int_cmp-mul k a b p = sym (int_cmp_is (k *ℤ a) (k *ℤ b) (int_cmp a b) (scaled_rank k a b p (int_cmp a b) (int_ranks a b)))
+int_cmp-mul k a b p =
+    sym (int_cmp_is (k *ℤ a) (k *ℤ b) (int_cmp a b)
+    (scaled_rank k a b p (int_cmp a b) (int_ranks a b)))

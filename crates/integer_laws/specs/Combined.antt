@@ -1,5 +1,7 @@
--- The combination of a row with a pivot row that takes one place to 0, and the first number on the way that is out of range.
-use Rattle.std.specs.Prelude.{ℕ, ◌<◌, ◌≡◌, ◌^◌, ℤ, pos, ◌*ℤ◌, ◌-ℤ◌, unsigned_abs, List, [], ◌∷◌, cond, length, slice_index_or, Option, Some, None, nat_lt, Bool}
+-- The combination of a row with a pivot row that makes one entry 0, and the first number on the way
+-- that is out of range.
+use Rattle.std.specs.Prelude.{ℕ, ◌<◌, ◌≡◌, ◌^◌, ℤ, pos, ◌*ℤ◌, ◌-ℤ◌, unsigned_abs, List, [], ◌∷◌}
+use Rattle.std.specs.Prelude.{cond, length, slice_index_or, Option, Some, None, nat_lt, Bool}
 use Rattle.integer_laws.specs.declared.which.Which.{Which}
 use Rattle.integer_laws.specs.declared.which.Which.TheVariants.{Left, Right, Difference}
 use Rattle.integer_laws.specs.Lowest.{IsLowest}
@@ -11,21 +13,25 @@ combined p q [] pivot = []
 combined p q (x ∷ row) [] = []
 combined p q (x ∷ row) (y ∷ pivot) = (p *ℤ x -ℤ q *ℤ y) ∷ combined p q row pivot
 
--- a test of range
+-- whether z is in range
 abbrev pub is_in_range : ℤ → Bool
 is_in_range z = nat_lt (unsigned_abs z) (2 ^ 127)
 
 -- the first of `p * x`, `q * y` and their difference that is out of range
 abbrev pub past_of : ℤ → ℤ → ℤ → ℤ → Option Which
 past_of p x q y =
-    cond (is_in_range (p *ℤ x)) (cond (is_in_range (q *ℤ y)) (cond (is_in_range (p *ℤ x -ℤ q *ℤ y)) None (Some Difference)) (Some Right)) (Some Left)
+    cond (is_in_range (p *ℤ x))
+    (cond (is_in_range (q *ℤ y)) (cond (is_in_range (p *ℤ x -ℤ q *ℤ y)) None (Some Difference))
+    (Some Right)) (Some Left)
 
--- the same at place j
+-- the same of the entries at place j
 abbrev pub past_at : ℤ → ℤ → List ℤ → List ℤ → ℕ → Option Which
-past_at p q row pivot j = past_of p (slice_index_or row j (pos 0)) q (slice_index_or pivot j (pos 0))
+past_at p q row pivot j =
+    past_of p (slice_index_or row j (pos 0)) q (slice_index_or pivot j (pos 0))
 
--- `new` is p times old minus q times pivot, made primitive. p and q are the entries of pivot and old at place c,
--- divided by their greatest common divisor, so place c becomes 0. No number on the way is out of range.
+-- `new` is p times old minus q times pivot, made primitive. p and q are the entries of pivot and
+-- old at place c, divided by their greatest common divisor, so place c becomes 0. No number on the
+-- way is out of range.
 pub record IsCombined (old pivot : List ℤ) (c : ℕ) (new : List ℤ) : Type 0 where
   pub p : ℤ
   pub q : ℤ

@@ -1,4 +1,5 @@
--- The whole numbers that the arithmetic keeps: absolute value at most 2^127 - 1. So -2^127, which an `i128` can hold, is out of range.
+-- The whole numbers that the arithmetic keeps: their absolute value is at most 2^127 - 1. So -2^127
+-- is out of range, although an `i128` can hold it.
 use Rattle.std.specs.Prelude.{◌<◌, ◌^◌, ℤ, unsigned_abs, List, All}
 
 abbrev pub InRange : ℤ → Type 0

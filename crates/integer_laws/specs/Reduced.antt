@@ -6,7 +6,7 @@ use Rattle.std.specs.Int.{◌∣◌}
 abbrev pub DividesAll : ℕ → List ℤ → Type 0
 DividesAll d row = All (λ x. d ∣ unsigned_abs x) row
 
--- g is the greatest common divisor of the entries; 0 where all are 0
+-- g is the greatest common divisor of the entries; it is 0 if all are 0
 pub record IsRowGcd (row : List ℤ) (g : ℕ) : Type 0 where
   pub divides : DividesAll g row
   pub greatest : (d : ℕ) → DividesAll d row → d ∣ g

@@ -1,4 +1,4 @@
--- Sums of whole numbers: over the elements of a list, and over the numbers below one.
+-- Sums of whole numbers: over the elements of a list, and over the numbers below a given one.
 use Rattle.std.specs.Prelude.{ℕ, zero, suc, List, [], ◌∷◌, ℤ, pos, ◌+ℤ◌}
 
 -- the sum of f over the elements

@@ -29,7 +29,8 @@ fn say_judged<K: Sink, E: Sink>(
     tree: &Tree,
 ) -> Status
     requires few { length tree.now < 2 ^ 32 }
-    ensures { Ends (Tells (JsonWork site.now (claim_of claim.now) tree.now)) out.old out.new result }
+    ensures { Ends (Tells (JsonWork site.now (claim_of claim.now) tree.now)) out.old out.new
+        result }
 {
     match verdict_of(alloc, site, claim, tree) {
         Ok(verdict) => say_made(out, json_text(alloc, site, claim, verdict)),
@@ -47,7 +48,8 @@ fn say_stated<K: Sink, E: Sink>(
     tree: &Tree,
 ) -> Status
     requires few { length tree.now < 2 ^ 32 }
-    ensures { Ends (Tells (JsonWork problem.now (claim_of claim.now) tree.now)) out.old out.new result }
+    ensures { Ends (Tells (JsonWork problem.now (claim_of claim.now) tree.now)) out.old out.new
+        result }
 {
     let Ok(graph) = Graph::of(alloc, problem) else {
         return say_memory(out);
@@ -63,7 +65,10 @@ fn say_tree<F: Shelf, K: Sink, E: Sink>(
     shelf: &mut F,
     out: &mut Outputs<K, E>,
 ) -> Status
-    ensures ends { Ends (Says (OnTree JsonWork (F.state shelf.old).held name.now problem.now) (λ other. other ≡ name.now) (F.state shelf.old) (F.state shelf.new)) out.old out.new result }
+    ensures ends { Ends
+        (Says (OnTree JsonWork (F.state shelf.old).held name.now problem.now)
+        (λ other. other ≡ name.now) (F.state shelf.old) (F.state shelf.new)) out.old out.new
+        result }
     ensures keeps { Keeps (F.state shelf.old) (F.state shelf.new) }
 {
     match tree_of(alloc, shelf, out, name, problem) {
@@ -81,7 +86,9 @@ pub fn json<F: Shelf, K: Sink, E: Sink>(
     shelf: &mut F,
     out: &mut Outputs<K, E>,
 ) -> Status
-    ensures ends { Ends (TwoFilesSay (OnTree JsonWork) file.now tree.now (F.state shelf.old) (F.state shelf.new)) out.old out.new result }
+    ensures ends { Ends
+        (TwoFilesSay (OnTree JsonWork) file.now tree.now (F.state shelf.old) (F.state shelf.new))
+        out.old out.new result }
     ensures keeps { Keeps (F.state shelf.old) (F.state shelf.new) }
 {
     match problem_of(alloc, shelf, out, file) {

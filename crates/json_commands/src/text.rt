@@ -21,7 +21,8 @@ fn text_behind(
     claim: &Claim,
 ) -> Result<Vec<u8>, AllocError>
     requires passes { ClaimPasses true site.now (claim_of claim.now) }
-    ensures { IfOk result (λ bytes. bytes.items ≡ text_of (lines_behind head.now site.now (claim_of claim.now))) }
+    ensures { IfOk result
+        (λ bytes. bytes.items ≡ text_of (lines_behind head.now site.now (claim_of claim.now))) }
 {
     match claim {
         Claim::Network(network) => facts_of(alloc, head, site, network),
@@ -37,7 +38,8 @@ pub(crate) fn json_text(
     verdict: Verdict,
 ) -> Result<Vec<u8>, AllocError>
     requires passes { ClaimPasses true site.now (claim_of claim.now) }
-    ensures { IfOk result (λ bytes. bytes.items ≡ text_of (json_lines site.now (claim_of claim.now) verdict)) }
+    ensures { IfOk result
+        (λ bytes. bytes.items ≡ text_of (json_lines site.now (claim_of claim.now) verdict)) }
 {
     let stated = text_member(alloc, "verdict", verdict_word(verdict))?;
     let node = node_member(alloc, verdict)?;

@@ -48,7 +48,8 @@ pub fn push_comma_lines(text: &mut Vec<u8>, pieces: &[Json]) -> Result<(), Alloc
 
 /// Appends an array under its key, with a line for each value, and a comma after the array.
 pub fn push_array(text: &mut Vec<u8>, key: &str, values: &[Json]) -> Result<(), AllocError>
-    ensures { OnOk result (text.new.items ≡ text.old.items ++ printed (array_lines key.now values.now)) }
+    ensures { OnOk result
+        (text.new.items ≡ text.old.items ++ printed (array_lines key.now values.now)) }
 {
     push_quoted(text, key)?;
     text.extend_from_slice(b": [\n")?;

@@ -67,7 +67,9 @@ impl Json {
     /// A number twice: in decimal with 17 digits, and exactly. If there is none, both are `null`.
     #[tactic(auto, unfolding(json_rules::specs::Value::number_json))]
     pub fn number(alloc: Global, number: Option<Frac>) -> Result<Json, AllocError>
-        ensures { IfOk result (λ json. json ≡ number_json (option_map (λ f. record { num = f.num; den = f.den }) number)) }
+        ensures { IfOk result
+            (λ json. json
+            ≡ number_json (option_map (λ f. record { num = f.num; den = f.den }) number)) }
     {
         match number {
             None => Json::pair(alloc, &Json::null(alloc)?, &Json::null(alloc)?),
@@ -76,7 +78,10 @@ impl Json {
     }
 
     fn fraction(alloc: Global, fraction: &Frac) -> Result<Json, AllocError>
-        ensures { IfOk result (λ json. json ≡ pair_of (value_text (record { num = fraction.now.num; den = fraction.now.den })) (quoted (fraction_text fraction.now.num fraction.now.den))) }
+        ensures { IfOk result
+            (λ json. json
+            ≡ pair_of (value_text (record { num = fraction.now.num; den = fraction.now.den }))
+            (quoted (fraction_text fraction.now.num fraction.now.den))) }
     {
         let text = value_text(alloc, fraction)?;
         let value = Json::plain(alloc, &text)?;
@@ -169,7 +174,8 @@ fn push_next(text: &mut Vec<u8>, piece: &[u8]) -> Result<(), AllocError>
 }
 
 fn push_further(text: &mut Vec<u8>, pieces: &[Json]) -> Result<(), AllocError>
-    ensures { OnOk result (text.new.items ≡ text.old.items ++ flat_map (λ next. 44 ∷ 32 ∷ next) pieces.now) }
+    ensures { OnOk result
+        (text.new.items ≡ text.old.items ++ flat_map (λ next. 44 ∷ 32 ∷ next) pieces.now) }
 {
     'parting: for piece in pieces {
         push_next(text, piece.bytes())?;

@@ -1,5 +1,6 @@
 //! A fraction as text.
-ghost use Rattle.std.specs.Prelude.{◌≡◌, ◌++◌, ◌∷◌, [], ◌^◌, ◌/◌, ◌%◌, ◌<◌, pos, unsigned_abs, int_lt, IfOk, OnOk, string_bytes, if◌then◌else◌};
+ghost use Rattle.std.specs.Prelude.{◌≡◌, ◌++◌, ◌∷◌, [], ◌^◌, ◌/◌, ◌%◌, ◌<◌, pos, unsigned_abs};
+ghost use Rattle.std.specs.Prelude.{int_lt, IfOk, OnOk, string_bytes, if◌then◌else◌};
 ghost use Rattle.report_rules.specs.Decimal.{scaled_text};
 ghost use Rattle.json_rules.specs.Value.{value_text};
 
@@ -34,7 +35,8 @@ fn parts_of(number: u128, places: u32) -> Parts
 }
 
 fn push_scaled(text: &mut String, places: u32, number: u128) -> Result<(), AllocError>
-    ensures { OnOk result (string_bytes text.new ≡ string_bytes text.old ++ scaled_text places number) }
+    ensures { OnOk result
+        (string_bytes text.new ≡ string_bytes text.old ++ scaled_text places number) }
 {
     let parts = parts_of(number, places);
     write!(text, "{}", parts.whole)?;
@@ -67,7 +69,8 @@ fn is_negative(fraction: &Frac) -> bool
 }
 
 fn push_sign(text: &mut String, negative: bool) -> Result<(), AllocError>
-    ensures { OnOk result (string_bytes text.new ≡ string_bytes text.old ++ (if negative then 45 ∷ [] else [])) }
+    ensures { OnOk result
+        (string_bytes text.new ≡ string_bytes text.old ++ (if negative then 45 ∷ [] else [])) }
 {
     if negative {
         text.push('-')?;
@@ -77,7 +80,9 @@ fn push_sign(text: &mut String, negative: bool) -> Result<(), AllocError>
 
 /// The fraction in decimal with 17 digits.
 pub(crate) fn value_text(alloc: Global, fraction: &Frac) -> Result<String, AllocError>
-    ensures { IfOk result (λ text. string_bytes text ≡ value_text (record { num = fraction.now.num; den = fraction.now.den })) }
+    ensures { IfOk result
+        (λ text. string_bytes text
+        ≡ value_text (record { num = fraction.now.num; den = fraction.now.den })) }
 {
     let mut text = String::new(alloc);
     push_sign(&mut text, is_negative(fraction))?;

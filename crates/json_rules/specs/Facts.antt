@@ -1,6 +1,7 @@
--- The facts of a claimed network for one year as the lines of one JSON object: those of its report, in its order. Units and
--- materials have a line each.
-use Rattle.std.specs.Prelude.{◌*ℤ◌, ◌&&◌, not, ℕ, List, [], ◌∷◌, ◌++◌, map, length, ℤ, pos, unsigned_abs, int_lt, codes, decimal, if◌then◌else◌}
+-- The facts of the network of a claim for one year, as the lines of one JSON object: those of its
+-- report, in the same order. Each unit and each material has a line.
+use Rattle.std.specs.Prelude.{◌*ℤ◌, ◌&&◌, not, ℕ, List, [], ◌∷◌, ◌++◌, map, length, ℤ, pos}
+use Rattle.std.specs.Prelude.{unsigned_abs, int_lt, codes, decimal, if◌then◌else◌}
 use Rattle.std.specs.Str.{bytes_eq}
 use Rattle.std.specs.Ordering.{int_eq}
 use Rattle.number_sets.specs.Sets.{has}
@@ -9,11 +10,15 @@ use Rattle.text_rules.specs.Canonical.{kind_word}
 use Rattle.flow_rules.specs.Net.{net_of, materials_of}
 use Rattle.tree_rules.specs.Claim.{Network}
 use Rattle.report_rules.specs.Number.{Number, times}
-use Rattle.report_rules.specs.declared.amount.UnitAmount.TheVariants.{Fixed, Proportional, Investment, Total, Once, Made, Used}
+use Rattle.report_rules.specs.declared.amount.UnitAmount.TheVariants.{Fixed, Proportional}
+use Rattle.report_rules.specs.declared.amount.UnitAmount.TheVariants.{Investment, Total, Once, Made}
+use Rattle.report_rules.specs.declared.amount.UnitAmount.TheVariants.{Used}
 use Rattle.report_rules.specs.declared.cost_part.CostPart.TheVariants.{Costs, Incomes}
-use Rattle.report_rules.specs.Amounts.{quotient, size, share, amount, unit_sum, net, price, cost, cost_sum}
+use Rattle.report_rules.specs.Amounts.{quotient, size, share, amount, unit_sum, net, price, cost}
+use Rattle.report_rules.specs.Amounts.{cost_sum}
 use Rattle.report_rules.specs.Report.{no_bound, unit_limit, material_limit, left_out}
-use Rattle.json_rules.specs.Json.{null, quoted, member, object, array, with_comma, comma_lines, array_lines}
+use Rattle.json_rules.specs.Json.{null, quoted, member, object, array, with_comma, comma_lines}
+use Rattle.json_rules.specs.Json.{array_lines}
 use Rattle.json_rules.specs.Value.{number_json}
 
 -- ---- members
@@ -27,7 +32,7 @@ count_member key n = member key (decimal n)
 abbrev pub number_member : List ℕ → Number → List ℕ
 number_member key n = member key (number_json n)
 
--- null where a report has `-`
+-- null if a report has `-`
 unfoldable pub limit_json : List ℕ → List ℕ
 limit_json words = if bytes_eq words (codes "-") then null else quoted words
 
@@ -38,44 +43,57 @@ limit_member words = member (codes "limit") (limit_json words)
 
 abbrev pub counts_member : Problem → Network → List ℕ
 counts_member p w = member (codes "counts") (object (
-    count_member (codes "units") (length w.units) ∷ count_member (codes "all_units") (length p.units)
-    ∷ count_member (codes "materials") (length (materials_of (net_of p) (has w.units))) ∷ count_member (codes "all_materials") (length p.materials) ∷ []))
+    count_member (codes "units") (length w.units)
+    ∷ count_member (codes "all_units") (length p.units)
+    ∷ count_member (codes "materials") (length (materials_of (net_of p) (has w.units)))
+    ∷ count_member (codes "all_materials") (length p.materials) ∷ []))
 
 abbrev pub payout_member : Problem → List ℕ
 payout_member p = count_member (codes "payout_period") (unsigned_abs p.payout)
 
 -- ---- units
 
--- of the upper bound, where that is above 0 and a bound
+-- the share of the upper bound, if that is above 0 and means a bound
 unfoldable pub share_json : Problem → Network → ℕ → List ℕ
 share_json p w i =
-    if int_lt (pos 0) (unit_at p i).upper && not (int_eq (unit_at p i).upper no_bound) then number_json (share p w i) else null
+    if int_lt (pos 0) (unit_at p i).upper && not (int_eq (unit_at p i).upper no_bound)
+    then number_json (share p w i) else null
 
 abbrev pub unit_json : Problem → Network → ℕ → List ℕ
 unit_json p w i = object (
-    text_member (codes "name") (unit_at p i).name ∷ number_member (codes "size") (size w i) ∷ member (codes "share") (share_json p w i) ∷ limit_member (unit_limit p w i)
-    ∷ number_member (codes "fixed") (amount Fixed p w i) ∷ number_member (codes "proportional") (amount Proportional p w i)
-    ∷ number_member (codes "investment") (amount Investment p w i) ∷ number_member (codes "total") (amount Total p w i) ∷ [])
+    text_member (codes "name") (unit_at p i).name ∷ number_member (codes "size") (size w i)
+    ∷ member (codes "share") (share_json p w i) ∷ limit_member (unit_limit p w i)
+    ∷ number_member (codes "fixed") (amount Fixed p w i)
+    ∷ number_member (codes "proportional") (amount Proportional p w i)
+    ∷ number_member (codes "investment") (amount Investment p w i)
+    ∷ number_member (codes "total") (amount Total p w i) ∷ [])
 
 -- ---- materials
 
 abbrev pub material_json : Problem → Network → ℕ → List ℕ
 material_json p w j = object (
-    text_member (codes "name") (material_at p j).name ∷ text_member (codes "kind") (kind_word (material_at p j).kind)
-    ∷ number_member (codes "made") (unit_sum (Made j) p w) ∷ number_member (codes "used") (unit_sum (Used j) p w) ∷ number_member (codes "net") (net p w j)
-    ∷ limit_member (material_limit p w j) ∷ number_member (codes "price") (price p j) ∷ number_member (codes "cost") (cost p w j) ∷ [])
+    text_member (codes "name") (material_at p j).name
+    ∷ text_member (codes "kind") (kind_word (material_at p j).kind)
+    ∷ number_member (codes "made") (unit_sum (Made j) p w)
+    ∷ number_member (codes "used") (unit_sum (Used j) p w)
+    ∷ number_member (codes "net") (net p w j)
+    ∷ limit_member (material_limit p w j) ∷ number_member (codes "price") (price p j)
+    ∷ number_member (codes "cost") (cost p w j) ∷ [])
 
 -- ---- money
 
--- the claimed cost over d and the payout period is in 10^-18
+-- the cost of the claim over d and the payout period is in 10^-18
 abbrev pub total : Problem → Network → Number
 total p w = times (quotient w.cost w.d) (quotient (pos 1) (pos 1000000000000000000 *ℤ p.payout))
 
 abbrev pub money_member : Problem → Network → List ℕ
 money_member p w = member (codes "money") (object (
-    number_member (codes "fixed") (unit_sum Fixed p w) ∷ number_member (codes "proportional") (unit_sum Proportional p w)
-    ∷ number_member (codes "investment") (unit_sum Investment p w) ∷ number_member (codes "material_costs") (cost_sum Costs p w)
-    ∷ number_member (codes "material_incomes") (cost_sum Incomes p w) ∷ number_member (codes "total") (total p w) ∷ []))
+    number_member (codes "fixed") (unit_sum Fixed p w)
+    ∷ number_member (codes "proportional") (unit_sum Proportional p w)
+    ∷ number_member (codes "investment") (unit_sum Investment p w)
+    ∷ number_member (codes "material_costs") (cost_sum Costs p w)
+    ∷ number_member (codes "material_incomes") (cost_sum Incomes p w)
+    ∷ number_member (codes "total") (total p w) ∷ []))
 
 abbrev pub once_member : Problem → Network → List ℕ
 once_member p w = number_member (codes "paid_once") (unit_sum Once p w)
@@ -90,22 +108,28 @@ left_out_member p w = member (codes "left_out") (array (map (unit_name p) (left_
 
 -- ---- all
 
--- behind the members of the head that tell the verdict and the claim
+-- after the members of the head, which say the verdict and the claim
 abbrev pub head_lines : List (List ℕ) → Problem → Network → List (List ℕ)
-head_lines head p w = (123 ∷ []) ∷ (map with_comma head ++ with_comma (counts_member p w) ∷ with_comma (payout_member p) ∷ [])
+head_lines head p w =
+    (123 ∷ [])
+    ∷ (map with_comma head ++ with_comma (counts_member p w) ∷ with_comma (payout_member p) ∷ [])
 
 abbrev pub unit_lines : Problem → Network → List (List ℕ)
 unit_lines p w = array_lines (codes "units") (map (unit_json p w) w.units)
 
 abbrev pub material_lines : Problem → Network → List (List ℕ)
-material_lines p w = array_lines (codes "materials") (map (material_json p w) (materials_of (net_of p) (has w.units)))
+material_lines p w =
+    array_lines (codes "materials")
+    (map (material_json p w) (materials_of (net_of p) (has w.units)))
 
 abbrev pub foot_lines : Problem → Network → List (List ℕ)
-foot_lines p w = with_comma (money_member p w) ∷ with_comma (once_member p w) ∷ left_out_member p w ∷ (125 ∷ []) ∷ []
+foot_lines p w = with_comma (money_member p w) ∷ with_comma (once_member p w) ∷ left_out_member p w
+    ∷ (125 ∷ []) ∷ []
 
 abbrev pub fact_lines : List (List ℕ) → Problem → Network → List (List ℕ)
-fact_lines head p w = head_lines head p w ++ (unit_lines p w ++ (material_lines p w ++ foot_lines p w))
+fact_lines head p w =
+    head_lines head p w ++ (unit_lines p w ++ (material_lines p w ++ foot_lines p w))
 
--- of a claim without a network
+-- the lines of a claim without a network
 abbrev pub bare_lines : List (List ℕ) → List (List ℕ)
 bare_lines head = (123 ∷ []) ∷ (comma_lines head ++ (125 ∷ []) ∷ [])

@@ -1,4 +1,4 @@
--- JSON text (RFC 8259), put together from its pieces.
+-- JSON text (RFC 8259), made from its pieces.
 use Rattle.std.specs.Prelude.{◌==◌, ◌||◌, ℕ, List, [], ◌∷◌, ◌++◌, flat_map, codes, if◌then◌else◌}
 
 -- ---- in one line
@@ -14,7 +14,7 @@ quoted bytes = 34 ∷ flat_map escaped bytes ++ 34 ∷ []
 abbrev pub null : List ℕ
 null = codes "null"
 
--- pieces with a comma and a space between two of them
+-- the pieces, with a comma and a space between each two
 abbrev pub parted : List (List ℕ) → List ℕ
 parted [] = []
 parted (piece ∷ pieces) = piece ++ flat_map (λ next. 44 ∷ 32 ∷ next) pieces
@@ -34,12 +34,13 @@ object members = 123 ∷ parted members ++ 125 ∷ []
 abbrev pub with_comma : List ℕ → List ℕ
 with_comma piece = piece ++ 44 ∷ []
 
--- a line for each piece, with a comma behind each but the last
+-- a line for each piece, with a comma after each but the last
 abbrev pub comma_lines : List (List ℕ) → List (List ℕ)
 comma_lines [] = []
 comma_lines (piece ∷ []) = piece ∷ []
 comma_lines (piece ∷ next ∷ pieces) = with_comma piece ∷ comma_lines (next ∷ pieces)
 
--- an array under its key with a line for each value, and a comma behind the whole
+-- an array under its key with a line for each value, and a comma after the whole
 abbrev pub array_lines : List ℕ → List (List ℕ) → List (List ℕ)
-array_lines key values = (quoted key ++ 58 ∷ 32 ∷ 91 ∷ []) ∷ (comma_lines values ++ (93 ∷ 44 ∷ []) ∷ [])
+array_lines key values =
+    (quoted key ++ 58 ∷ 32 ∷ 91 ∷ []) ∷ (comma_lines values ++ (93 ∷ 44 ∷ []) ∷ [])

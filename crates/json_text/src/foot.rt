@@ -1,5 +1,6 @@
 //! What follows units and materials: the money of one year, the investment, and the units left out.
-ghost use Rattle.std.specs.Prelude.{◌≡◌, ◌*ℤ◌, pos, ◌<◌, ◌++◌, ◌∷◌, [], ℕ, true, IfOk, OnOk, map, length, codes};
+ghost use Rattle.std.specs.Prelude.{◌≡◌, ◌*ℤ◌, pos, ◌<◌, ◌++◌, ◌∷◌, [], ℕ, true, IfOk, OnOk, map};
+ghost use Rattle.std.specs.Prelude.{length, codes};
 ghost use Rattle.number_sets.specs.Sets.{has};
 ghost use Rattle.pns_problem.specs.Printing.{printed};
 ghost use Rattle.tree_rules.specs.Claim.{IsFeasible};
@@ -46,7 +47,8 @@ fn total(problem: &Problem, network: &Network) -> Number
 }
 
 fn total_member(alloc: Global, site: &Site<'_>, network: &Network) -> Result<Json, AllocError>
-    ensures { IfOk result (λ json. json ≡ facts.number_member (codes "total") (facts.total site.now network.now)) }
+    ensures { IfOk result
+        (λ json. json ≡ facts.number_member (codes "total") (facts.total site.now network.now)) }
 {
     let total = total(site.problem(), network);
     let member = number_member(alloc, "total", &total)?;
@@ -62,7 +64,8 @@ fn units_member(
     network: &Network,
 ) -> Result<Json, AllocError>
     requires { (u : ℕ) → has network.now.units u ≡ true → u < length site.now.units }
-    ensures { IfOk result (λ json. json ≡ facts.number_member key.now (unit_sum what site.now network.now)) }
+    ensures { IfOk result
+        (λ json. json ≡ facts.number_member key.now (unit_sum what site.now network.now)) }
 {
     let problem = site.problem();
     let sum = unit_sum(what, problem, network);
@@ -79,7 +82,8 @@ fn materials_member(
     network: &Network,
 ) -> Result<Json, AllocError>
     requires feasible { IsFeasible site.now network.now }
-    ensures { IfOk result (λ json. json ≡ facts.number_member key.now (cost_sum part site.now network.now)) }
+    ensures { IfOk result
+        (λ json. json ≡ facts.number_member key.now (cost_sum part site.now network.now)) }
 {
     let sum = cost_sum(part, site, network);
     let member = number_member(alloc, key, &sum)?;
@@ -133,7 +137,8 @@ pub(crate) fn push_foot(
     network: &Network,
 ) -> Result<(), AllocError>
     requires feasible { IsFeasible site.now network.now }
-    ensures { OnOk result (text.new.items ≡ text.old.items ++ printed (facts.foot_lines site.now network.now)) }
+    ensures { OnOk result
+        (text.new.items ≡ text.old.items ++ printed (facts.foot_lines site.now network.now)) }
 {
     let money = money_member(alloc, site, network)?;
     let once = units_member(alloc, "paid_once", UnitAmount::Once, site, network)?;

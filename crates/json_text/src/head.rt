@@ -1,5 +1,6 @@
 //! The head: counts and the payout period.
-ghost use Rattle.std.specs.Prelude.{◌≡◌, ◌<◌, ◌++◌, ◌∷◌, [], ℕ, true, IfOk, OnOk, map, length, unsigned_abs};
+ghost use Rattle.std.specs.Prelude.{◌≡◌, ◌<◌, ◌++◌, ◌∷◌, [], ℕ, true, IfOk, OnOk, map, length};
+ghost use Rattle.std.specs.Prelude.{unsigned_abs};
 ghost use Rattle.number_sets.specs.Sets.{has};
 ghost use Rattle.pns_problem.specs.Printing.{printed};
 ghost use Rattle.flow_rules.specs.Net.{net_of, materials_of};
@@ -76,7 +77,9 @@ pub(crate) fn push_head(
     network: &Network,
 ) -> Result<(), AllocError>
     requires known { (u : ℕ) → has network.now.units u ≡ true → u < length site.now.units }
-    ensures { OnOk result (text.new.items ≡ text.old.items ++ printed (facts.head_lines head.now site.now network.now)) }
+    ensures { OnOk result
+        (text.new.items ≡ text.old.items
+        ++ printed (facts.head_lines head.now site.now network.now)) }
 {
     push_line(text, b"{")?;
     push_with_commas(text, head)?;

@@ -21,7 +21,9 @@ use std::alloc::{AllocError, Global};
 
 fn kind_member(alloc: Global, problem: &Problem, j: u32) -> Result<Json, AllocError>
     requires { j < length problem.now.materials }
-    ensures { IfOk result (λ json. json ≡ facts.text_member (codes "kind") (kind_word (material_at problem.now j).kind)) }
+    ensures { IfOk result
+        (λ json. json ≡ facts.text_member (codes "kind")
+        (kind_word (material_at problem.now j).kind)) }
 {
     text_member(alloc, "kind", kind_word(material_of(problem, j).kind))
 }
@@ -58,7 +60,10 @@ fn material_values(
     network: &Network,
 ) -> Result<Vec<Json>, AllocError>
     requires feasible { IsFeasible site.now network.now }
-    ensures { IfOk result (λ values. values.items ≡ map (facts.material_json site.now network.now) (materials_of (net_of site.now) (has network.now.units))) }
+    ensures { IfOk result
+        (λ values. values.items
+        ≡ map (facts.material_json site.now network.now)
+        (materials_of (net_of site.now) (has network.now.units))) }
 {
     let mut values = Vec::new(alloc);
     for j in materials_in(site, network) {
@@ -75,7 +80,8 @@ pub(crate) fn push_materials(
     network: &Network,
 ) -> Result<(), AllocError>
     requires feasible { IsFeasible site.now network.now }
-    ensures { OnOk result (text.new.items ≡ text.old.items ++ printed (facts.material_lines site.now network.now)) }
+    ensures { OnOk result
+        (text.new.items ≡ text.old.items ++ printed (facts.material_lines site.now network.now)) }
 {
     let values = material_values(alloc, site, network)?;
     push_array(text, "materials", &values)

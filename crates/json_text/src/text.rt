@@ -21,7 +21,8 @@ pub fn facts_of(
     network: &Network,
 ) -> Result<Vec<u8>, AllocError>
     requires feasible { IsFeasible site.now network.now }
-    ensures { IfOk result (λ bytes. bytes.items ≡ printed (fact_lines head.now site.now network.now)) }
+    ensures { IfOk result
+        (λ bytes. bytes.items ≡ printed (fact_lines head.now site.now network.now)) }
 {
     let mut text = Vec::new(alloc);
     push_head(alloc, &mut text, head, site, network)?;

@@ -40,7 +40,8 @@ fn share_member(
     u: u32,
 ) -> Result<Json, AllocError>
     requires { u < length problem.now.units }
-    ensures { IfOk result (λ json. json ≡ member (codes "share") (facts.share_json problem.now network.now u)) }
+    ensures { IfOk result
+        (λ json. json ≡ member (codes "share") (facts.share_json problem.now network.now u)) }
 {
     Json::member(alloc, "share", &share_json(alloc, problem, network, u)?)
 }
@@ -82,7 +83,8 @@ fn unit_json(
 
 fn unit_values(alloc: Global, problem: &Problem, network: &Network) -> Result<Vec<Json>, AllocError>
     requires { (u : ℕ) → has network.now.units u ≡ true → u < length problem.now.units }
-    ensures { IfOk result (λ values. values.items ≡ map (facts.unit_json problem.now network.now) network.now.units) }
+    ensures { IfOk result
+        (λ values. values.items ≡ map (facts.unit_json problem.now network.now) network.now.units) }
 {
     let mut values = Vec::new(alloc);
     for u in network.units() {
@@ -99,7 +101,8 @@ pub(crate) fn push_units(
     network: &Network,
 ) -> Result<(), AllocError>
     requires { (u : ℕ) → has network.now.units u ≡ true → u < length problem.now.units }
-    ensures { OnOk result (text.new.items ≡ text.old.items ++ printed (facts.unit_lines problem.now network.now)) }
+    ensures { OnOk result
+        (text.new.items ≡ text.old.items ++ printed (facts.unit_lines problem.now network.now)) }
 {
     let values = unit_values(alloc, problem, network)?;
     push_array(text, "units", &values)

@@ -1,9 +1,13 @@
--- Several lists of cells, and the stack of the cells that were unlinked: what contracts see. Cells and lists are numbered from 0.
--- To unlink a cell and to put it back later at the place that it left is Knuth's "dancing links" (2000).
-use Rattle.std.specs.Prelude.{◌≡◌, ℕ, zero, suc, ◌+◌, ◌<◌, ◌==◌, Bool, true, false, cond, not, ◌||◌, List, [], ◌∷◌, ◌++◌, map, slice_index_or, slice_set, replicate, Option, Some, None}
+-- Several lists of cells, and the stack of the cells that were unlinked: what contracts see. Cells
+-- and lists are numbered from 0. To unlink a cell and to put it back later at the place that it
+-- left is Knuth's "dancing links" (2000).
+use Rattle.std.specs.Prelude.{◌≡◌, ℕ, zero, suc, ◌+◌, ◌<◌, ◌==◌, Bool, true, false, cond, not, ◌||◌}
+use Rattle.std.specs.Prelude.{List, [], ◌∷◌, ◌++◌, map, slice_index_or, slice_set, replicate}
+use Rattle.std.specs.Prelude.{Option, Some, None}
 use Rattle.std.specs.List.{filter, insert}
 
--- an unlinked cell, the list that it left, and its place there: the number of the cells that stood before it
+-- an unlinked cell, the list that it left, and its place there: the number of the cells that were
+-- before it
 pub record Vacancy : Type 0 where
   pub cell : ℕ
   pub list : ℕ
@@ -39,7 +43,7 @@ abbrev pub first : List ℕ → Option ℕ
 first [] = None
 first (x ∷ xs) = Some x
 
--- the cell that comes after c
+-- the cell that follows c
 abbrev pub following : ℕ → List ℕ → Option ℕ
 following c [] = None
 following c (x ∷ xs) = cond (x == c) (first xs) (following c xs)
@@ -48,7 +52,7 @@ abbrev pub preceding_from : Option ℕ → ℕ → List ℕ → Option ℕ
 preceding_from before c [] = None
 preceding_from before c (x ∷ xs) = cond (x == c) before (preceding_from (Some x) c xs)
 
--- the cell that comes before c
+-- the cell before c
 abbrev pub preceding : ℕ → List ℕ → Option ℕ
 preceding c xs = preceding_from None c xs
 
@@ -78,7 +82,8 @@ abbrev pub with_pushed : Rows → ℕ → ℕ → Rows
 with_pushed r l c = record { cells = r.cells; lists = pushed r.lists l c; stack = r.stack }
 
 abbrev pub with_inserted : Rows → ℕ → ℕ → Rows
-with_inserted r c b = record { cells = r.cells; lists = map (inserted c b) r.lists; stack = r.stack }
+with_inserted r c b =
+    record { cells = r.cells; lists = map (inserted c b) r.lists; stack = r.stack }
 
 abbrev pub with_taken : Rows → ℕ → Rows
 with_taken r c = record { cells = r.cells; lists = map (without c) r.lists; stack = r.stack }
@@ -96,15 +101,17 @@ place_in c [] = 0
 place_in c (x ∷ xs) = cond (x == c) 0 (suc (place_in c xs))
 
 abbrev pub vacancy : List (List ℕ) → ℕ → Vacancy
-vacancy ls c = record { cell = c; list = list_with c ls; place = place_in c (row ls (list_with c ls)) }
+vacancy ls c =
+    record { cell = c; list = list_with c ls; place = place_in c (row ls (list_with c ls)) }
 
 -- the lists with the cell at the place that it left
 abbrev pub filled : Vacancy → List (List ℕ) → List (List ℕ)
 filled v ls = slice_set ls v.list (insert (row ls v.list) v.place v.cell)
 
--- the lists without c, which lies on top of the stack
+-- the lists without c, which is on top of the stack
 abbrev pub unlinked : Rows → ℕ → Rows
-unlinked r c = record { cells = r.cells; lists = map (without c) r.lists; stack = vacancy r.lists c ∷ r.stack }
+unlinked r c =
+    record { cells = r.cells; lists = map (without c) r.lists; stack = vacancy r.lists c ∷ r.stack }
 
 abbrev pub IsTop : ℕ → List Vacancy → Type 0
 IsTop c [] = ⊥
@@ -118,14 +125,14 @@ relinked_by r (v ∷ vs) = record { cells = r.cells; lists = filled v r.lists; s
 abbrev pub relinked : Rows → Rows
 relinked r = relinked_by r r.stack
 
--- ---- what holds of all of them
+-- ---- what is true of all of them
 
--- no cell comes twice
+-- no cell is there twice
 abbrev pub IsOnce : List ℕ → Type 0
 IsOnce [] = Unit {0}
 IsOnce (x ∷ xs) = (has xs x ≡ false) × IsOnce xs
 
--- each cell is in one list at most, and there once
+-- each cell is in at most one list, and there once
 pub record AreApart (ls : List (List ℕ)) : Type 0 where
   pub once : (l : ℕ) → IsOnce (row ls l)
   pub apart : (l m c : ℕ) → has (row ls l) c ≡ true → has (row ls m) c ≡ true → l ≡ m
@@ -136,7 +143,8 @@ AreBelow n ls = (l c : ℕ) → has (row ls l) c ≡ true → c < n
 
 -- relinking gives the lists before the unlinking, and the stack too
 abbrev pub RelinkUndoesUnlink : Type 0
-RelinkUndoesUnlink = (r : Rows) (c : ℕ) → AreApart r.lists → IsListed r.lists c → relinked (unlinked r c) ≡ r
+RelinkUndoesUnlink = (r : Rows) (c : ℕ) → AreApart r.lists → IsListed r.lists c
+    → relinked (unlinked r c) ≡ r
 
 -- lists stay apart when a cell leaves
 abbrev pub UnlinkKeepsApart : Type 0

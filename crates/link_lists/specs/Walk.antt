@@ -7,12 +7,12 @@ abbrev pub from : ℕ → List ℕ → List ℕ
 from c [] = []
 from c (x ∷ xs) = cond (x == c) (x ∷ xs) (from c xs)
 
--- the cells that are left of a walk, where the next one is given
+-- the cells that are left of a walk, given the next one
 abbrev pub left_of : Rows → Option ℕ → List ℕ
 left_of r None = []
 left_of r (Some c) = from c (row r.lists (list_with c r.lists))
 
--- the walk stands at a cell of some list, or at a list's end
+-- the walk is at a cell of some list, or at a list's end
 abbrev pub IsOnTheWay : Rows → Option ℕ → Type 0
 IsOnTheWay r None = Unit {0}
 IsOnTheWay r (Some c) = IsListed r.lists c

@@ -1,9 +1,11 @@
-//! Several doubly linked lists over one vector of cells, linked by index, with a stack of unlinked cells.
+//! Several doubly linked lists over one vector of cells, linked by index, with a stack of unlinked
+//! cells.
 //!
-//! Cells and lists are numbered from 0. Contracts see `Lists` as a list of lists of cell numbers and the stack, on which each
-//! unlinked cell lies with the list and the place that it left. A cell that is relinked comes back to that place, so that a
-//! search that unlinks cells on its way down gets exactly the lists of before on its way up. Only `open` and `grow` take memory,
-//! and every call but `open`, `grow` and a whole `walk` takes constant time.
+//! Cells and lists are numbered from 0. Contracts see `Lists` as a list of lists of cell numbers
+//! and the stack. On the stack each unlinked cell has the list and the place that it left.
+//! Relinking a cell puts it back at that place. So a search that unlinks cells on its way down has
+//! exactly the earlier lists on its way up. Only `open` and `grow` take memory, and every call but
+//! `open`, `grow` and a whole `walk` takes constant time.
 //!
 //! - `lists`: `Lists` and its calls
 //! - `walk`: `Walk`, the iterator over one list

@@ -1,6 +1,7 @@
 //! The links of a node, and how they are written.
 
-ghost use Rattle.std.specs.Prelude.{◌≡◌, ◌<◌, ◌≤◌, ◌++◌, ◌+◌, ◌-◌, ◌^◌, ℕ, List, length, replicate, IfOk, cond, nat_lt, None, Some};
+ghost use Rattle.std.specs.Prelude.{◌≡◌, ◌<◌, ◌≤◌, ◌++◌, ◌+◌, ◌-◌, ◌^◌, ℕ, List, length, replicate};
+ghost use Rattle.std.specs.Prelude.{IfOk, cond, nat_lt, None, Some};
 ghost use Rattle.link_lists.specs.Links.{next_of, prev_of, with_at};
 
 use std::alloc::{AllocError, Global};
@@ -12,7 +13,7 @@ pub struct Link {
     pub prev: usize,
 }
 
-/// The cell of a node, none where the node is that of a list.
+/// The cell of a node, or `None` if the node is that of a list.
 pub fn cell_of(node: usize, lists: u32) -> Option<u32>
     requires { node < lists + 2 ^ 32 }
     ensures { result ≡ cond (nat_lt node lists) None (Some (node - lists)) }
@@ -59,13 +60,18 @@ pub fn prev_node(links: &Vec<Link>, node: usize) -> usize
     links[node].prev
 }
 
-/// Leads past the node. Its own links stay, and `restore` reads them.
+/// Links the neighbours of the node to each other. The node's own links stay, and `restore` reads
+/// them.
 pub fn bypass(links: &mut Vec<Link>, node: usize)
     requires node { node < length links.old.items }
     requires near_prev { prev_of links.old.items node < length links.old.items }
     requires near_next { next_of links.old.items node < length links.old.items }
-    ensures next { next_of links.new.items ≡ with_at (next_of links.old.items) (prev_of links.old.items node) (next_of links.old.items node) }
-    ensures prev { prev_of links.new.items ≡ with_at (prev_of links.old.items) (next_of links.old.items node) (prev_of links.old.items node) }
+    ensures next { next_of links.new.items
+        ≡ with_at (next_of links.old.items) (prev_of links.old.items node)
+        (next_of links.old.items node) }
+    ensures prev { prev_of links.new.items
+        ≡ with_at (prev_of links.old.items) (next_of links.old.items node)
+        (prev_of links.old.items node) }
     ensures length { length links.new.items ≡ length links.old.items }
 {
     let prev = prev_node(links, node);
@@ -74,13 +80,15 @@ pub fn bypass(links: &mut Vec<Link>, node: usize)
     set_prev(links, next, prev);
 }
 
-/// Leads through the node again, between the neighbours that its own links remember.
+/// Links the node in again, between the neighbours in its own links.
 pub fn restore(links: &mut Vec<Link>, node: usize)
     requires node { node < length links.old.items }
     requires near_prev { prev_of links.old.items node < length links.old.items }
     requires near_next { next_of links.old.items node < length links.old.items }
-    ensures next { next_of links.new.items ≡ with_at (next_of links.old.items) (prev_of links.old.items node) node }
-    ensures prev { prev_of links.new.items ≡ with_at (prev_of links.old.items) (next_of links.old.items node) node }
+    ensures next { next_of links.new.items
+        ≡ with_at (next_of links.old.items) (prev_of links.old.items node) node }
+    ensures prev { prev_of links.new.items
+        ≡ with_at (prev_of links.old.items) (next_of links.old.items node) node }
     ensures length { length links.new.items ≡ length links.old.items }
 {
     let prev = prev_node(links, node);
@@ -89,13 +97,17 @@ pub fn restore(links: &mut Vec<Link>, node: usize)
     set_prev(links, next, node);
 }
 
-/// Leads through a new node just before `after`.
+/// Links a new node in, just before `after`.
 pub fn splice(links: &mut Vec<Link>, node: usize, after: usize)
     requires node { node < length links.old.items }
     requires after { after < length links.old.items }
     requires near { prev_of links.old.items after < length links.old.items }
-    ensures next { next_of links.new.items ≡ with_at (with_at (next_of links.old.items) (prev_of links.old.items after) node) node after }
-    ensures prev { prev_of links.new.items ≡ with_at (with_at (prev_of links.old.items) node (prev_of links.old.items after)) after node }
+    ensures next { next_of links.new.items
+        ≡ with_at (with_at (next_of links.old.items) (prev_of links.old.items after) node) node
+        after }
+    ensures prev { prev_of links.new.items
+        ≡ with_at (with_at (prev_of links.old.items) node (prev_of links.old.items after)) after
+        node }
     ensures length { length links.new.items ≡ length links.old.items }
 {
     let prev = prev_node(links, after);
@@ -131,7 +143,7 @@ pub fn lengthen_stack(stack: &mut Vec<u32>, len: usize) -> Result<(), AllocError
     }
 }
 
-/// Rings without cells, for each list one, and room for cells.
+/// One ring without cells for each list, and room for cells.
 pub fn rings(alloc: Global, lists: usize, count: usize) -> Result<Vec<Link>, AllocError>
     requires { lists ≤ count }
     ensures length { IfOk result (λ links. length links.items ≡ count) }

@@ -1,7 +1,9 @@
 //! `Lists`: several doubly linked lists, and the stack of unlinked cells.
 
 ghost use Rattle.std.specs.Prelude.{◌≡◌, ◌<◌, ◌+◌, ◌^◌, ℕ, true, [], length, IfOk, OnErr};
-ghost use Rattle.link_lists.specs.Lists.{row, has, IsListed, IsFree, AreApart, AreBelow, first, following, preceding, opened, with_cells, with_pushed, with_inserted, with_taken, IsTop, unlinked, relinked};
+ghost use Rattle.link_lists.specs.Lists.{row, has, IsListed, IsFree, AreApart, AreBelow, first};
+ghost use Rattle.link_lists.specs.Lists.{following, preceding, opened, with_cells, with_pushed};
+ghost use Rattle.link_lists.specs.Lists.{with_inserted, with_taken, IsTop, unlinked, relinked};
 
 use crate::links::{
     Link, bypass, cell_of, lengthen, lengthen_stack, next_node, prev_node, restore, rings, splice,
@@ -10,13 +12,14 @@ use crate::walk::Walk;
 use std::alloc::{AllocError, Global};
 use std::marker::Model;
 
-/// Several lists of cells, and the stack of the unlinked cells. A cell number or list number that a call takes is below the
-/// count of cells or lists.
+/// Several lists of cells, and the stack of the unlinked cells. Each cell number or list number
+/// that a call takes is below the count of cells or lists.
 #[derive(Drop)]
 pub struct Lists {
     lists: u32,
     cells: u32,
-    // List l is node l, which closes it to a ring, and cell c is the node after all of these and c others.
+    // List l is node l, which closes it to a ring, and cell c is the node after all of these and c
+    // others.
     links: Vec<Link>,
     stack: Vec<u32>,
     depth: u32,
@@ -35,7 +38,7 @@ impl Model for Lists {
 }
 
 impl Lists {
-    /// Makes empty lists, and cells that are free. `Err` comes for want of memory alone.
+    /// Makes empty lists, and cells that are free. `Err` means out of memory.
     pub fn open(alloc: Global, lists: u32, cells: u32) -> Result<Lists, AllocError>
         ensures { IfOk result (λ r. r ≡ opened lists cells) }
     {
@@ -50,7 +53,7 @@ impl Lists {
         })
     }
 
-    /// Adds so many free cells. After `Err`, which comes for want of memory alone, all is as before.
+    /// Adds so many free cells. `Err` means out of memory; then all is as before.
     pub fn grow(&mut self, cells: u32) -> Result<(), AllocError>
         requires { self.old.cells + cells < 2 ^ 32 }
         ensures more { IfOk result (λ _. self.new ≡ with_cells self.old cells) }
@@ -63,7 +66,7 @@ impl Lists {
         Ok(())
     }
 
-    /// The first cell of the list, and none where the list is empty.
+    /// The first cell of the list, or `None` if the list is empty.
     pub fn first(&self, list: u32) -> Option<u32>
         requires { list < length self.now.lists }
         ensures { result ≡ first (row self.now.lists list) }
@@ -71,10 +74,11 @@ impl Lists {
         cell_of(next_node(&self.links, list as usize), self.lists)
     }
 
-    /// The cell that follows in its list, and none at the list's end.
+    /// The cell that follows in its list, or `None` at the list's end.
     pub fn next(&self, cell: u32) -> Option<u32>
         requires { IsListed self.now.lists cell }
-        ensures { (l : ℕ) → has (row self.now.lists l) cell ≡ true → result ≡ following cell (row self.now.lists l) }
+        ensures { (l : ℕ) → has (row self.now.lists l) cell ≡ true
+            → result ≡ following cell (row self.now.lists l) }
     {
         cell_of(
             next_node(&self.links, self.lists as usize + cell as usize),
@@ -82,10 +86,11 @@ impl Lists {
         )
     }
 
-    /// The cell that comes before it in its list, and none at the list's beginning.
+    /// The cell before it in its list, or `None` at the list's beginning.
     pub fn prev(&self, cell: u32) -> Option<u32>
         requires { IsListed self.now.lists cell }
-        ensures { (l : ℕ) → has (row self.now.lists l) cell ≡ true → result ≡ preceding cell (row self.now.lists l) }
+        ensures { (l : ℕ) → has (row self.now.lists l) cell ≡ true
+            → result ≡ preceding cell (row self.now.lists l) }
     {
         cell_of(
             prev_node(&self.links, self.lists as usize + cell as usize),
@@ -129,7 +134,7 @@ impl Lists {
         splice(&mut self.links, self.lists as usize + cell as usize, after);
     }
 
-    /// Takes the cell out of its list: it is free. No cell is unlinked.
+    /// Takes the cell out of its list, so it is free. No cell is unlinked.
     pub fn take(&mut self, cell: u32)
         requires listed { IsListed self.old.lists cell }
         requires none_unlinked { self.old.stack ≡ [] }
@@ -138,7 +143,8 @@ impl Lists {
         bypass(&mut self.links, self.lists as usize + cell as usize);
     }
 
-    /// Takes the cell out of its list, and puts it on the stack with the list and the place that it leaves.
+    /// Takes the cell out of its list, and puts it on the stack with the list and the place that it
+    /// leaves.
     pub fn unlink(&mut self, cell: u32)
         requires { IsListed self.old.lists cell }
         ensures unlinked { self.new ≡ unlinked self.old cell }
@@ -149,7 +155,8 @@ impl Lists {
         self.depth += 1;
     }
 
-    /// Puts the cell on top of the stack back into its list, at the place that it left. All is as before its `unlink`.
+    /// Puts the cell on top of the stack back into its list, at the place that it left. All is as
+    /// before its `unlink`.
     pub fn relink(&mut self, cell: u32)
         requires { IsTop cell self.old.stack }
         ensures { self.new ≡ relinked self.old }
@@ -158,7 +165,7 @@ impl Lists {
         self.depth -= 1;
     }
 
-    /// Changes nothing. What it ensures holds of all lists, for callers that prove with it.
+    /// Changes nothing. What it ensures is true of all lists, for the proofs of callers.
     pub fn are_apart(&self)
         ensures apart { AreApart self.now.lists }
         ensures below { AreBelow self.now.cells self.now.lists }

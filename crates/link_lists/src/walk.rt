@@ -5,7 +5,7 @@ ghost use Rattle.std.specs.Iterator.{YieldsFirst, item_count};
 use crate::lists::Lists;
 use std::marker::Model;
 
-/// The cells of one list in order, seen as the list of those that are left.
+/// The cells of one list in order, seen as the list of the cells that are left.
 #[derive(Drop)]
 pub struct Walk<'a> {
     pub(crate) lists: &'a Lists,

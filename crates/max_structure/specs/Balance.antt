@@ -1,5 +1,6 @@
--- Which units to leave out where a set breaks the second axiom at a material: the makers of a raw material, since no
--- solution structure makes one, and else the users of the material, since none uses what is neither raw nor made.
+-- Which units to leave out if a set breaks the second axiom at a material. For a raw material they
+-- are its makers, since no solution structure makes one. Else they are its users, since no
+-- structure uses what is neither raw nor made.
 use Rattle.std.specs.Prelude.{ℕ, Bool, cond}
 use Rattle.pns_rules.specs.Shape.{Shape}
 

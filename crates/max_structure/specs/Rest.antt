@@ -1,5 +1,5 @@
--- What is left of a set of units that one of them leaves (a step of the maximal structure generation of Friedler, Tarjan,
--- Huang and Fan 1993, from a set that is balanced).
+-- What is left of a set of units when one of them goes. It is a step of the maximal structure
+-- generation of Friedler, Tarjan, Huang and Fan 1993, from a set that is balanced.
 use Rattle.std.specs.Prelude.{◌≡◌, ◌≢◌, ℕ, Bool, true, false}
 use Rattle.number_sets.specs.Sets.{IsWithin}
 use Rattle.pns_rules.specs.Shape.{Shape}
@@ -11,7 +11,8 @@ use Rattle.pns_rules.specs.Breaks.{BreaksS2}
 abbrev pub HasAll : Shape → (ℕ → Bool) → (ℕ → Bool) → Type 0
 HasAll g wanted o = (x : ℕ) → wanted x ≡ true → is_made g o x ≡ true
 
--- no unit of the set makes a raw material, each other material that the set uses is made in it, and so is each that is wanted
+-- No unit of the set makes a raw material. Each other material that the set uses is made in it, and
+-- so is each that is wanted.
 pub record IsKept (g : Shape) (wanted kept : ℕ → Bool) : Type 0 where
   pub balanced : IsNever (BreaksS2 g kept)
   pub makes : HasAll g wanted kept
@@ -20,8 +21,8 @@ pub record IsKept (g : Shape) (wanted kept : ℕ → Bool) : Type 0 where
 abbrev pub UsesWanted : Shape → (ℕ → Bool) → ℕ → Type 0
 UsesWanted g wanted v = (x : ℕ) → g.uses v x ≡ true → g.raw x ≡ false → wanted x ≡ true
 
--- What is kept without u. It holds each solution structure within `held` that has not u, and each other unit that uses
--- nothing but what is wanted.
+-- What is kept without u. It contains each solution structure within `held` and without u, and each
+-- other unit that uses nothing but what is wanted.
 pub record IsRest (g : Shape) (wanted held : ℕ → Bool) (u : ℕ) (rest : ℕ → Bool) : Type 0 where
   pub within : IsWithin rest held
   pub without : rest u ≡ false
@@ -29,12 +30,13 @@ pub record IsRest (g : Shape) (wanted held : ℕ → Bool) (u : ℕ) (rest : ℕ
   pub holds : (m o : ℕ → Bool) → Meets g m o → IsWithin o held → o u ≡ false → IsWithin o rest
   pub stays : (v : ℕ) → held v ≡ true → u ≢ v → UsesWanted g wanted v → rest v ≡ true
 
--- no solution structure within `held` that has not u makes all that is wanted
+-- no solution structure within `held` and without u makes all that is wanted
 abbrev pub HasNoRest : Shape → (ℕ → Bool) → (ℕ → Bool) → ℕ → Type 0
-HasNoRest g wanted held u = (m o : ℕ → Bool) → Meets g m o → IsWithin o held → o u ≡ false → HasAll g wanted o → ⊥
+HasNoRest g wanted held u = (m o : ℕ → Bool) → Meets g m o → IsWithin o held → o u ≡ false
+    → HasAll g wanted o → ⊥
 
--- the units of the set that go where the material, which is not raw, has no maker in it: those that use it, and none where
--- it has one
+-- The units of the set that go if the material, which is not raw, has no maker in it: those that
+-- use it. None go if it has one.
 pub record IsStarved (g : Shape) (wanted left : ℕ → Bool) (x : ℕ) (gone : ℕ → Bool) : Type 0 where
   pub within : IsWithin gone left
   pub use_it : (v : ℕ) → gone v ≡ true → (g.uses v x ≡ true) × (is_made g left x ≡ false)

@@ -1,4 +1,5 @@
-//! Leaving out the units that no solution structure can have, until a material has a maker exactly where it is not raw.
+//! Leaving out the units that no solution structure can have, until a material has a maker exactly
+//! if it is not raw.
 ghost use Rattle.std.specs.Prelude.{◌≡◌, ◌<◌, ◌↔◌, ◌&&◌, ℕ, Bool, true, not, IsTrue};
 ghost use Rattle.number_sets.specs.Sets.{has, IsWithin, Avoids};
 ghost use Rattle.pns_rules.specs.Structure.{Meets};
@@ -23,7 +24,8 @@ fn is_broken(graph: &Graph, set: UnitSet, x: u32) -> bool
     }
 }
 
-/// The units that no solution structure has where S2 is broken at the material in a set that holds them all.
+/// The units that no solution structure has if S2 is broken at the material, in a set that contains
+/// all structures.
 fn to_blame(graph: &Graph, x: u32) -> UnitSet
     requires { x < (shape graph.now).materials }
     ensures { has result ≡ is_to_blame (shape graph.now) x }
@@ -36,12 +38,15 @@ fn to_blame(graph: &Graph, x: u32) -> UnitSet
     }
 }
 
-/// The units of the set without which S2 is not broken at the material: none where it is not broken.
+/// The units of the set without which S2 is not broken at the material. There are none if it is not
+/// broken.
 fn to_leave_out(graph: &Graph, set: UnitSet, x: u32) -> UnitSet
     requires { x < (shape graph.now).materials }
     ensures within { IsWithin (has result) (has set) }
-    ensures keeps { (m o : ℕ → Bool) → Meets (shape graph.now) m o → IsWithin o (has set) → Avoids o (has result) }
-    ensures settles { (rest : ℕ → Bool) → ((u : ℕ) → rest u ≡ (has set u && not (has result u))) → BreaksS2 (shape graph.now) rest x → ⊥ }
+    ensures keeps { (m o : ℕ → Bool) → Meets (shape graph.now) m o → IsWithin o (has set)
+        → Avoids o (has result) }
+    ensures settles { (rest : ℕ → Bool) → ((u : ℕ) → rest u ≡ (has set u && not (has result u)))
+        → BreaksS2 (shape graph.now) rest x → ⊥ }
 {
     if is_broken(graph, set, x) {
         set.meet(to_blame(graph, x))
@@ -50,14 +55,15 @@ fn to_leave_out(graph: &Graph, set: UnitSet, x: u32) -> UnitSet
     }
 }
 
-/// The units of the set that are left when those to blame at a material where S2 is broken have gone, until it is broken
-/// nowhere. A unit that goes can break S2 at its outputs alone, so each material is looked at once, and once more for
-/// each of its makers that goes.
+/// The units of the set that are left when the units to blame have gone, material by material,
+/// until S2 is broken nowhere. A unit that goes can break S2 at its outputs alone. So each material
+/// is looked at once, and once more for each of its makers that goes.
 pub fn balanced(graph: &Graph, set: UnitSet) -> UnitSet
     requires { (u : ℕ) → has set u ≡ true → u < (shape graph.now).units }
     ensures within { IsWithin (has result) (has set) }
     ensures balanced { IsNever (BreaksS2 (shape graph.now) (has result)) }
-    ensures keeps { (m o : ℕ → Bool) → Meets (shape graph.now) m o → IsWithin o (has set) → IsWithin o (has result) }
+    ensures keeps { (m o : ℕ → Bool) → Meets (shape graph.now) m o → IsWithin o (has set)
+        → IsWithin o (has result) }
 {
     graph.is_proper();
     let mut left = set;

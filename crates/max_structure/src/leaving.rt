@@ -10,11 +10,12 @@ use pgraph::Graph;
 use std::sync::ledger::Ledger;
 use unit_sets::{MatSet, UnitSet};
 
-/// The units of the set that go where the material has no maker in it, none where it has one. `None` where it is wanted and
-/// has none.
+/// The units of the set that go if the material has no maker in it; none if it has one. `None` if
+/// it is wanted and has none.
 fn starved(graph: &Graph, left: UnitSet, wanted: MatSet, x: u32) -> Option<UnitSet>
     requires { x < (shape graph.now).materials }
-    ensures starved { IfSome result (λ gone. IsStarved (shape graph.now) (has wanted) (has left) x (has gone)) }
+    ensures starved { IfSome result
+        (λ gone. IsStarved (shape graph.now) (has wanted) (has left) x (has gone)) }
     ensures wanted { IfNone result (has wanted x ≡ true) }
     ensures lost { IfNone result (is_made (shape graph.now) (has left) x ≡ false) }
 {
@@ -28,10 +29,11 @@ fn starved(graph: &Graph, left: UnitSet, wanted: MatSet, x: u32) -> Option<UnitS
     }
 }
 
-/// The greatest set within `kept` and without `u` in which each material that is used and not raw has a maker, where all that
-/// is wanted has one; `None` exactly where no solution structure within `kept` that has not `u` makes all that is wanted.
-/// Only the outputs of a unit that goes can lose their last maker, so it looks at these alone, and it ends as soon as one
-/// that is wanted has lost it. It takes no memory.
+/// The greatest set within `kept` and without `u` in which each material that is used and not raw
+/// has a maker, if all that is wanted has one. `None` exactly if no solution structure within
+/// `kept` and without `u` makes all that is wanted. Only the outputs of a unit that goes can lose
+/// their last maker, so it looks at these alone. It ends as soon as one that is wanted has lost it.
+/// It takes no memory.
 pub fn without_unit(graph: &Graph, kept: UnitSet, wanted: MatSet, u: u32) -> Option<UnitSet>
     requires known { (v : ℕ) → has kept v ≡ true → v < (shape graph.now).units }
     requires there { has kept u ≡ true }

@@ -1,14 +1,14 @@
-//! The maximal structure of a graph: the union of all its solution structures, allowed by the exclusions or not; and
+//! The maximal structure of a graph, exactly.
+//!
+//! [`maximal`] first leaves out units that no solution structure can have, material by material,
+//! until a material of what is left has a maker exactly if it is not raw (`balance`). Then it keeps
+//! the units that lead to a product. If what is left has every product, it is the union of all
+//! solution structures, clash-free or not, and is one itself. Else there is none. [`viable`] says
 //! whether some solution structure takes some units in and leaves others out.
 //!
-//! [`maximal`] first leaves out units that no solution structure can have, material by material, until a material of what
-//! is left has a maker exactly where it is not raw (`balance`); then it keeps the units that lead to a product. What is
-//! left is the union, and a solution structure itself, where it has every product; else there is no solution structure.
-//! [`viable`] asks this of the units that are not left out, and counts one step in the caller's [`Steps`]. A call costs some
-//! operations on masks for each unit and each material.
-//!
-//! Where such a set is at hand, [`left_out`] finds what is left of it without one unit from the materials that lose their
-//! last maker alone (`leaving`), and counts one step too; [`without_unit`] does the same uncounted. No call takes memory.
+//! From such a set, [`left_out`] finds what is left without one unit; it looks only at the
+//! materials that lose their last maker (`leaving`). Both count one step in the caller's [`Steps`],
+//! and [`without_unit`] does the same uncounted. No call takes memory.
 #![tactic(auto)]
 
 mod balance;

@@ -4,7 +4,8 @@ ghost use Rattle.std.specs.Prelude.{◌≡◌, ◌<◌, ◌+◌};
 use std::marker::Model;
 use std::sync::ledger::{Blank, Book, Ledger, Share};
 
-/// How many viability tests were made, in a ledger of the caller's. It takes no bytes, and only `viable` and `left_out` change it.
+/// How many viability tests were made, in a ledger of the caller's. It takes no bytes, and only
+/// `viable` and `left_out` change it.
 #[derive(Drop)]
 pub struct Steps<L: Ledger> {
     book: Book<L>,
@@ -22,7 +23,7 @@ impl<L: Ledger> Model for Steps<L> {
 }
 
 impl<L: Ledger> Steps<L> {
-    /// A count that stands at 0, in the ledger that the caller has picked.
+    /// A count of 0, in the ledger that the caller has picked.
     pub fn start(blank: Blank) -> Steps<L>
         requires { (blank.name ≡ L.name) × (blank.parts ≡ L.parts) × (0 < L.parts) }
         ensures { result ≡ 0 }

@@ -1,5 +1,5 @@
-//! The union of all solution structures, after the maximal structure generation of Friedler, Tarjan, Huang and Fan (1993),
-//! and viability.
+//! The union of all solution structures, after the maximal structure generation of Friedler,
+//! Tarjan, Huang and Fan (1993), and viability.
 ghost use Rattle.std.specs.Prelude.{◌≡◌, ◌+◌, ◌↔◌, ℕ, Bool, false, IsTrue, IfSome, IfNone};
 ghost use Rattle.number_sets.specs.Sets.{has, Avoids};
 ghost use Rattle.pns_rules.specs.Structure.{Meets, IsBetween, IsUnion};
@@ -11,12 +11,14 @@ use pgraph::Graph;
 use std::sync::ledger::Ledger;
 use unit_sets::UnitSet;
 
-/// The union of all solution structures, allowed or not, that avoid `without`; it is one of them. `None` exactly where
-/// there is none. It takes no memory.
+/// The union of all solution structures, clash-free or not, that avoid `without`; it is one of
+/// them. `None` exactly if there is none. It takes no memory.
 pub fn maximal(graph: &Graph, without: UnitSet) -> Option<UnitSet>
     ensures union { IfSome result (λ s. IsUnion (shape graph.now) (has without) (has s)) }
-    ensures structure { IfSome result (λ s. IsBetween (shape graph.now) (λ _. false) (has without) (has s)) }
-    ensures none { IfNone result ((m o : ℕ → Bool) → Meets (shape graph.now) m o → Avoids o (has without) → ⊥) }
+    ensures structure { IfSome result
+        (λ s. IsBetween (shape graph.now) (λ _. false) (has without) (has s)) }
+    ensures none { IfNone result
+        ((m o : ℕ → Bool) → Meets (shape graph.now) m o → Avoids o (has without) → ⊥) }
 {
     graph.is_proper();
     let all = UnitSet::below(graph.unit_count()).minus(without);
@@ -29,15 +31,16 @@ pub fn maximal(graph: &Graph, without: UnitSet) -> Option<UnitSet>
     }
 }
 
-/// Whether some solution structure, allowed or not, contains `inside` and avoids `outside`. It counts one step, and takes
-/// no memory.
+/// Whether some solution structure, clash-free or not, contains `inside` and avoids `outside`. It
+/// counts one step, and takes no memory.
 pub fn viable<L: Ledger>(
     graph: &Graph,
     inside: UnitSet,
     outside: UnitSet,
     steps: &mut Steps<L>,
 ) -> bool
-    ensures viable { IsTrue result ↔ ((o : ℕ → Bool) × IsBetween (shape graph.now) (has inside) (has outside) o) }
+    ensures viable { IsTrue result
+        ↔ ((o : ℕ → Bool) × IsBetween (shape graph.now) (has inside) (has outside) o) }
     ensures counted { steps.new ≡ steps.old + 1 }
 {
     steps.tick();

@@ -1,4 +1,4 @@
--- A mixed number as a fraction: the numerator over the denominator of what it has beside its whole part.
+-- A mixed number as a fraction: its denominator is that of the part below 1.
 use Rattle.std.specs.Prelude.{ℤ, pos, ◌+ℤ◌, ◌*ℤ◌}
 use Rattle.mixed_numbers.specs.declared.number.Mixed.{Mixed}
 

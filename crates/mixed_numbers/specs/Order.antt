@@ -1,4 +1,5 @@
--- The order of mixed numbers: that of their fractions, a / b to c / d as a * d to c * b, since denominators are above 0.
+-- The order of mixed numbers is that of their fractions: a / b compares to c / d as a * d to c * b,
+-- since denominators are above 0.
 use Rattle.std.specs.Prelude.{◌*ℤ◌}
 use Rattle.std.specs.Ordering.{int_cmp}
 use Rattle.std.specs.declared.cmp.Ordering.{Ordering}

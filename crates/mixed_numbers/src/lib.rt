@@ -1,7 +1,9 @@
-//! Mixed numbers: a whole number and a fraction below 1. A cost that is huge in its unit and has a long denominator is past 128 bits
-//! as one fraction, while its whole part and what is left over stay short. So no product of theirs is formed to compare two of them.
+//! Mixed numbers with an exact order; when `of_sum` gives nothing has no clause.
 //!
-//! Contracts see a [`Mixed`] as the fraction `numerator` over `denominator` of `specs/Number`, which have no range.
+//! A mixed number is a whole number and a fraction below 1. A cost that is huge in its unit and has
+//! a long denominator does not fit 128 bits as one fraction. Its whole part and the rest stay
+//! short, and no product of two mixed numbers is formed to compare them. Contracts see a [`Mixed`]
+//! as the fraction `numerator` over `denominator` of `specs/Number`, which have no range.
 //!
 //! - `number`: `Mixed`, and how it is made.
 //! - `order`: the order of mixed numbers.

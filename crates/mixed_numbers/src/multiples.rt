@@ -1,7 +1,7 @@
 //! Multiples of a fraction below 1.
 ghost use Rattle.std.specs.Prelude.{◌≡◌, ◌<◌, ◌≤◌, ◌+◌, ◌*◌, ◌^◌, IfSome};
 
-/// A whole number and `rest` over a denominator that goes with it.
+/// A whole number and `rest` over a denominator that is given with it.
 #[derive(Clone, Copy)]
 pub(crate) struct Share {
     pub(crate) whole: u128,
@@ -14,7 +14,9 @@ fn plus(left: Share, right: Share, den: u128) -> Option<Share>
     requires right { right.rest < den }
     requires room { den ≤ 2 ^ 127 }
     ensures below { IfSome result (λ s. s.rest < den) }
-    ensures sum { IfSome result (λ s. s.whole * den + s.rest ≡ (left.whole * den + left.rest) + (right.whole * den + right.rest)) }
+    ensures sum { IfSome result
+        (λ s. s.whole * den + s.rest ≡ (left.whole * den + left.rest)
+        + (right.whole * den + right.rest)) }
 {
     let whole = left.whole.checked_add(right.whole)?;
     let rest = left.rest + right.rest;
@@ -48,7 +50,7 @@ fn by_digits(factor: u128, rest: u128, den: u128) -> Option<Share>
     Some(sum)
 }
 
-/// So many times `rest` over `den`. None where the whole part is out of range.
+/// So many times `rest` over `den`. `None` if the whole part is out of range.
 pub(crate) fn multiple(factor: u128, rest: u128, den: u128) -> Option<Share>
     requires below { rest < den }
     requires room { den ≤ 2 ^ 127 }

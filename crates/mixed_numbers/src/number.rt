@@ -3,7 +3,8 @@ ghost use Rattle.std.specs.Prelude.{◌≡◌, ◌<◌, ◌≤ℤ◌, ◌<ℤ◌
 
 use crate::multiples::multiple;
 
-/// A whole number and `rest` over `den`, a fraction of at least 0 and below 1. It need not be in lowest terms.
+/// A whole number and `rest` over `den`, a fraction of at least 0 and below 1. It need not be in
+/// lowest terms.
 #[derive(Clone, Copy, Debug)]
 pub struct Mixed {
     pub(crate) whole: i128,
@@ -12,7 +13,7 @@ pub struct Mixed {
     ghost below: { rest < den },
 }
 
-/// The quotient that leaves over at least 0, and what it leaves over.
+/// The quotient whose remainder is at least 0, and this remainder.
 fn divided(num: i128, den: i128) -> (i128, u128)
     requires { pos 1 ≤ℤ den }
     ensures below { pos result.1 <ℤ den }
@@ -21,7 +22,7 @@ fn divided(num: i128, den: i128) -> (i128, u128)
     (num.div_euclid(den), num.rem_euclid(den) as u128)
 }
 
-/// The base, the product, and as much again.
+/// The base, the product and `more`, added.
 fn whole_sum(base: i128, factor: i128, quotient: i128, more: u128) -> Option<i128>
     ensures { IfSome result (λ w. w ≡ (factor *ℤ quotient +ℤ pos more) +ℤ base) }
 {
@@ -36,7 +37,7 @@ fn whole_sum(base: i128, factor: i128, quotient: i128, more: u128) -> Option<i12
 impl Mixed {
     ghost use Rattle.mixed_numbers.specs.Number.{numerator, denominator};
 
-    /// num / den, where den is at least 1.
+    /// num / den; den is at least 1.
     pub fn of(num: i128, den: i128) -> Mixed
         requires { pos 1 ≤ℤ den }
         ensures numerator { numerator result ≡ num }
@@ -50,16 +51,17 @@ impl Mixed {
         }
     }
 
-    /// The whole part: the greatest whole number that is no more.
+    /// The whole part: the greatest whole number that is at most the number.
     pub fn floor(&self) -> i128
         ensures low { (result *ℤ denominator self.now) ≤ℤ numerator self.now }
-        ensures high { numerator self.now <ℤ (result *ℤ denominator self.now +ℤ denominator self.now) }
+        ensures high { numerator self.now <ℤ
+            (result *ℤ denominator self.now +ℤ denominator self.now) }
     {
         self.whole
     }
 
-    /// `base` and `factor` times num / den, where den is at least 1 and `factor` at least 0. None where the whole part, or a product
-    /// for it, is out of range.
+    /// `base` plus `factor` times num / den; den is at least 1 and `factor` at least 0. `None` if
+    /// the whole part, or a product for it, is out of range.
     pub fn of_sum(base: i128, factor: i128, num: i128, den: i128) -> Option<Mixed>
         requires positive { pos 1 ≤ℤ den }
         requires not_negative { pos 0 ≤ℤ factor }

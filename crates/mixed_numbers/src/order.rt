@@ -6,7 +6,7 @@ use crate::number::Mixed;
 use frac128::compare_fractions;
 use std::cmp::Ordering;
 
-/// Whole parts first, and where they are the same, what is left over.
+/// Compares the whole parts and, if they are equal, the fractions.
 fn compare(left: &Mixed, right: &Mixed) -> Ordering
     ensures { result ≡ mixed_cmp left.now right.now }
 {
@@ -20,7 +20,7 @@ impl Mixed {
     ghost use Rattle.std.specs.Prelude.{◌↔◌, ◌≤ℤ◌, ◌*ℤ◌, pos, IsTrue};
     ghost use Rattle.mixed_numbers.specs.Number.{numerator, denominator};
 
-    /// Whether it is at least num / den, where den is at least 1.
+    /// Whether it is at least num / den; den is at least 1.
     pub fn is_at_least(&self, num: i128, den: i128) -> bool
         requires { pos 1 ≤ℤ den }
         ensures { IsTrue result ↔ ((num *ℤ denominator self.now) ≤ℤ (numerator self.now *ℤ den)) }
@@ -64,7 +64,7 @@ impl Ord for Mixed {
 
     ghost matches_eq = { λ x y. refl };
 
-    /// Compares the two numbers. No product of theirs has to be in range.
+    /// Compares the two numbers. Their cross products need not be in range.
     fn cmp(&self, other: &Mixed) -> Ordering {
         compare(self, other)
     }
@@ -78,7 +78,8 @@ impl PartialOrd for Mixed {
 
     ghost partial_cmp = { λ x y. Some (mixed_cmp x y) };
 
-    ghost laws = { partial_order_from_agreeing_total mixed_cmp mixed_cmp_total (λ x y. refl) (λ x y. refl) };
+    ghost laws = { partial_order_from_agreeing_total mixed_cmp mixed_cmp_total (λ x y. refl)
+        (λ x y. refl) };
 
     fn partial_cmp(&self, other: &Mixed) -> Option<Ordering> {
         Some(compare(self, other))

@@ -11,13 +11,18 @@ use Rattle.studio_rules.specs.declared.status.Status.TheVariants.{BadClaim}
 use Rattle.endings.proofs.Ending.{only_or_memory_in, one_line}
 use Rattle.studio_rules.specs.Network.{IsRefusedFor, ClaimRefusal}
 
-pub refused_for : (p : Problem) (claim : Claim) (why : Why) → ClaimFails false p claim why → IsRefusedFor p claim why
+pub refused_for : (p : Problem) (claim : Claim) (why : Why) → ClaimFails false p claim why
+    → IsRefusedFor p claim why
 refused_for p (network w) why h = h
 refused_for p infeasible why h = absurd h
 refused_for p unknown why (inl h) = h.0
 refused_for p unknown why (inr h) = absurd h.1
 
 -- the line that says so is printed, or the word `memory`
-pub refusal_told : (p : Problem) (claim : Claim) (why : Why) → IsRefusedFor p claim why → (s : Status) (t : List ℕ) → OrMemory (Only BadClaim (line (claim_line why))) s t → Tells (ClaimRefusal p claim) s t
+pub refusal_told : (p : Problem) (claim : Claim) (why : Why) → IsRefusedFor p claim why
+    → (s : Status) (t : List ℕ) → OrMemory (Only BadClaim (line (claim_line why))) s t
+    → Tells (ClaimRefusal p claim) s t
 refusal_told p claim why h =
-    only_or_memory_in (Tells (ClaimRefusal p claim)) BadClaim (line (claim_line why)) (claim_line why ∷ [], (refl, (why, h, refl)), one_line (claim_line why)) ([], inl refl, refl)
+    only_or_memory_in (Tells (ClaimRefusal p claim)) BadClaim (line (claim_line why))
+    (claim_line why ∷ [], (refl, (why, h, refl)), one_line (claim_line why))
+    ([], inl refl, refl)

@@ -4,22 +4,27 @@ use Rattle.std.specs.Prelude.{if◌then◌else◌}
 use Rattle.csv.specs.Writing.{default_writer, row_text, row_body, is_blank, quote_mark}
 use Rattle.problem_rules.specs.Problem.{Problem}
 use Rattle.tree_rules.specs.Claim.{Network}
-use Rattle.report_rules.specs.Table.{AreUnitRows, AreMaterialRows, unit_heading, material_heading, records_text}
+use Rattle.report_rules.specs.Table.{AreUnitRows, AreMaterialRows, unit_heading, material_heading}
+use Rattle.report_rules.specs.Table.{records_text}
 use Rattle.studio_rules.specs.Lines.{line, text_of}
 use Rattle.studio_rules.specs.Table.{AreTables}
 
 -- a record without its line feed
 abbrev record_line : List (List ℕ) → List ℕ
-record_line fields = row_body default_writer fields ++ (if is_blank default_writer fields then quote_mark ∷ quote_mark ∷ [] else [])
+record_line fields = row_body default_writer fields
+    ++ (if is_blank default_writer fields then quote_mark ∷ quote_mark ∷ [] else [])
 
 line_is : (fields : List (List ℕ)) → line (record_line fields) ≡ row_text default_writer fields
-line_is fields = append_assoc (row_body default_writer fields) (if is_blank default_writer fields then quote_mark ∷ quote_mark ∷ [] else []) (10 ∷ [])
+line_is fields =
+    append_assoc (row_body default_writer fields)
+    (if is_blank default_writer fields then quote_mark ∷ quote_mark ∷ [] else []) (10 ∷ [])
 
 map-append : {X Y : Type 0} (f : X → Y) (xs ys : List X) → map f (xs ++ ys) ≡ map f xs ++ map f ys
 map-append f [] ys = refl
 map-append f (x ∷ xs) ys = ap (λ zs. f x ∷ zs) (map-append f xs ys)
 
-lines_are : (rows : List (List (List ℕ))) → map line (map record_line rows) ≡ map (row_text default_writer) rows
+lines_are : (rows : List (List (List ℕ)))
+    → map line (map record_line rows) ≡ map (row_text default_writer) rows
 lines_are [] = refl
 lines_are (row ∷ rows) = λ i. line_is row i ∷ lines_are rows i
 
@@ -29,10 +34,13 @@ text_is (row ∷ rows) = λ i. line_is row i ++ text_is rows i
 
 text-append : (xs ys : List (List ℕ)) → text_of (xs ++ ys) ≡ text_of xs ++ text_of ys
 text-append [] ys = refl
-text-append (x ∷ xs) ys = ap (λ t. line x ++ t) (text-append xs ys) ∙ sym (append_assoc (line x) (text_of xs) (text_of ys))
+text-append (x ∷ xs) ys = ap (λ t. line x ++ t) (text-append xs ys)
+    ∙ sym (append_assoc (line x) (text_of xs) (text_of ys))
 
-pub tables_told : (p : Problem) (w : Network) (units materials : List (List (List ℕ))) → AreUnitRows p w units → AreMaterialRows p w materials
-    → (bytes : List ℕ) → bytes ≡ (records_text (unit_heading ∷ units) ++ 10 ∷ []) ++ records_text (material_heading ∷ materials)
+pub tables_told : (p : Problem) (w : Network) (units materials : List (List (List ℕ)))
+    → AreUnitRows p w units → AreMaterialRows p w materials
+    → (bytes : List ℕ) → bytes ≡ (records_text (unit_heading ∷ units) ++ 10 ∷ [])
+    ++ records_text (material_heading ∷ materials)
     → (lines : List (List ℕ)) × AreTables p w lines × (bytes ≡ text_of lines)
 tables_told p w units materials us ms bytes e = (
   all,
@@ -41,9 +49,12 @@ tables_told p w units materials us ms bytes e = (
     materials = materials;
     unit_rows = us;
     material_rows = ms;
-    lines_are = map-append line above ([] ∷ below) ∙ (λ i. lines_are (unit_heading ∷ units) i ++ line [] ∷ lines_are (material_heading ∷ materials) i);
+    lines_are = map-append line above ([] ∷ below)
+        ∙ (λ i. lines_are (unit_heading ∷ units) i ++ line []
+        ∷ lines_are (material_heading ∷ materials) i);
   },
-  e ∙ append_assoc (records_text (unit_heading ∷ units)) (10 ∷ []) (records_text (material_heading ∷ materials)) ∙ sym text,
+  e ∙ append_assoc (records_text (unit_heading ∷ units)) (10 ∷ [])
+      (records_text (material_heading ∷ materials)) ∙ sym text,
 )
   where
     above : List (List ℕ)
@@ -55,5 +66,7 @@ tables_told p w units materials us ms bytes e = (
     all : List (List ℕ)
     all = above ++ [] ∷ below
 
-    text : text_of all ≡ records_text (unit_heading ∷ units) ++ 10 ∷ records_text (material_heading ∷ materials)
-    text = text-append above ([] ∷ below) ∙ (λ i. text_is (unit_heading ∷ units) i ++ 10 ∷ text_is (material_heading ∷ materials) i)
+    text : text_of all ≡ records_text (unit_heading ∷ units) ++ 10
+        ∷ records_text (material_heading ∷ materials)
+    text = text-append above ([] ∷ below)
+        ∙ (λ i. text_is (unit_heading ∷ units) i ++ 10 ∷ text_is (material_heading ∷ materials) i)

@@ -40,7 +40,8 @@ pub fn say_refused<K: Sink, E: Sink>(alloc: Global, out: &mut Outputs<K, E>, why
 
 // The same if the tree says that no network meets the bounds.
 fn say_none<K: Sink, E: Sink>(alloc: Global, out: &mut Outputs<K, E>) -> Status
-    ensures { Ends (OrMemory (Only BadClaim (line (claim_line Why.Unknown)))) out.old out.new result }
+    ensures { Ends (OrMemory (Only BadClaim (line (claim_line Why.Unknown)))) out.old out.new
+        result }
 {
     say_why(alloc, out, Why::Unknown, &no_network(alloc))
 }
@@ -55,7 +56,8 @@ pub fn network_of<K: Sink, E: Sink>(
 ) -> Result<Network, Status>
     ensures network { IfOk result (ClaimsNetwork site.now (claim_of claim)) }
     ensures silent { OnOk result (out.new ≡ out.old) }
-    ensures told { IfErr result (Ends (Tells (ClaimRefusal site.now (claim_of claim))) out.old out.new) }
+    ensures told { IfErr result
+        (Ends (Tells (ClaimRefusal site.now (claim_of claim))) out.old out.new) }
 {
     match check_claim(site, &claim) {
         Ok(()) => match claim {

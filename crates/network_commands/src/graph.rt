@@ -1,5 +1,6 @@
 //! The command `graph`.
-ghost use Rattle.std.specs.Prelude.{◌≡◌, ℕ, List, Some, None, IfOk, IfSome, option_map, true, length};
+ghost use Rattle.std.specs.Prelude.{◌≡◌, ℕ, List, Some, None, IfOk, IfSome, option_map, true};
+ghost use Rattle.std.specs.Prelude.{length};
 ghost use Rattle.number_sets.specs.Sets.{has};
 ghost use Rattle.tree_rules.specs.Claim.{IsFeasible};
 ghost use Rattle.studio_rules.specs.Lines.{text_of};
@@ -26,7 +27,9 @@ use unit_sets::UnitSet;
 /// The graph of the maximal structure, with the network in it if one is given.
 fn drawn(alloc: Global, site: &Site<'_>, network: Option<&Network>) -> Result<Vec<u8>, AllocError>
     requires feasible { IfSome network (λ n. IsFeasible site.now n.now) }
-    ensures { IfOk result (λ bytes. (lines : List (List ℕ)) × AreGraphLines site.now (option_map (λ n. n.now) network.entry) lines × (bytes.items ≡ text_of lines)) }
+    ensures { IfOk result (λ bytes. (lines : List (List ℕ))
+        × AreGraphLines site.now (option_map (λ n. n.now) network.entry) lines
+        × (bytes.items ≡ text_of lines)) }
 {
     match maximal(site.graph(), UnitSet::empty()) {
         Some(units) => graph_of(alloc, site, network, units),
@@ -41,7 +44,8 @@ pub(crate) fn network_graph(
     network: &Network,
 ) -> Result<Vec<u8>, AllocError>
     requires feasible { IsFeasible site.now network.now }
-    ensures { IfOk result (λ bytes. (lines : List (List ℕ)) × AreGraphLines site.now (Some network.now) lines × (bytes.items ≡ text_of lines)) }
+    ensures { IfOk result (λ bytes. (lines : List (List ℕ))
+        × AreGraphLines site.now (Some network.now) lines × (bytes.items ≡ text_of lines)) }
 {
     drawn(alloc, site, Some(network))
 }
@@ -66,7 +70,8 @@ pub fn plant_graph<F: Shelf, K: Sink, E: Sink>(
     shelf: &mut F,
     out: &mut Outputs<K, E>,
 ) -> Status
-    ensures ends { Ends (FileSays PlantGraphWork file.now (F.state shelf.old) (F.state shelf.new)) out.old out.new result }
+    ensures ends { Ends (FileSays PlantGraphWork file.now (F.state shelf.old) (F.state shelf.new))
+        out.old out.new result }
     ensures keeps { Keeps (F.state shelf.old) (F.state shelf.new) }
 {
     match problem_of(alloc, shelf, out, file) {
@@ -83,7 +88,9 @@ pub fn graph<F: Shelf, K: Sink, E: Sink>(
     shelf: &mut F,
     out: &mut Outputs<K, E>,
 ) -> Status
-    ensures ends { Ends (TwoFilesSay (OnTree (OnNetwork NetworkGraphWork)) file.now tree.now (F.state shelf.old) (F.state shelf.new)) out.old out.new result }
+    ensures ends { Ends
+        (TwoFilesSay (OnTree (OnNetwork NetworkGraphWork)) file.now tree.now (F.state shelf.old)
+        (F.state shelf.new)) out.old out.new result }
     ensures keeps { Keeps (F.state shelf.old) (F.state shelf.new) }
 {
     say_of_network(alloc, NetworkText::Graph, file, tree, shelf, out)

@@ -40,7 +40,8 @@ fn text_of(
     network: &Network,
 ) -> Result<Vec<u8>, AllocError>
     requires feasible { IsFeasible site.now network.now }
-    ensures { IfOk result (λ bytes. (lines : List (List ℕ)) × TextWork what site.now network.now Done lines × (bytes.items ≡ text_of lines)) }
+    ensures { IfOk result (λ bytes. (lines : List (List ℕ))
+        × TextWork what site.now network.now Done lines × (bytes.items ≡ text_of lines)) }
 {
     match what {
         NetworkText::Table => tables(alloc, site, network),
@@ -72,7 +73,9 @@ fn say_claimed<K: Sink, E: Sink>(
     claim: Claim,
     tree: &Tree,
 ) -> Status
-    ensures { Ends (Tells (OnNetwork (TextWork what) problem.now (claim_of claim) tree.now)) out.old out.new result }
+    ensures { Ends (Tells (OnNetwork (TextWork what) problem.now (claim_of claim) tree.now))
+        out.old
+        out.new result }
 {
     let Ok(graph) = Graph::of(alloc, problem) else {
         return say_memory(out);
@@ -92,7 +95,10 @@ fn say_tree<F: Shelf, K: Sink, E: Sink>(
     shelf: &mut F,
     out: &mut Outputs<K, E>,
 ) -> Status
-    ensures ends { Ends (Says (OnTree (OnNetwork (TextWork what)) (F.state shelf.old).held name.now problem.now) (λ other. other ≡ name.now) (F.state shelf.old) (F.state shelf.new)) out.old out.new result }
+    ensures ends { Ends
+        (Says (OnTree (OnNetwork (TextWork what)) (F.state shelf.old).held name.now problem.now)
+        (λ other. other ≡ name.now) (F.state shelf.old) (F.state shelf.new)) out.old out.new
+        result }
     ensures keeps { Keeps (F.state shelf.old) (F.state shelf.new) }
 {
     match tree_of(alloc, shelf, out, name, problem) {
@@ -111,7 +117,9 @@ pub(crate) fn say_of_network<F: Shelf, K: Sink, E: Sink>(
     shelf: &mut F,
     out: &mut Outputs<K, E>,
 ) -> Status
-    ensures ends { Ends (TwoFilesSay (OnTree (OnNetwork (TextWork what))) file.now tree.now (F.state shelf.old) (F.state shelf.new)) out.old out.new result }
+    ensures ends { Ends
+        (TwoFilesSay (OnTree (OnNetwork (TextWork what))) file.now tree.now (F.state shelf.old)
+        (F.state shelf.new)) out.old out.new result }
     ensures keeps { Keeps (F.state shelf.old) (F.state shelf.new) }
 {
     match problem_of(alloc, shelf, out, file) {

@@ -24,7 +24,8 @@ pub(crate) fn tables(
     network: &Network,
 ) -> Result<Vec<u8>, AllocError>
     requires feasible { IsFeasible site.now network.now }
-    ensures { IfOk result (λ bytes. (lines : List (List ℕ)) × AreTables site.now network.now lines × (bytes.items ≡ text_of lines)) }
+    ensures { IfOk result (λ bytes. (lines : List (List ℕ)) × AreTables site.now network.now lines
+        × (bytes.items ≡ text_of lines)) }
 {
     network.is_sized();
     let mut bytes = unit_table(alloc, site.problem(), network)?;
@@ -43,7 +44,9 @@ pub fn table<F: Shelf, K: Sink, E: Sink>(
     shelf: &mut F,
     out: &mut Outputs<K, E>,
 ) -> Status
-    ensures ends { Ends (TwoFilesSay (OnTree (OnNetwork TableWork)) file.now tree.now (F.state shelf.old) (F.state shelf.new)) out.old out.new result }
+    ensures ends { Ends
+        (TwoFilesSay (OnTree (OnNetwork TableWork)) file.now tree.now (F.state shelf.old)
+        (F.state shelf.new)) out.old out.new result }
     ensures keeps { Keeps (F.state shelf.old) (F.state shelf.new) }
 {
     say_of_network(alloc, NetworkText::Table, file, tree, shelf, out)

@@ -4,7 +4,9 @@ ghost use Rattle.tree_rules.specs.Claim as claims;
 ghost use Rattle.tree_rules.specs.Claim.{ClaimPasses};
 ghost use Rattle.branch_tree.specs.View.{claim_of};
 ghost use Rattle.studio_rules.specs.Lines.{text_of};
-ghost use Rattle.studio_rules.specs.Report.{proved_line, unfinished_line, failing_line, first_line, tables_of, verdict_lines};
+ghost use Rattle.studio_rules.specs.Report.{proved_line, unfinished_line, failing_line};
+ghost use Rattle.studio_rules.specs.Report.{first_line};
+ghost use Rattle.studio_rules.specs.Report.{tables_of, verdict_lines};
 
 use branch_tree::{Claim, Network};
 use pgraph::Site;
@@ -16,7 +18,9 @@ use std::alloc::{AllocError, Global};
 use tree_rules::Why;
 
 fn push_least(text: &mut String, problem: &Problem, network: &Network) -> Result<(), AllocError>
-    ensures { OnOk result (string_bytes text.new ≡ string_bytes text.old ++ proved_line problem.now (claims.network network.now)) }
+    ensures { OnOk result
+        (string_bytes text.new ≡ string_bytes text.old
+        ++ proved_line problem.now (claims.network network.now)) }
 {
     text.push_str("PROVED: this network costs ")?;
     push_total(text, problem, network)?;
@@ -25,7 +29,9 @@ fn push_least(text: &mut String, problem: &Problem, network: &Network) -> Result
 }
 
 fn push_proved(text: &mut String, problem: &Problem, claim: &Claim) -> Result<(), AllocError>
-    ensures { OnOk result (string_bytes text.new ≡ string_bytes text.old ++ proved_line problem.now (claim_of claim.now)) }
+    ensures { OnOk result
+        (string_bytes text.new ≡ string_bytes text.old
+        ++ proved_line problem.now (claim_of claim.now)) }
 {
     match claim {
         Claim::Network(network) => push_least(text, problem, network),
@@ -34,7 +40,9 @@ fn push_proved(text: &mut String, problem: &Problem, claim: &Claim) -> Result<()
 }
 
 fn push_best(text: &mut String, problem: &Problem, network: &Network) -> Result<(), AllocError>
-    ensures { OnOk result (string_bytes text.new ≡ string_bytes text.old ++ unfinished_line problem.now (claims.network network.now)) }
+    ensures { OnOk result
+        (string_bytes text.new ≡ string_bytes text.old
+        ++ unfinished_line problem.now (claims.network network.now)) }
 {
     text.push_str("NOT FINISHED: best so far ")?;
     push_total(text, problem, network)?;
@@ -42,13 +50,17 @@ fn push_best(text: &mut String, problem: &Problem, network: &Network) -> Result<
 }
 
 fn push_none_found(text: &mut String, problem: &Problem) -> Result<(), AllocError>
-    ensures { OnOk result (string_bytes text.new ≡ string_bytes text.old ++ unfinished_line problem.now claims.unknown) }
+    ensures { OnOk result
+        (string_bytes text.new ≡ string_bytes text.old
+        ++ unfinished_line problem.now claims.unknown) }
 {
     text.push_str("NOT FINISHED: no network found so far")
 }
 
 fn push_unfinished(text: &mut String, problem: &Problem, claim: &Claim) -> Result<(), AllocError>
-    ensures { OnOk result (string_bytes text.new ≡ string_bytes text.old ++ unfinished_line problem.now (claim_of claim.now)) }
+    ensures { OnOk result
+        (string_bytes text.new ≡ string_bytes text.old
+        ++ unfinished_line problem.now (claim_of claim.now)) }
 {
     match claim {
         Claim::Network(network) => push_best(text, problem, network),
@@ -73,7 +85,9 @@ fn push_first(
     claim: &Claim,
     verdict: Verdict,
 ) -> Result<(), AllocError>
-    ensures { OnOk result (string_bytes text.new ≡ string_bytes text.old ++ first_line problem.now (claim_of claim.now) verdict) }
+    ensures { OnOk result
+        (string_bytes text.new ≡ string_bytes text.old
+        ++ first_line problem.now (claim_of claim.now) verdict) }
 {
     match verdict {
         Verdict::Proved => push_proved(text, problem, claim),
@@ -89,7 +103,8 @@ fn first_text(
     claim: &Claim,
     verdict: Verdict,
 ) -> Result<Vec<u8>, AllocError>
-    ensures { IfOk result (λ bytes. bytes.items ≡ first_line problem.now (claim_of claim.now) verdict ++ 10 ∷ []) }
+    ensures { IfOk result
+        (λ bytes. bytes.items ≡ first_line problem.now (claim_of claim.now) verdict ++ 10 ∷ []) }
 {
     let mut text = String::new(alloc);
     push_first(&mut text, problem, claim, verdict)?;
@@ -100,7 +115,8 @@ fn first_text(
 /// The tables of the network, if one is claimed.
 fn tables_of(alloc: Global, site: &Site<'_>, claim: &Claim) -> Result<Vec<u8>, AllocError>
     requires passes { ClaimPasses true site.now (claim_of claim.now) }
-    ensures { IfOk result (λ bytes. bytes.items ≡ text_of (tables_of site.now (claim_of claim.now))) }
+    ensures { IfOk result
+        (λ bytes. bytes.items ≡ text_of (tables_of site.now (claim_of claim.now))) }
 {
     match claim {
         Claim::Network(network) => report_of(alloc, site, network),
@@ -116,7 +132,8 @@ pub fn verdict_text(
     verdict: Verdict,
 ) -> Result<Vec<u8>, AllocError>
     requires passes { ClaimPasses true site.now (claim_of claim.now) }
-    ensures { IfOk result (λ bytes. bytes.items ≡ text_of (verdict_lines site.now (claim_of claim.now) verdict)) }
+    ensures { IfOk result
+        (λ bytes. bytes.items ≡ text_of (verdict_lines site.now (claim_of claim.now) verdict)) }
 {
     let mut bytes = first_text(alloc, site.problem(), claim, verdict)?;
     let tables = tables_of(alloc, site, claim)?;

@@ -1,4 +1,4 @@
--- The makers of each material, of which some units are taken out.
+-- The makers of each material, with some units taken out.
 use Rattle.std.specs.Prelude.{◌≡◌, ℕ, not, List, [], length, take, slice_index_or, ◌++◌}
 use Rattle.std.specs.List.{prefix_len}
 use Rattle.number_sets.specs.Sets.{has, kept, minus, IsSet}
@@ -9,7 +9,7 @@ pub record Candidates : Type 0 where
   pub makers : List (List ℕ)
   pub taken : List ℕ
 
--- the makers of x, none where there is no such material
+-- the makers of x; none if there is no such material
 abbrev pub makers_at : List (List ℕ) → ℕ → List ℕ
 makers_at mk x = slice_index_or mk x []
 
@@ -27,11 +27,11 @@ pub record AreMakersOf (g : Shape) (mk : List (List ℕ)) : Type 0 where
 abbrev pub front_within : List ℕ → List ℕ → List ℕ
 front_within set us = take (prefix_len (has set) us) us
 
--- that front, and behind it what else is in the set
+-- that front, and then what else is in the set
 abbrev pub led : List ℕ → List ℕ → List ℕ
 led set us = front_within set us ++ minus set (front_within set us)
 
--- the one list begins the other
+-- the one list is the front of the other
 pub record IsFront (front all : List ℕ) : Type 0 where
   pub rest : List ℕ
   pub is : all ≡ front ++ rest

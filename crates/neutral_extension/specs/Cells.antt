@@ -1,6 +1,7 @@
--- How memory holds the makers, which the invariant of `Makers` cites: the maker u of the material x has the cell 128 x + u in
--- the list x.
-use Rattle.std.specs.Prelude.{◌≡◌, ℕ, zero, suc, ◌+◌, ◌-◌, ◌*◌, ◌<◌, ◌≤◌, Bool, true, cond, not, ◌&&◌, nat_lt, List, [], ◌∷◌, ◌++◌, length, map, take}
+-- How memory keeps the makers, which the invariant of `Makers` cites: the maker u of the material x
+-- has the cell 128 x + u in the list x.
+use Rattle.std.specs.Prelude.{◌≡◌, ℕ, zero, suc, ◌+◌, ◌-◌, ◌*◌, ◌<◌, ◌≤◌, Bool, true, cond, not}
+use Rattle.std.specs.Prelude.{◌&&◌, nat_lt, List, [], ◌∷◌, ◌++◌, length, map, take}
 use Rattle.number_sets.specs.Sets.{has, IsSet}
 use Rattle.pns_rules.specs.Shape.{Shape}
 use Rattle.link_lists.specs.Lists.{Vacancy, Rows, row, filled, unlinked, IsListed, IsOnce, AreApart}
@@ -48,7 +49,8 @@ abbrev pub out_units : List (List ℕ) → Rows → List ℕ → Rows
 out_units mk r [] = r
 out_units mk r (u ∷ us) = out_units mk (out_cells r (unit_cells (makes_in mk) u (length mk))) us
 
--- the lists are those of the makers without the units taken out, which can be put back in turn
+-- the lists are those of the makers without the units taken out, which can be put back one after
+-- another
 pub record IsKept (r : Rows) (mk : List (List ℕ)) (ts : List ℕ) : Type 0 where
   pub is : r ≡ out_units mk (full_rows mk) ts
   pub few : length mk ≤ 256
@@ -76,11 +78,12 @@ pub record IsFilled (old new : Rows) (x : ℕ) (us : List ℕ) : Type 0 where
   pub here : row new.lists x ≡ map (cell_at x) us
   pub others : (y : ℕ) → (y ≡ x → ⊥) → row new.lists y ≡ row old.lists y
 
--- r is what comes of `before` when the unit's cells leave, each of which was in its list
+-- r is what is left of `before` when the unit's cells leave, each of which was in its list
 pub record IsOut (makes : ℕ → ℕ → Bool) (u n : ℕ) (before r : Rows) : Type 0 where
   pub is : r ≡ out_cells before (unit_cells makes u n)
   pub apart : AreApart before.lists
-  pub listed : (x : ℕ) → x < n → makes u x ≡ true → IsListed (out_cells before (unit_cells makes u x)).lists (cell_at x u)
+  pub listed : (x : ℕ) → x < n → makes u x ≡ true
+      → IsListed (out_cells before (unit_cells makes u x)).lists (cell_at x u)
 
 -- the same over the materials of a plant
 abbrev pub IsUnitOut : Shape → ℕ → Rows → Rows → Type 0

@@ -1,5 +1,5 @@
--- What one turn of an extension answers, and what the whole of it does (neutral extension of Friedler, Tarjan, Huang and
--- Fan 1996).
+-- What one turn of an extension answers, and what the whole of it does (neutral extension of
+-- Friedler, Tarjan, Huang and Fan 1996).
 use Rattle.std.specs.Prelude.{ℕ, List, ◌↔◌, Bool}
 use Rattle.number_sets.specs.Sets.{IsSet}
 use Rattle.problem_rules.specs.Each.{Each}
@@ -20,7 +20,7 @@ stop_of (Dead x) = ends.dead x
 stop_of (Clash k) = ends.clash k
 stop_of (Branch x) = ends.branch x
 
--- a step that comes next, or the end that holds
+-- the step that is next, or the end that is reached
 abbrev pub IsMove : Shape → rules.Node → Move → Type 0
 IsMove g d (Take s) = IsNextStep g d (step_of s)
 IsMove g d (End e) = EndsAt g d (stop_of e)
@@ -37,10 +37,13 @@ abbrev pub IsListedMove : Shape → Move → Type 0
 IsListedMove g (Take s) = HasSet g (step_of s)
 IsListedMove g (End e) = Unit {0}
 
--- the steps, each next in turn, lead from d to e, which is sound, has the same family, and is where the rules end
-pub record Extends (g : Shape) (d : rules.Node) (steps : List rules.Step) (e : rules.Node) (stop : ends.Stop) : Type 0 where
+-- The steps lead from d to e, each being the next step at its node. The node e is sound, has the
+-- same family, and is one at which the extension ends so.
+pub record Extends (g : Shape) (d : rules.Node) (steps : List rules.Step) (e : rules.Node)
+    (stop : ends.Stop) : Type 0 where
   pub leads : Leads g d steps e
   pub sound : IsSound g e
-  pub same_family : (o : ℕ → Bool) → InFamily g d.inside d.outside o ↔ InFamily g e.inside e.outside o
+  pub same_family : (o : ℕ → Bool) → InFamily g d.inside d.outside o
+      ↔ InFamily g e.inside e.outside o
   pub ends : EndsAt g e stop
   pub sets : Each (HasSet g) steps

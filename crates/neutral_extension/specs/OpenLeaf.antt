@@ -1,5 +1,7 @@
--- What is kept of a node while it is extended, so that each step looks only at what the last one changed.
-use Rattle.std.specs.Prelude.{◌≡◌, ℕ, ◌<◌, Bool, true, false, not, ◌&&◌, List, [], ◌∷◌, nat_lt, ◌↔◌, MatchOption}
+-- What is kept of a node while it is extended, so that each step looks only at what the last one
+-- changed.
+use Rattle.std.specs.Prelude.{◌≡◌, ℕ, ◌<◌, Bool, true, false, not, ◌&&◌, List, [], ◌∷◌, nat_lt, ◌↔◌}
+use Rattle.std.specs.Prelude.{MatchOption}
 use Rattle.number_sets.specs.Sets.{has}
 use Rattle.pns_rules.specs.Shape.{Shape}
 use Rattle.pns_rules.specs.Structure.{is_made, is_used, is_needed, Clashes, HasPath}
@@ -33,11 +35,12 @@ abbrev pub is_single : List ℕ → Bool
 is_single [] = false
 is_single (x ∷ xs) = is_empty xs
 
--- the list tells the test, but for some numbers
+-- the list has what passes the test, except for some numbers
 abbrev pub IsTold : (ℕ → Bool) → (ℕ → Bool) → List ℕ → Type 0
 IsTold but test xs = (x : ℕ) → but x ≡ false → has xs x ≡ test x
 
--- the materials below n of which no maker is left, and those of which one is, but for some
+-- the materials below n of which no maker is left, and those of which one is left, except for some
+-- materials
 pub record IsCounted (k : Candidates) (n : ℕ) (but : ℕ → Bool) (s : Scarce) : Type 0 where
   pub unmade : IsTold but (λ x. nat_lt x n && is_empty (left k x)) s.unmade
   pub single : IsTold but (λ x. nat_lt x n && is_single (left k x)) s.single
@@ -54,13 +57,15 @@ pub record IsOnlyMaker (g : Shape) (d : Node) (x u : ℕ) : Type 0 where
 -- what is kept is so at the node
 pub record Stands (g : Shape) (s : OpenLeaf) : Type 0 where
   pub intake : IsIntake g (has s.node.inside) s.intake
-  pub unmade : (x : ℕ) → has s.scarce.unmade x ≡ (nat_lt x g.materials && not (is_made g (remaining g (node_of s.node)) x))
-  pub single : (x : ℕ) → (has s.scarce.single x ≡ true) ↔ ((u : ℕ) × IsOnlyMaker g (node_of s.node) x u)
+  pub unmade : (x : ℕ) → has s.scarce.unmade x
+      ≡ (nat_lt x g.materials && not (is_made g (remaining g (node_of s.node)) x))
+  pub single : (x : ℕ) → (has s.scarce.single x ≡ true)
+      ↔ ((u : ℕ) × IsOnlyMaker g (node_of s.node) x u)
   pub used : has s.used ≡ is_used g (remaining g (node_of s.node))
   pub raw_makers : (u : ℕ) → (has s.raw_makers u ≡ true) ↔ MakesRaw g u
 
--- the makers are those of the graph, the units taken out of them are those that the node leaves out, and what is scarce was
--- counted over them
+-- the makers are those of the graph, the units taken out of them are those that the node leaves
+-- out, and what is scarce was counted over them
 pub record Follows (g : Shape) (k : Candidates) (s : OpenLeaf) : Type 0 where
   pub same : AreMakersOf g k.makers
   pub out : (u : ℕ) → has k.taken u ≡ has s.node.outside u

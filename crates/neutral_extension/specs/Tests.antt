@@ -1,4 +1,4 @@
--- Units of a node by what the steps ask of them.
+-- Units of a node by what the steps need of them.
 use Rattle.std.specs.Prelude.{◌≡◌, ℕ, Bool, true, false, ◌&&◌, ◌<◌, nat_lt, List}
 use Rattle.number_sets.specs.Sets.{has}
 use Rattle.pns_rules.specs.Shape.{Shape}
@@ -21,7 +21,8 @@ pub record IsLooseSet (g : Shape) (d : Node) (w : List ℕ) : Type 0 where
 
 -- x is the least material with a sole step, and u is its unit
 abbrev pub IsLeastSole : Shape → Node → ℕ → ℕ → Type 0
-IsLeastSole g d x u = IsPossible g d (sole x u) × ((y v : ℕ) → y < x → IsPossible g d (sole y v) → ⊥)
+IsLeastSole g d x u = IsPossible g d (sole x u)
+    × ((y v : ℕ) → y < x → IsPossible g d (sole y v) → ⊥)
 
 abbrev pub HasNoSole : Shape → Node → Type 0
 HasNoSole g d = (x u : ℕ) → IsPossible g d (sole x u) → ⊥

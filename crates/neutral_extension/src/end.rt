@@ -1,12 +1,12 @@
-//! Where an extension ends, and what it gives.
+//! How an extension ends, and what it gives.
 
 use unit_sets::{Node, Step};
 
-/// Where an extension ends.
+/// How an extension ends.
 #[derive(Clone, Copy, Debug, PartialEq, Eq)]
 pub enum Stop {
-    /// No step is possible, and every maker of a needed material is taken in or left out: the units taken in are an allowed
-    /// solution structure, and no unit is free.
+    /// No step is possible, and every maker of a needed material is taken in or left out. The units
+    /// taken in are a clash-free solution structure, and no unit is free.
     Decided,
     /// The least needed material without a maker that is not left out.
     Dead(u32),
@@ -16,13 +16,13 @@ pub enum Stop {
     Branch(u32),
 }
 
-/// A node after the steps that come at it.
+/// A node after its steps.
 #[derive(Drop)]
 pub struct Extended {
     /// The node after all steps.
     pub node: Node,
     /// The steps in the order in which they were taken.
     pub steps: Vec<Step>,
-    /// Where no further step comes.
+    /// Why no further step comes.
     pub end: Stop,
 }

@@ -25,7 +25,9 @@ fn extend_from(
     requires sound { IsSound (shape graph.now) (node_of node) }
     requires same { AreMakersOf (shape graph.now) makers.old.makers }
     requires out { (u : ℕ) → has makers.old.taken u ≡ has node.outside u }
-    ensures extends { IfOk result (λ r. Extends (shape graph.now) (node_of node) (map step_of r.steps.items) (node_of r.node) (stop_of r.end)) }
+    ensures extends { IfOk result
+        (λ r. Extends (shape graph.now) (node_of node) (map step_of r.steps.items) (node_of r.node)
+        (stop_of r.end)) }
     ensures makers { makers.new.makers ≡ makers.old.makers }
     ensures front { IsFront makers.old.taken makers.new.taken }
 {
@@ -50,9 +52,10 @@ fn extend_from(
     }
 }
 
-/// Takes the steps that come at a sound node, each in its turn, until none comes. The makers are those of the graph, and the
-/// units taken out of them are those that the node leaves out. Afterwards they are as before, also after `Err`, which comes
-/// for want of memory alone. Each step looks again only at the materials of the units that it takes in or leaves out.
+/// Takes the steps of a sound node, each in its turn, until none is possible. The makers are those
+/// of the graph, and the units taken out of them are those that the node leaves out. Afterwards
+/// they are as before, also after `Err`, which comes only when memory runs out. Each step looks
+/// again only at the materials of the units that it takes in or leaves out.
 pub fn extend_with(
     alloc: Global,
     graph: &Graph,
@@ -62,7 +65,9 @@ pub fn extend_with(
     requires sound { IsSound (shape graph.now) (node_of node) }
     requires same { AreMakersOf (shape graph.now) makers.old.makers }
     requires out { (u : ℕ) → has makers.old.taken u ≡ has node.outside u }
-    ensures extends { IfOk result (λ r. Extends (shape graph.now) (node_of node) (map step_of r.steps.items) (node_of r.node) (stop_of r.end)) }
+    ensures extends { IfOk result
+        (λ r. Extends (shape graph.now) (node_of node) (map step_of r.steps.items) (node_of r.node)
+        (stop_of r.end)) }
     ensures restored { makers.new ≡ makers.old }
 {
     let before = makers.taken();
@@ -71,10 +76,13 @@ pub fn extend_with(
     result
 }
 
-/// Takes the steps that come at a sound node, each in its turn, until none comes. `Err` comes for want of memory alone.
+/// Takes the steps of a sound node, each in its turn, until none is possible. `Err` comes only when
+/// memory runs out.
 pub fn extend(alloc: Global, graph: &Graph, node: Node) -> Result<Extended, AllocError>
     requires { IsSound (shape graph.now) (node_of node) }
-    ensures { IfOk result (λ r. Extends (shape graph.now) (node_of node) (map step_of r.steps.items) (node_of r.node) (stop_of r.end)) }
+    ensures { IfOk result
+        (λ r. Extends (shape graph.now) (node_of node) (map step_of r.steps.items) (node_of r.node)
+        (stop_of r.end)) }
 {
     let mut makers = Makers::open(alloc, graph)?;
     take_out_all(&mut makers, graph, node.outside);

@@ -10,9 +10,9 @@ use pgraph::Graph;
 use unit_sets::UnitSet;
 
 impl Makers {
-    /// Makes the units of the set those that are taken out. Of those that are out it keeps the longest front that is in the set,
-    /// brings back the others, the last one first, and takes out what is missing, the least first. It takes no memory. The graph
-    /// is the one of `open`.
+    /// Makes the units of the set those that are taken out. Of those that are out it keeps the
+    /// longest front that is in the set. It brings back the others, the last one first, and takes
+    /// out what is missing, the least first. It takes no memory. The graph is the one of `open`.
     pub fn lead_to(&mut self, graph: &Graph, out: UnitSet)
         requires same { AreMakersOf (shape graph.now) self.old.makers }
         ensures makers { self.new.makers ≡ self.old.makers }

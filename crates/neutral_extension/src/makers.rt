@@ -1,11 +1,14 @@
-//! `Makers`: the makers of each material as linked lists, out of which units are taken and brought back.
-ghost use Rattle.std.specs.Prelude.{◌≡◌, ◌<◌, ◌≤◌, ◌+◌, ◌-◌, ◌*◌, ℕ, true, false, List, [], ◌∷◌, ◌++◌, length, take, IfOk};
+//! `Makers`: the makers of each material as linked lists, out of which units are taken and brought
+//! back.
+ghost use Rattle.std.specs.Prelude.{◌≡◌, ◌<◌, ◌≤◌, ◌+◌, ◌-◌, ◌*◌, ℕ, true, false, List, [], ◌∷◌};
+ghost use Rattle.std.specs.Prelude.{◌++◌, length, take, IfOk};
 ghost use Rattle.std.specs.List.{prefix_len};
 ghost use Rattle.number_sets.specs.Sets.{has, first, IsSet};
 ghost use Rattle.link_lists.specs.Lists.{Rows, row, IsListed};
 ghost use Rattle.pgraph.specs.Tables.{shape};
 ghost use Rattle.neutral_extension.specs.Candidates.{left, AreMakersOf};
-ghost use Rattle.neutral_extension.specs.Cells.{cell_at, unit_cells, out_cells, full_rows, AreInBands, AreFrom, IsFilled, IsUnitOut};
+ghost use Rattle.neutral_extension.specs.Cells.{cell_at, unit_cells, out_cells, full_rows};
+ghost use Rattle.neutral_extension.specs.Cells.{AreInBands, AreFrom, IsFilled, IsUnitOut};
 ghost use Rattle.neutral_extension.specs.OpenLeaf.{is_empty, is_single};
 
 use link_lists::Lists;
@@ -36,7 +39,7 @@ impl Model for Makers {
     ghost invariant = { λ s. IsOrdered s.lists (makers_of s.lists) s.order.items s.count };
 }
 
-/// The materials that the unit makes, none where there is no such unit.
+/// The materials that the unit makes; none if there is no such unit.
 fn outputs_of(graph: &Graph, u: u32) -> MatSet
     ensures { has result ≡ (shape graph.now).makes u }
 {
@@ -51,8 +54,11 @@ fn outputs_of(graph: &Graph, u: u32) -> MatSet
 /// Unlinks the cells of the unit, that of the least material first.
 fn unlink_cells(lists: &mut Lists, graph: &Graph, u: u32)
     requires unit { u < 128 }
-    requires listed { (x : ℕ) → x < (shape graph.now).materials → (shape graph.now).makes u x ≡ true → IsListed (out_cells lists.old (unit_cells (shape graph.now).makes u x)).lists (cell_at x u) }
-    ensures { lists.new ≡ out_cells lists.old (unit_cells (shape graph.now).makes u (shape graph.now).materials) }
+    requires listed { (x : ℕ) → x < (shape graph.now).materials → (shape graph.now).makes u x ≡ true
+        → IsListed (out_cells lists.old (unit_cells (shape graph.now).makes u x)).lists
+        (cell_at x u) }
+    ensures { lists.new ≡ out_cells lists.old
+        (unit_cells (shape graph.now).makes u (shape graph.now).materials) }
 {
     graph.is_proper();
     for x in outputs_of(graph, u) {
@@ -60,11 +66,15 @@ fn unlink_cells(lists: &mut Lists, graph: &Graph, u: u32)
     }
 }
 
-/// Relinks the cells of the unit at these outputs, that of the greatest material first. They were the last to be unlinked.
+/// Relinks the cells of the unit at these outputs, that of the greatest material first. They were
+/// the last to be unlinked.
 fn relink_from(lists: &mut Lists, graph: &Graph, u: u32, outputs: MatSet)
     requires unit { u < 128 }
-    requires out { (b : Rows) × (n : ℕ) × (n ≤ (shape graph.now).materials) × IsUnitOut (shape graph.now) u b lists.old × AreFrom (shape graph.now).makes u n outputs }
-    ensures { (b : Rows) (n : ℕ) → n ≤ (shape graph.now).materials → IsUnitOut (shape graph.now) u b lists.old → AreFrom (shape graph.now).makes u n outputs → lists.new ≡ out_cells b (unit_cells (shape graph.now).makes u n) }
+    requires out { (b : Rows) × (n : ℕ) × (n ≤ (shape graph.now).materials)
+        × IsUnitOut (shape graph.now) u b lists.old × AreFrom (shape graph.now).makes u n outputs }
+    ensures { (b : Rows) (n : ℕ) → n ≤ (shape graph.now).materials
+        → IsUnitOut (shape graph.now) u b lists.old → AreFrom (shape graph.now).makes u n outputs
+        → lists.new ≡ out_cells b (unit_cells (shape graph.now).makes u n) }
 {
     graph.is_proper();
     outputs.rises();
@@ -101,7 +111,8 @@ fn fill(lists: &mut Lists, x: u32, set: UnitSet)
 
 /// Lists of the makers of the graph's materials, each maker in the list of its material.
 fn full_lists(alloc: Global, graph: &Graph) -> Result<Lists, AllocError>
-    ensures { IfOk result (λ lists. (makers : List (List ℕ)) × AreMakersOf (shape graph.now) makers × (lists ≡ full_rows makers)) }
+    ensures { IfOk result (λ lists. (makers : List (List ℕ)) × AreMakersOf (shape graph.now) makers
+        × (lists ≡ full_rows makers)) }
 {
     graph.is_proper();
     let count = graph.material_count();
@@ -115,7 +126,8 @@ fn full_lists(alloc: Global, graph: &Graph) -> Result<Lists, AllocError>
 }
 
 impl Makers {
-    /// The makers of the graph's materials, none of them taken out. `Err` comes for want of memory alone.
+    /// The makers of the graph's materials, none of them taken out. `Err` comes only when memory
+    /// runs out.
     pub fn open(alloc: Global, graph: &Graph) -> Result<Makers, AllocError>
         ensures makers { IfOk result (λ m. AreMakersOf (shape graph.now) m.makers) }
         ensures taken { IfOk result (λ m. m.taken ≡ []) }
@@ -148,7 +160,8 @@ impl Makers {
         out
     }
 
-    /// How many of the units taken out come, in the order of taking, before the first that is not in the set.
+    /// How many of the units taken out come, in the order of taking, before the first that is not
+    /// in the set.
     pub(crate) fn front_within(&self, set: UnitSet) -> u32
         ensures { result ≡ prefix_len (has set) self.now.taken }
     {
@@ -159,7 +172,7 @@ impl Makers {
         front
     }
 
-    /// The first maker of the material that is not taken out, and `None` exactly where all are.
+    /// The first maker of the material that is not taken out; `None` exactly if all are.
     pub fn first(&self, x: u32) -> Option<u32>
         requires { x < length self.now.makers }
         ensures { result ≡ first (left self.now x) }
@@ -205,14 +218,20 @@ impl Makers {
     fn undo(&mut self, graph: &Graph)
         requires same { AreMakersOf (shape graph.now) self.old.makers }
         requires some { 0 < length self.old.taken }
-        ensures { self.new ≡ record { makers = self.old.makers; taken = take (length self.old.taken - 1) self.old.taken } }
+        ensures { self.new
+            ≡ record {
+              makers = self.old.makers;
+              taken =
+                  take (length self.old.taken - 1) self.old.taken;
+            } }
     {
         let u = self.order[self.count as usize - 1];
         relink_cells(&mut self.lists, graph, u);
         self.count -= 1;
     }
 
-    /// Brings back the units that were taken out last, until only the first `to` are out. The graph is the one of `open`.
+    /// Brings back the units that were taken out last, until only the first `to` are out. The graph
+    /// is the one of `open`.
     pub fn back(&mut self, graph: &Graph, to: u32)
         requires same { AreMakersOf (shape graph.now) self.old.makers }
         requires most { to ≤ length self.old.taken }

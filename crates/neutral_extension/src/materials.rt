@@ -14,7 +14,8 @@ use pgraph::Graph;
 /// The least needed material of which every maker is left out.
 pub fn dead_material(graph: &Graph, leaf: &OpenLeaf) -> Option<u32>
     requires { Stands (shape graph.now) leaf.now }
-    ensures { MatchOption result (IsNever (IsDead (shape graph.now) (node_of leaf.now.node))) (IsFirst (IsDead (shape graph.now) (node_of leaf.now.node))) }
+    ensures { MatchOption result (IsNever (IsDead (shape graph.now) (node_of leaf.now.node)))
+        (IsFirst (IsDead (shape graph.now) (node_of leaf.now.node))) }
 {
     graph.is_proper();
     let dead = leaf.intake.needed.meet(leaf.scarce.unmade);
@@ -22,11 +23,14 @@ pub fn dead_material(graph: &Graph, leaf: &OpenLeaf) -> Option<u32>
     dead.least()
 }
 
-/// The least material that is not raw, of which every maker is left out and some consumer is not, none of these taken in.
+/// The least material that is not raw, of which every maker is left out and some consumer is not,
+/// while no consumer is taken in.
 pub fn starved_material(graph: &Graph, leaf: &OpenLeaf) -> Option<u32>
     requires sound { IsSound (shape graph.now) (node_of leaf.now.node) }
     requires stands { Stands (shape graph.now) leaf.now }
-    ensures { MatchOption result (IsNever (λ x. IsPossible (shape graph.now) (node_of leaf.now.node) (starve x))) (IsFirst (λ x. IsPossible (shape graph.now) (node_of leaf.now.node) (starve x))) }
+    ensures { MatchOption result
+        (IsNever (λ x. IsPossible (shape graph.now) (node_of leaf.now.node) (starve x)))
+        (IsFirst (λ x. IsPossible (shape graph.now) (node_of leaf.now.node) (starve x))) }
 {
     graph.is_proper();
     let unused = leaf.used.minus(leaf.intake.used);
@@ -38,7 +42,8 @@ pub fn starved_material(graph: &Graph, leaf: &OpenLeaf) -> Option<u32>
 /// The least needed material with a maker that is free.
 pub fn undecided_material(graph: &Graph, leaf: &OpenLeaf) -> Option<u32>
     requires { Stands (shape graph.now) leaf.now }
-    ensures { MatchOption result (IsNever (IsUndecided (shape graph.now) (node_of leaf.now.node))) (IsFirst (IsUndecided (shape graph.now) (node_of leaf.now.node))) }
+    ensures { MatchOption result (IsNever (IsUndecided (shape graph.now) (node_of leaf.now.node)))
+        (IsFirst (IsUndecided (shape graph.now) (node_of leaf.now.node))) }
 {
     graph.is_proper();
     let free = free_units(graph, &leaf.node);

@@ -1,4 +1,4 @@
-//! A node while it is extended, with what its steps ask of it.
+//! A node while it is extended, with what its steps need of it.
 ghost use Rattle.std.specs.Prelude.{◌≡◌, ◌++◌, ℕ, true, false};
 ghost use Rattle.number_sets.specs.Sets.{has, minus};
 ghost use Rattle.pns_rules.specs.Nodes.{after};
@@ -17,7 +17,8 @@ use crate::units::raw_makers;
 use pgraph::Graph;
 use unit_sets::{MatSet, Node, Step, UnitSet};
 
-/// A node with what its steps ask of it. A step changes of this only what the units concern that it takes in or leaves out.
+/// A node with what its steps need of it. A step changes only what concerns the units that it takes
+/// in or leaves out.
 #[derive(Clone, Copy, Debug)]
 pub struct OpenLeaf {
     pub node: Node,
@@ -42,7 +43,7 @@ pub fn take_out_all(makers: &mut Makers, graph: &Graph, set: UnitSet)
     }
 }
 
-/// The node as it stands before its first step.
+/// The node before its first step.
 pub fn leaf_at(graph: &Graph, makers: &Makers, node: Node) -> OpenLeaf
     requires sound { IsSound (shape graph.now) (node_of node) }
     requires same { AreMakersOf (shape graph.now) makers.now.makers }
@@ -62,16 +63,22 @@ pub fn leaf_at(graph: &Graph, makers: &Makers, node: Node) -> OpenLeaf
     }
 }
 
-/// The node as it stands after the step that comes, with the units that go out taken out of the makers.
+/// The node after its next step, with the units that go out taken out of the makers.
 pub fn leaf_after(graph: &Graph, makers: &mut Makers, leaf: &OpenLeaf, step: &Step) -> OpenLeaf
     requires sound { IsSound (shape graph.now) (node_of leaf.now.node) }
     requires stands { Stands (shape graph.now) leaf.now }
     requires follows { Follows (shape graph.now) makers.old leaf.now }
     requires next { IsNextStep (shape graph.now) (node_of leaf.now.node) (step_of step.now) }
-    ensures node { node_of result.node ≡ after (shape graph.now) (node_of leaf.now.node) (step_of step.now) }
+    ensures node { node_of result.node
+        ≡ after (shape graph.now) (node_of leaf.now.node) (step_of step.now) }
     ensures stands { Stands (shape graph.now) result }
     ensures follows { Follows (shape graph.now) makers.new result }
-    ensures taken { makers.new ≡ record { makers = makers.old.makers; taken = makers.old.taken ++ minus result.node.outside leaf.now.node.outside } }
+    ensures taken { makers.new
+        ≡ record {
+          makers = makers.old.makers;
+          taken =
+              makers.old.taken ++ minus result.node.outside leaf.now.node.outside;
+        } }
 {
     graph.is_proper();
     let before = leaf.node;

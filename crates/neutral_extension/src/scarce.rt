@@ -10,14 +10,14 @@ use crate::makers::Makers;
 use pgraph::Graph;
 use unit_sets::{MatSet, UnitSet};
 
-/// The materials of which no maker is left, and those of which one is.
+/// The materials of which no maker is left, and those of which one is left.
 #[derive(Clone, Copy, Debug)]
 pub struct Scarce {
     pub unmade: MatSet,
     pub single: MatSet,
 }
 
-/// The set, with x exactly where it belongs to it.
+/// The set, which has x exactly if x belongs to it.
 fn with_exactly(set: MatSet, x: u32, belongs: bool) -> MatSet
     requires { x < 256 }
     ensures { (y : ℕ) → has result y ≡ cond (x == y) belongs (has set y) }
@@ -25,12 +25,14 @@ fn with_exactly(set: MatSet, x: u32, belongs: bool) -> MatSet
     if belongs { set.with(x) } else { set.without(x) }
 }
 
-/// The same, where the makers of x are counted again.
+/// The same, with the makers of x counted again.
 fn counted_at(makers: &Makers, scarce: &Scarce, x: u32) -> Scarce
     requires material { x < length makers.now.makers }
     requires few { x < 256 }
-    ensures unmade { (y : ℕ) → has result.unmade y ≡ cond (x == y) (is_empty (left makers.now x)) (has scarce.now.unmade y) }
-    ensures single { (y : ℕ) → has result.single y ≡ cond (x == y) (is_single (left makers.now x)) (has scarce.now.single y) }
+    ensures unmade { (y : ℕ) → has result.unmade y
+        ≡ cond (x == y) (is_empty (left makers.now x)) (has scarce.now.unmade y) }
+    ensures single { (y : ℕ) → has result.single y
+        ≡ cond (x == y) (is_single (left makers.now x)) (has scarce.now.single y) }
 {
     Scarce {
         unmade: with_exactly(scarce.unmade, x, makers.lacks(x)),
@@ -54,11 +56,12 @@ pub fn scarce_of(makers: &Makers, materials: u32) -> Scarce
     scarce
 }
 
-/// Counts again, where some units are gone: of what these make, and of nothing else.
+/// Counts again after some units are gone, but only the materials that these make.
 pub fn scarce_after(graph: &Graph, makers: &Makers, scarce: &Scarce, gone: UnitSet) -> Scarce
     requires all { length makers.now.makers ≡ (shape graph.now).materials }
     requires known { (u : ℕ) → has gone u ≡ true → u < (shape graph.now).units }
-    requires others { IsCounted makers.now (shape graph.now).materials (is_made (shape graph.now) (has gone)) scarce.now }
+    requires others { IsCounted makers.now (shape graph.now).materials
+        (is_made (shape graph.now) (has gone)) scarce.now }
     ensures { IsCounted makers.now (shape graph.now).materials (λ x. false) result }
 {
     graph.is_proper();
@@ -69,10 +72,12 @@ pub fn scarce_after(graph: &Graph, makers: &Makers, scarce: &Scarce, gone: UnitS
     scarce
 }
 
-/// What the units of `rest` use, where some units are gone from it: it looks at what these use, and at nothing else.
+/// What the units of `rest` use, after some units are gone from it. It looks only at what the gone
+/// units use.
 pub fn used_after(graph: &Graph, used: MatSet, rest: UnitSet, gone: UnitSet) -> MatSet
     requires known { (u : ℕ) → has gone u ≡ true → u < (shape graph.now).units }
-    requires others { IsTold (is_used (shape graph.now) (has gone)) (is_used (shape graph.now) (has rest)) used }
+    requires others { IsTold (is_used (shape graph.now) (has gone))
+        (is_used (shape graph.now) (has rest)) used }
     ensures { has result ≡ is_used (shape graph.now) (has rest) }
 {
     graph.is_proper();

@@ -1,4 +1,4 @@
-//! Which step comes at a node, and what it does.
+//! Which step comes next at a node, and what it does.
 ghost use Rattle.std.specs.Prelude.{◌≡◌};
 ghost use Rattle.number_sets.specs.Sets.{has};
 ghost use Rattle.pns_rules.specs.Nodes.{IsPossible, after};
@@ -16,14 +16,14 @@ use crate::units::{loose_units, raw_unit, rival_unit, sole_step};
 use pgraph::Graph;
 use unit_sets::{Node, Step, UnitSet};
 
-/// What comes at a node: a step, or the end.
+/// What comes next at a node: a step, or the end.
 #[derive(Clone, Copy, Debug)]
 pub enum Move {
     Take(Step),
     End(Stop),
 }
 
-/// What comes at the node. `leading` keeps from turn to turn which units lead to a product.
+/// What comes next at the node. `leading` keeps from turn to turn which units lead to a product.
 pub fn next_move(graph: &Graph, makers: &Makers, leaf: &OpenLeaf, leading: &mut UnitSet) -> Move
     requires sound { IsSound (shape graph.now) (node_of leaf.now.node) }
     requires stands { Stands (shape graph.now) leaf.now }

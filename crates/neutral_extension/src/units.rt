@@ -33,7 +33,9 @@ pub fn raw_makers(graph: &Graph) -> UnitSet
 /// The least free unit that makes a raw material.
 pub fn raw_unit(graph: &Graph, leaf: &OpenLeaf) -> Option<u32>
     requires { Stands (shape graph.now) leaf.now }
-    ensures { MatchOption result (IsNever (λ u. IsPossible (shape graph.now) (node_of leaf.now.node) (raw u))) (IsFirst (λ u. IsPossible (shape graph.now) (node_of leaf.now.node) (raw u))) }
+    ensures { MatchOption result
+        (IsNever (λ u. IsPossible (shape graph.now) (node_of leaf.now.node) (raw u)))
+        (IsFirst (λ u. IsPossible (shape graph.now) (node_of leaf.now.node) (raw u))) }
 {
     let found = free_units(graph, &leaf.node).meet(leaf.raw_makers);
     found.rises();
@@ -43,14 +45,17 @@ pub fn raw_unit(graph: &Graph, leaf: &OpenLeaf) -> Option<u32>
 /// The least free unit that shares an exclusion with a unit taken in.
 pub fn rival_unit(graph: &Graph, leaf: &OpenLeaf) -> Option<u32>
     requires { Stands (shape graph.now) leaf.now }
-    ensures { MatchOption result (IsNever (λ u. IsPossible (shape graph.now) (node_of leaf.now.node) (rival u))) (IsFirst (λ u. IsPossible (shape graph.now) (node_of leaf.now.node) (rival u))) }
+    ensures { MatchOption result
+        (IsNever (λ u. IsPossible (shape graph.now) (node_of leaf.now.node) (rival u)))
+        (IsFirst (λ u. IsPossible (shape graph.now) (node_of leaf.now.node) (rival u))) }
 {
     let found = free_units(graph, &leaf.node).meet(leaf.intake.rivals);
     found.rises();
     found.least()
 }
 
-/// The units of the set that have a path to a product through units of the set. Where all have one it is not looked for.
+/// The units of the set that have a path to a product through units of the set. If `leading` is the
+/// set, all have one, and paths are not looked for.
 fn leading_of(graph: &Graph, set: UnitSet, leading: UnitSet) -> UnitSet
     requires { AllLead (shape graph.now) (has leading) }
     ensures { (u : ℕ) → (has result u ≡ true) ↔ HasPath (shape graph.now) (has set) u }
@@ -62,8 +67,8 @@ fn leading_of(graph: &Graph, set: UnitSet, leading: UnitSet) -> UnitSet
     }
 }
 
-/// The units that are not left out and have no path to a product through such units. The units that have one are kept in
-/// `leading`, and paths are looked for only where some unit has gone out since.
+/// The units that are not left out and have no path to a product through such units. The units that
+/// have one are kept in `leading`. Paths are looked for only if some unit has gone out since.
 pub fn loose_units(graph: &Graph, node: &Node, leading: &mut UnitSet) -> UnitSet
     requires { AllLead (shape graph.now) (has leading.old) }
     ensures loose { IsLooseSet (shape graph.now) (node_of node.now) result }
@@ -80,7 +85,8 @@ pub fn sole_step(graph: &Graph, makers: &Makers, leaf: &OpenLeaf) -> Option<(u32
     requires sound { IsSound (shape graph.now) (node_of leaf.now.node) }
     requires stands { Stands (shape graph.now) leaf.now }
     requires follows { Follows (shape graph.now) makers.now leaf.now }
-    ensures { MatchOption result (HasNoSole (shape graph.now) (node_of leaf.now.node)) (λ p. IsLeastSole (shape graph.now) (node_of leaf.now.node) p.0 p.1) }
+    ensures { MatchOption result (HasNoSole (shape graph.now) (node_of leaf.now.node))
+        (λ p. IsLeastSole (shape graph.now) (node_of leaf.now.node) p.0 p.1) }
 {
     graph.is_proper();
     let single = leaf.intake.needed.meet(leaf.scarce.single);

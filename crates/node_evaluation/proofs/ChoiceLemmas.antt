@@ -22,7 +22,8 @@ pub decides : (g : Shape) (n : Node) (c : Choice) → IsChoice g n c → IsDecis
 decides g n (choices.Material x) h = let three = h.1 in omega (arith, three)
 decides g n (choices.Unit u) h = (h.material, h.needed, h.makes)
 
-pub option_count_is : (g : Shape) (n : Node) (c : Choice) → IsChoice g n c → length (options_at g n (way_of c)) ≡ option_count c
+pub option_count_is : (g : Shape) (n : Node) (c : Choice) → IsChoice g n c
+    → length (options_at g n (way_of c)) ≡ option_count c
 option_count_is g n (choices.Material x) h = h.1
 option_count_is g n (choices.Unit u) h = refl
 
@@ -30,15 +31,20 @@ pub width_is : (c : Choice) → width (way_of c) ≡ option_count c
 width_is (choices.Material x) = refl
 width_is (choices.Unit u) = refl
 
-pub next_count : (g : Shape) (n : Node) (c : Choice) → IsChoice g n c → IsNextCount g n (option_count c)
+pub next_count : (g : Shape) (n : Node) (c : Choice) → IsChoice g n c
+    → IsNextCount g n (option_count c)
 next_count g n (choices.Material x) h = inr (refl, (x, h.0.needed, h.1))
 next_count g n (choices.Unit u) h = inl refl
 
 -- a material is to decide
-pub undecided_there : (g : Shape) (n : Node) (c : Choice) → IsChoice g n c → (x : ℕ) × IsUndecided g n x
+pub undecided_there : (g : Shape) (n : Node) (c : Choice) → IsChoice g n c → (x : ℕ)
+    × IsUndecided g n x
 undecided_there g n (choices.Material x) h = (x, h.0)
-undecided_there g n (choices.Unit u) h = (h.material, record { needed = h.needed; some = (u, h.known, h.makes, h.free) })
+undecided_there g n (choices.Unit u) h =
+    (h.material, record { needed = h.needed; some = (u, h.known, h.makes, h.free) })
 
-pub end_known : (p : Problem) → IsValid p → (n : Node) (c : Choice) → IsChoice (shape_of p) n c → KnowsEnd p (branch (way_of c))
-end_known p valid n (choices.Material x) h = (proper_if_valid p valid).output_known h.0.some.0 x h.0.some.2
+pub end_known : (p : Problem) → IsValid p → (n : Node) (c : Choice) → IsChoice (shape_of p) n c
+    → KnowsEnd p (branch (way_of c))
+end_known p valid n (choices.Material x) h =
+    (proper_if_valid p valid).output_known h.0.some.0 x h.0.some.2
 end_known p valid n (choices.Unit u) h = h.known

@@ -1,5 +1,6 @@
 -- What a search sees of all children of a node, and the cheapest network that it knows then.
-use Rattle.std.specs.Prelude.{◌≡◌, ℕ, ℤ, ◌<◌, Bool, true, false, List, [], ◌∷◌, length, map, Option, Some, None, is_some}
+use Rattle.std.specs.Prelude.{◌≡◌, ℕ, ℤ, ◌<◌, Bool, true, false, List, [], ◌∷◌, length, map, Option}
+use Rattle.std.specs.Prelude.{Some, None, is_some}
 use Rattle.problem_rules.specs.Problem.{Problem}
 use Rattle.pns_rules.specs.Shape.{Shape, shape_of}
 use Rattle.pns_rules.specs.Nodes.{Node}
@@ -25,7 +26,8 @@ use Rattle.node_evaluation.specs.declared.looks.Looked.{Looked}
 use Rattle.node_evaluation.specs.declared.children.StoppedAt.{StoppedAt}
 use Rattle.node_evaluation.specs.declared.children.Children.{Children}
 use Rattle.node_evaluation.specs.Evaluated.{PastPlaces, cost_in}
-use Rattle.node_evaluation.specs.Looks.{cost_of, is_bounded, has_bounded, KnowsCell, IsFoundAt, AreFoundAt, IsSomeReady, IsStop, IsOpenAs}
+use Rattle.node_evaluation.specs.Looks.{cost_of, is_bounded, has_bounded, KnowsCell, IsFoundAt}
+use Rattle.node_evaluation.specs.Looks.{AreFoundAt, IsSomeReady, IsStop, IsOpenAs}
 
 -- ---- the cheapest network
 
@@ -44,7 +46,8 @@ pub record IsBest (p : Problem) (best : Option claims.Network) : Type 0 where
 pub record IsImproved (p : Problem) (n : Node) (old new : Option claims.Network) : Type 0 where
   pub best : IsBest p new
   pub fallen : HasFallen (claimed_cost (claim_with old)) (claimed_cost (claim_with new))
-  pub below : MayUndercut p (claimed_cost (claim_with old)) n → MayUndercut p (claimed_cost (claim_with new)) n
+  pub below : MayUndercut p (claimed_cost (claim_with old)) n
+      → MayUndercut p (claimed_cost (claim_with new)) n
 
 -- ---- cells with their values, and what is stored for those that are open
 
@@ -56,7 +59,8 @@ values_of fs = map (λ (f : Fresh). f.value) fs
 
 abbrev pub AreReady : PastPlaces → Problem → List Cell → List Mixed → List (Option Ready) → Type 0
 AreReady Past p [] [] [] = Unit {0}
-AreReady Past p (c ∷ cs) (v ∷ vs) (r ∷ rs) = (c.end ≡ leaf untried → IsSomeReady Past p (place_of c) v r) × AreReady Past p cs vs rs
+AreReady Past p (c ∷ cs) (v ∷ vs) (r ∷ rs) =
+    (c.end ≡ leaf untried → IsSomeReady Past p (place_of c) v r) × AreReady Past p cs vs rs
 AreReady Past p [] [] (r ∷ rs) = ⊥
 AreReady Past p [] (v ∷ vs) rs = ⊥
 AreReady Past p (c ∷ cs) [] rs = ⊥
@@ -65,11 +69,13 @@ AreReady Past p (c ∷ cs) (v ∷ vs) [] = ⊥
 -- ---- a child
 
 -- after one that stops the search, no child is looked at
-abbrev pub IsChildAs : PastPlaces → Problem → Node → Leaf → Mixed → Option Ready → Option PastStop → Bool → Type 0
+abbrev pub IsChildAs : PastPlaces → Problem → Node → Leaf → Mixed → Option Ready → Option PastStop
+    → Bool → Type 0
 IsChildAs Past p n what value ready stop false = IsOpenAs Past p n what value ready stop
 IsChildAs Past p n what value ready stop true = stop ≡ None
 
-pub record IsChild (Past : PastPlaces) (p : Problem) (start : Node) (option : List ℕ) (stopped : Bool) (l : Looked) : Type 0 where
+pub record IsChild (Past : PastPlaces) (p : Problem) (start : Node) (option : List ℕ)
+    (stopped : Bool) (l : Looked) : Type 0 where
   pub option_is : l.cell.option ≡ option
   pub follows : Follows (shape_of p) start l.cell
   pub sound : IsSound (shape_of p) (place_of l.cell)
@@ -84,10 +90,12 @@ pub record IsChild (Past : PastPlaces) (p : Problem) (start : Node) (option : Li
 -- ---- all children
 
 -- all open children are ready, or one stops the search
-abbrev pub StopHolds : PastPlaces → Problem → List Fresh → List (Option Ready) → Option StoppedAt → Type 0
+abbrev pub StopHolds : PastPlaces → Problem → List Fresh → List (Option Ready) → Option StoppedAt
+    → Type 0
 StopHolds Past p nodes ready None = AreReady Past p (cells_of nodes) (values_of nodes) ready
 StopHolds Past p nodes ready (Some h) =
-    (h.at < length nodes) × ((cell_at (cells_of nodes) h.at).end ≡ leaf untried) × IsStop Past p (place_of (cell_at (cells_of nodes) h.at)) h.stop
+    (h.at < length nodes) × ((cell_at (cells_of nodes) h.at).end ≡ leaf untried)
+    × IsStop Past p (place_of (cell_at (cells_of nodes) h.at)) h.stop
 
 abbrev pub stop_after : Option StoppedAt → ℕ → Option PastStop → Option StoppedAt
 stop_after old at None = old
@@ -106,8 +114,10 @@ pub record IsSameBut (old new : Children) : Type 0 where
 
 -- These children pass if the cheapest network that was found among them is claimed, and so if a
 -- cheaper one is. One was found if a child is a bounded leaf.
-pub record AreLooked (Past : PastPlaces) (p : Problem) (n : Node) (w : Way) (c : Children) : Type 0 where
-  pub each : (k : ℕ) → k < length (cells_of c.nodes.items) → IsFreshChild p (claimed_cost (claim_with c.best)) n w (cell_at (cells_of c.nodes.items) k)
+pub record AreLooked (Past : PastPlaces) (p : Problem) (n : Node) (w : Way) (c : Children) : Type
+    0 where
+  pub each : (k : ℕ) → k < length (cells_of c.nodes.items)
+      → IsFreshChild p (claimed_cost (claim_with c.best)) n w (cell_at (cells_of c.nodes.items) k)
   pub found : IsImproved p n None c.best
   pub bounded : has_bounded (cells_of c.nodes.items) ≡ true → is_some c.best ≡ true
   pub known : (k : ℕ) → k < length c.nodes.items → KnowsCell p (cell_at (cells_of c.nodes.items) k)
@@ -115,7 +125,8 @@ pub record AreLooked (Past : PastPlaces) (p : Problem) (n : Node) (w : Way) (c :
   pub stop_holds : StopHolds Past p c.nodes.items c.ready.items c.stop
 
 -- the same of all children
-pub record AreSeen (Past : PastPlaces) (p : Problem) (n : Node) (w : Way) (c : Children) : Type 0 where
+pub record AreSeen (Past : PastPlaces) (p : Problem) (n : Node) (w : Way) (c : Children) : Type
+    0 where
   pub children : AreChildren p (claimed_cost (claim_with c.best)) n w (cells_of c.nodes.items)
   pub found : IsImproved p n None c.best
   pub bounded : has_bounded (cells_of c.nodes.items) ≡ true → is_some c.best ≡ true

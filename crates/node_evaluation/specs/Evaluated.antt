@@ -20,7 +20,8 @@ use Rattle.node_evaluation.specs.declared.evaluator.FirstLook.{FirstLook}
 use Rattle.node_evaluation.specs.declared.evaluator.FirstLook.TheVariants as looks
 use Rattle.node_evaluation.specs.declared.evaluator.Bound.{Bound}
 use Rattle.node_evaluation.specs.declared.evaluator.Evaluation.{Evaluation}
-use Rattle.node_evaluation.specs.declared.evaluator.Evaluation.TheVariants.{Least, Flows, Refuted, Stopped}
+use Rattle.node_evaluation.specs.declared.evaluator.Evaluation.TheVariants.{Least, Flows, Refuted}
+use Rattle.node_evaluation.specs.declared.evaluator.Evaluation.TheVariants.{Stopped}
 use Rattle.node_evaluation.specs.declared.evaluator.Proof.{Proof}
 use Rattle.node_evaluation.specs.declared.evaluator.Proof.TheVariants as proofs
 
@@ -52,7 +53,9 @@ IsFirstLook p n looks.Nothing = Unit {0}
 -- overflows.
 abbrev pub IsWorthAs : PastPlaces → Problem → Node → Mixed → Option Interval → Type 0
 IsWorthAs Past p n value None = IsValueOf p n (cost_over value)
-IsWorthAs Past p n value (Some r) = IsUnder p (cost_over value) n × HasCheaper p n (numerator r.reached) (denominator r.reached) × Past p n r.stop.nonbasic r.stop.place
+IsWorthAs Past p n value (Some r) = IsUnder p (cost_over value) n
+    × HasCheaper p n (numerator r.reached) (denominator r.reached)
+    × Past p n r.stop.nonbasic r.stop.place
 
 -- the node is worth the value, and the multipliers prove that no relaxed flows cost less than
 -- `low`, which is no more
@@ -76,7 +79,9 @@ HasUnits n w = (u : ℕ) → n.inside u ≡ has w.units u
 -- others what they are worth
 abbrev pub IsEvaluated : PastPlaces → Problem → Node → Bool → Evaluation → Type 0
 IsEvaluated Past p n decided (Least b) = (decided ≡ false) × IsBoundOf Past p n b
-IsEvaluated Past p n decided (Flows b w) = (decided ≡ true) × (b.interval ≡ None) × IsBoundOf Past p n b × IsNetworkOf p b.value w × IsNoMore (cost_in w) (cost_over b.low) × HasUnits n w
+IsEvaluated Past p n decided (Flows b w) =
+    (decided ≡ true) × (b.interval ≡ None) × IsBoundOf Past p n b × IsNetworkOf p b.value w
+    × IsNoMore (cost_in w) (cost_over b.low) × HasUnits n w
 IsEvaluated Past p n decided (Refuted ys) = IsRefuted p n ys
 IsEvaluated Past p n decided (Stopped h) = Past p n h.nonbasic h.place
 

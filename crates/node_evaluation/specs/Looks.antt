@@ -1,5 +1,6 @@
 -- What a search sees at a node: the steps that are possible, the node that they leave, and its end.
-use Rattle.std.specs.Prelude.{◌≡◌, ℕ, ◌<◌, pos, ◌≤ℤ◌, Bool, true, false, ◌||◌, List, [], ◌∷◌, Option, Some, None, is_some}
+use Rattle.std.specs.Prelude.{◌≡◌, ℕ, ◌<◌, pos, ◌≤ℤ◌, Bool, true, false, ◌||◌, List, [], ◌∷◌}
+use Rattle.std.specs.Prelude.{Option, Some, None, is_some}
 use Rattle.problem_rules.specs.Problem.{Problem}
 use Rattle.pns_rules.specs.Shape.{shape_of}
 use Rattle.pns_rules.specs.Nodes.{Node, is_free}
@@ -7,7 +8,8 @@ use Rattle.pns_rules.specs.Ends.{IsSound, IsReduced, IsDead, IsNever}
 use Rattle.mixed_numbers.specs.declared.number.Mixed.{Mixed}
 use Rattle.tree_rules.specs.Tree.{End, branch, leaf}
 use Rattle.tree_rules.specs.Claim.{Network, CostOver, IsFeasible}
-use Rattle.tree_rules.specs.Leaf.{Leaf, dead, clash, refuted, bounded, untried, LeafPasses, IsRefuted}
+use Rattle.tree_rules.specs.Leaf.{Leaf, dead, clash, refuted, bounded, untried, LeafPasses}
+use Rattle.tree_rules.specs.Leaf.{IsRefuted}
 use Rattle.tree_rules.specs.Lean.{HasCheaper}
 use Rattle.tree_rules.specs.Known.{KnowsNode, KnowsEnd}
 use Rattle.search_tree.specs.Cells.{Cell, place_of}
@@ -21,7 +23,8 @@ use Rattle.node_evaluation.specs.declared.looks.Settling.{Settling}
 use Rattle.node_evaluation.specs.declared.looks.Settling.TheVariants as settlings
 use Rattle.node_evaluation.specs.declared.looks.Ready.{Ready}
 use Rattle.node_evaluation.specs.declared.looks.Looked.{Looked}
-use Rattle.node_evaluation.specs.Evaluated.{PastPlaces, cost_in, IsLowerBoundOf, IsBoundOf, HasUnits}
+use Rattle.node_evaluation.specs.Evaluated.{PastPlaces, cost_in, IsLowerBoundOf, IsBoundOf}
+use Rattle.node_evaluation.specs.Evaluated.{HasUnits}
 
 -- ---- an open leaf
 
@@ -34,7 +37,8 @@ IsWorthOf Past p n value (worths.Refuted ys) = IsRefuted p n ys
 
 -- the node is reduced, and all that its branching or shutting takes is stored: how it is branched,
 -- and what it is worth
-pub record IsReady (Past : PastPlaces) (p : Problem) (n : Node) (value : Mixed) (r : Ready) : Type 0 where
+pub record IsReady (Past : PastPlaces) (p : Problem) (n : Node) (value : Mixed) (r : Ready) : Type
+    0 where
   pub reduced : IsReduced (shape_of p) n
   pub choice : IsChoice (shape_of p) n r.choice
   pub worth : IsWorthOf Past p n value r.worth
@@ -55,7 +59,8 @@ pub record IsStop (Past : PastPlaces) (p : Problem) (n : Node) (h : PastStop) : 
   pub past : Past p n h.nonbasic h.place
 
 -- an open leaf is ready, unless it stops the search
-abbrev pub IsOpenAs : PastPlaces → Problem → Node → Leaf → Mixed → Option Ready → Option PastStop → Type 0
+abbrev pub IsOpenAs : PastPlaces → Problem → Node → Leaf → Mixed → Option Ready → Option PastStop
+    → Type 0
 IsOpenAs Past p n what value ready None = what ≡ untried → IsSomeReady Past p n value ready
 IsOpenAs Past p n what value ready (Some h) = (what ≡ untried) × IsStop Past p n h
 
@@ -121,7 +126,8 @@ pub record IsSeen (Past : PastPlaces) (p : Problem) (l : Looked) : Type 0 where
   pub open_as : IsOpenAs Past p (place_of l.cell) what l.value l.ready l.stop
   pub end_known : KnowsEnd p l.cell.end
 
-pub record IsLooked (Past : PastPlaces) (p : Problem) (start : Node) (option : List ℕ) (l : Looked) : Type 0 where
+pub record IsLooked (Past : PastPlaces) (p : Problem) (start : Node) (option : List ℕ)
+    (l : Looked) : Type 0 where
   pub option_is : l.cell.option ≡ option
   pub follows : Follows (shape_of p) start l.cell
   pub sound : IsSound (shape_of p) (place_of l.cell)

@@ -1,5 +1,6 @@
 //! A look at all children of a node.
-ghost use Rattle.std.specs.Prelude.{◌≡◌, ◌⊎◌, ◌↔◌, ◌++◌, ◌∷◌, [], ◌||◌, cond, IsTrue, true, false, Some, None, is_some, IfOk, IfSome, OnOk, length};
+ghost use Rattle.std.specs.Prelude.{◌≡◌, ◌⊎◌, ◌↔◌, ◌++◌, ◌∷◌, [], ◌||◌, cond, IsTrue, true, false};
+ghost use Rattle.std.specs.Prelude.{Some, None, is_some, IfOk, IfSome, OnOk, length};
 ghost use Rattle.pns_rules.specs.Shape.{shape_of};
 ghost use Rattle.number_sets.specs.Options.{IsIn};
 ghost use Rattle.pns_rules.specs.Ends.{IsSound, IsReduced};
@@ -10,7 +11,8 @@ ghost use Rattle.tree_rules.specs.Costs.{IsNoMore, HasFallen};
 ghost use Rattle.search_tree.specs.Cells.{place_of};
 ghost use Rattle.node_evaluation.specs.Evaluated.{cost_in, IsAtHand};
 ghost use Rattle.node_evaluation.specs.Looks.{cost_of};
-ghost use Rattle.node_evaluation.specs.Children.{IsChild, IsSameBut, AreLooked, AreSeen, AreSolvedBy, cells_of, options_in, stop_after};
+ghost use Rattle.node_evaluation.specs.Children.{IsChild, IsSameBut, AreLooked, AreSeen};
+ghost use Rattle.node_evaluation.specs.Children.{AreSolvedBy, cells_of, options_in, stop_after};
 ghost use Rattle.tree_rules.specs.Known.{AreUnits};
 ghost use Rattle.neutral_extension.specs.Candidates.{AreMakersOf};
 
@@ -105,7 +107,8 @@ fn with_network(
     network: &Option<Network>,
     all: bool,
 ) -> Result<Vec<Option<Network>>, AllocError>
-    ensures { IfOk result (λ ws. ws.items ≡ cond all (networks.items ++ network.now ∷ []) networks.items) }
+    ensures { IfOk result
+        (λ ws. ws.items ≡ cond all (networks.items ++ network.now ∷ []) networks.items) }
 {
     if !all {
         return Ok(networks);
@@ -123,14 +126,20 @@ fn with_child(
     looked: Looked,
     all: bool,
 ) -> Result<Children, AllocError>
-    ensures nodes { IfOk result (λ c. c.nodes.items ≡ children.nodes.items ++ record { cell = looked.cell; value = looked.value } ∷ []) }
+    ensures nodes { IfOk result
+        (λ c. c.nodes.items ≡ children.nodes.items
+        ++ record { cell = looked.cell; value = looked.value } ∷ []) }
     ensures ready { IfOk result (λ c. c.ready.items ≡ children.ready.items ++ looked.ready ∷ []) }
     ensures which { IfOk result (λ c. (c.best ≡ children.best) ⊎ (c.best ≡ looked.network)) }
     ensures old { IfOk result (λ c. HasFallen (cost_of children.best) (cost_of c.best)) }
     ensures found { IfOk result (λ c. HasFallen (cost_of looked.network) (cost_of c.best)) }
-    ensures some { IfOk result (λ c. is_some c.best ≡ (is_some children.best || is_some looked.network)) }
-    ensures networks { IfOk result (λ c. c.networks.items ≡ cond all (children.networks.items ++ looked.network ∷ []) children.networks.items) }
-    ensures stop { IfOk result (λ c. c.stop ≡ stop_after children.stop (length children.nodes.items) looked.stop) }
+    ensures some { IfOk result
+        (λ c. is_some c.best ≡ (is_some children.best || is_some looked.network)) }
+    ensures networks { IfOk result
+        (λ c. c.networks.items
+        ≡ cond all (children.networks.items ++ looked.network ∷ []) children.networks.items) }
+    ensures stop { IfOk result
+        (λ c. c.stop ≡ stop_after children.stop (length children.nodes.items) looked.stop) }
 {
     let networks = with_network(alloc, children.networks, &looked.network, all)?;
     let mut nodes = children.nodes;
@@ -200,7 +209,8 @@ fn network_at_hand<E: Evaluator>(
 ) -> Result<Option<Network>, AllocError>
     requires own { E.values site.now workspace.old.evaluator }
     requires sound { IsSound (shape_of site.now) (place_of looked.now.cell) }
-    ensures at_hand { IfOk result (λ found. IfSome found (IsAtHand site.now (place_of looked.now.cell))) }
+    ensures at_hand { IfOk result
+        (λ found. IfSome found (IsAtHand site.now (place_of looked.now.cell))) }
     ensures own { E.values site.now workspace.new.evaluator }
     ensures makers { workspace.new.makers ≡ workspace.old.makers }
 {
@@ -227,11 +237,14 @@ fn look_at_child<E: Evaluator>(
     requires sound { IsSound (shape_of site.now) (node_of node.now) }
     requires reduced { IsReduced (shape_of site.now) (node_of node.now) }
     requires choice { IsChoice (shape_of site.now) (node_of node.now) choice }
-    requires option { IsIn option (options_at (shape_of site.now) (node_of node.now) (way_of choice)) }
+    requires option { IsIn option
+        (options_at (shape_of site.now) (node_of node.now) (way_of choice)) }
     requires looked { AreLooked E.past site.now (node_of node.now) (way_of choice) children }
-    requires solved { all ≡ true → AreSolvedBy site.now (cells_of children.nodes.items) children.networks.items }
+    requires solved { all ≡ true
+        → AreSolvedBy site.now (cells_of children.nodes.items) children.networks.items }
     ensures looked { IfOk result (AreLooked E.past site.now (node_of node.now) (way_of choice)) }
-    ensures solved { IfOk result (λ c. all ≡ true → AreSolvedBy site.now (cells_of c.nodes.items) c.networks.items) }
+    ensures solved { IfOk result
+        (λ c. all ≡ true → AreSolvedBy site.now (cells_of c.nodes.items) c.networks.items) }
     ensures options { IfOk result (λ c. options_in c ≡ options_in children ++ option ∷ []) }
     ensures own { E.values site.now workspace.new.evaluator }
     ensures makers { workspace.new.makers.makers ≡ workspace.old.makers.makers }
@@ -261,7 +274,8 @@ pub fn look_at_children<E: Evaluator>(
     requires reduced { IsReduced (shape_of site.now) (node_of node) }
     requires choice { IsChoice (shape_of site.now) (node_of node) choice }
     ensures seen { IfOk result (AreSeen E.past site.now (node_of node) (way_of choice)) }
-    ensures solved { IfOk result (λ c. all ≡ true → AreSolvedBy site.now (cells_of c.nodes.items) c.networks.items) }
+    ensures solved { IfOk result
+        (λ c. all ≡ true → AreSolvedBy site.now (cells_of c.nodes.items) c.networks.items) }
     ensures own { E.values site.now workspace.new.evaluator }
     ensures makers { workspace.new.makers.makers ≡ workspace.old.makers.makers }
 {

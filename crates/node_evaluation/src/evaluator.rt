@@ -4,7 +4,8 @@ ghost use Rattle.pns_rules.specs.Shape.{shape_of};
 ghost use Rattle.pns_rules.specs.Ends.{IsSound, IsReduced, IsDecided};
 ghost use Rattle.problem_rules.specs.Problem.{Problem};
 ghost use Rattle.pgraph.specs.View.{node_of};
-ghost use Rattle.node_evaluation.specs.Evaluated.{PastPlaces, IsFirstLook, IsEvaluated, IsWorth, IsProof, IsAtHand, cost_in};
+ghost use Rattle.node_evaluation.specs.Evaluated.{PastPlaces, IsFirstLook, IsEvaluated, IsWorth};
+ghost use Rattle.node_evaluation.specs.Evaluated.{IsProof, IsAtHand, cost_in};
 
 use branch_tree::{Columns, Multipliers, Network, Scaled};
 use flow_rules::Place;

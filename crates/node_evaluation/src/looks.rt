@@ -110,7 +110,14 @@ fn solved(cell: Cell, bound: Bound, network: Network) -> Looked
 
 /// A leaf that stays open.
 fn opened(cell: Cell, value: Mixed, choice: Choice, worth: Worth) -> Looked
-    ensures { result ≡ record { cell = cell; value = value; ready = Some (record { choice = choice; worth = worth }); network = None; stop = None } }
+    ensures { result ≡ record {
+      cell = cell;
+      value = value;
+      ready =
+          Some (record { choice = choice; worth = worth });
+      network = None;
+      stop = None;
+    } }
 {
     Looked {
         cell,
@@ -133,7 +140,8 @@ fn look_closer<E: Evaluator>(
     requires sound { IsSound (shape_of site.now) (node_of cell.node) }
     requires reduced { IsReduced (shape_of site.now) (node_of cell.node) }
     requires split { decided ≡ true → IsDecided (shape_of site.now) (node_of cell.node) }
-    requires first { decided ≡ false → IsFirst (IsUndecided (shape_of site.now) (node_of cell.node)) material }
+    requires first { decided ≡ false
+        → IsFirst (IsUndecided (shape_of site.now) (node_of cell.node)) material }
     requires open { cell.end ≡ leaf untried }
     ensures same { IfOk result (λ l. IsSameNode cell l.cell) }
     ensures seen { IfOk result (IsSeen E.past site.now) }
@@ -230,7 +238,15 @@ pub fn settle<E: Evaluator>(
 
 /// An open leaf at the node.
 pub fn open_cell(option: UnitSet, steps: Steps, node: Node) -> Cell
-    ensures { result ≡ record { option = option; steps = steps; node = node; first = 0; end = leaf untried; key = 0 } }
+    ensures { result ≡ record {
+      option = option;
+      steps = steps;
+      node = node;
+      first = 0;
+      end =
+          leaf untried;
+      key = 0;
+    } }
 {
     Cell {
         option,

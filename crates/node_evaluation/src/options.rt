@@ -54,7 +54,8 @@ pub(crate) fn options_of(
     choice: Choice,
 ) -> Result<Vec<UnitSet>, AllocError>
     requires { IsKnown (shape graph.now) choice }
-    ensures { IfOk result (λ all. all.items ≡ options_at (shape graph.now) (node_of node.now) (way_of choice)) }
+    ensures { IfOk result
+        (λ all. all.items ≡ options_at (shape graph.now) (node_of node.now) (way_of choice)) }
 {
     match choice {
         Choice::Material(x) => options_of_material(alloc, graph, node, x),
@@ -77,7 +78,8 @@ fn decided(graph: &Graph, choice: Choice) -> UnitSet
 /// out.
 pub(crate) fn child_of(graph: &Graph, node: &Node, choice: Choice, option: UnitSet) -> Node
     requires { IsKnown (shape graph.now) choice }
-    ensures { node_of result ≡ child_at (shape graph.now) (node_of node.now) (way_of choice) option }
+    ensures { node_of result ≡ child_at (shape graph.now) (node_of node.now) (way_of choice)
+        option }
 {
     Node {
         inside: option.union(node.inside),

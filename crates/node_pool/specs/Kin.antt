@@ -1,4 +1,5 @@
--- How memory holds a tree: each node has its parent, its first and its last child, and its next sibling.
+-- How memory represents a tree: each node has its parent, its first and its last child, and its
+-- next sibling.
 use Rattle.std.specs.Prelude.{◌≡◌, ℕ, ◌==◌, cond, List, map, slice_index_or, Option, Some, None}
 use Rattle.std.specs.List.{last_or}
 use Rattle.link_lists.specs.Lists.{first}
@@ -27,7 +28,7 @@ next_at kin i = (kin_at kin i).next_sibling
 abbrev pub with_at : (ℕ → Option ℕ) → ℕ → Option ℕ → ℕ → Option ℕ
 with_at f p v i = cond (i == p) v (f i)
 
--- a first child is written only where there was no child, and a next sibling only where there was one, l
+-- a first child is written only if there was no child, and a next sibling only if there was one, l
 abbrev pub first_with : Option ℕ → (ℕ → Option ℕ) → ℕ → ℕ → ℕ → Option ℕ
 first_with None f p id = with_at f p (Some id)
 first_with (Some l) f p id = f
@@ -36,7 +37,7 @@ abbrev pub next_with : Option ℕ → (ℕ → Option ℕ) → ℕ → ℕ → O
 next_with None f id = f
 next_with (Some l) f id = with_at f l (Some id)
 
--- node p has the child id behind its other children
+-- node p has the child id after its other children
 pub record IsAdopted (old new : List Kin) (p id : ℕ) : Type 0 where
   pub parents : parents_of new ≡ parents_of old
   pub first : first_at new ≡ first_with (last_at old p) (first_at old) p id

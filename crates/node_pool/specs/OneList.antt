@@ -1,9 +1,10 @@
--- How memory holds the open leaves: as the one list of `Lists`, of which no cell is unlinked, and with marks.
+-- How memory represents the open leaves: as the one list of `Lists`, of which no cell is unlinked,
+-- and with marks.
 use Rattle.std.specs.Prelude.{◌≡◌, ℕ, Bool, true, [], List, length, Some}
 use Rattle.std.specs.List.{slice_get}
 use Rattle.link_lists.specs.Lists.{Rows, row, has}
 
--- a leaf with a mark is in the list of leaves
+-- each leaf with a mark is in the list of leaves
 abbrev pub AreMarked : List Bool → List ℕ → Type 0
 AreMarked marks leaves = (leaf : ℕ) → slice_get marks leaf ≡ Some true → has leaves leaf ≡ true
 

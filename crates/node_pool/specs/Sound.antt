@@ -6,7 +6,8 @@ use Rattle.node_pool.specs.Tree.{Branches}
 use Rattle.node_pool.specs.Order.{OpenLeaves, IsRising}
 
 -- a tree, values and payloads with memory for so many, and the open leaves
-pub record IsSound (tree : Branches) (values : List Mixed) (value_room payloads payload_room : ℕ) (open_leaves : OpenLeaves) : Type 0 where
+pub record IsSound (tree : Branches) (values : List Mixed) (value_room payloads payload_room : ℕ)
+    (open_leaves : OpenLeaves) : Type 0 where
   pub some_values : length values ≡ length tree.parents
   pub some_payloads : payloads ≡ length tree.parents
   pub few : length tree.parents ≤ open_leaves.room

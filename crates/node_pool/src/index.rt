@@ -1,10 +1,13 @@
 //! `Index`: a search tree of the open leaves, which leads to the place of a new one.
 //!
-//! Only speed rests on it: whoever asks it for a leaf looks whether that leaf is open, and on which side of the place it stands. It is
-//! a treap (Aragon and Seidel 1989): from left to right the leaves rise as in their list, and on each way down their ranks fall. Ranks
-//! are the leaves' numbers, well mixed, so that n leaves hang some 2 log n deep. Ways end after 256 steps, far more than such trees
-//! are deep (57 levels for 2 million leaves). Of leaves of one value the one that was put last comes first; puts are told apart up
-//! to the 2^32nd.
+//! Only speed depends on it: a caller that gets a leaf from it checks that the leaf is open, and on
+//! which side of the place it is.
+//!
+//! It is a treap (Aragon and Seidel 1989). From left to right the leaves rise as in their list, and
+//! on each path down their ranks fall. Ranks are the leaves' numbers, well mixed, so that a tree of
+//! n leaves is some 2 log n deep. Searches end after 256 steps, far more than such trees are deep.
+//! Of leaves of one value the one that was put last comes first; the numbers of puts differ up to
+//! the 2^32nd.
 
 use mixed_numbers::Mixed;
 use std::alloc::{AllocError, Global};
@@ -12,12 +15,12 @@ use std::cmp::Ordering;
 
 const MOST_STEPS: u32 = 256;
 
-/// The leaves that hang below a leaf: one before it in the order of leaves, one behind it.
+/// The leaves just below a leaf: one before it in the order of leaves, one after it.
 #[derive(Clone, Copy)]
 struct Fork {
     before: Option<u32>,
     behind: Option<u32>,
-    // The number of the put that the leaf hangs by.
+    // The number of the put with which the leaf came.
     put: u32,
 }
 
@@ -27,7 +30,7 @@ const NO_FORK: Fork = Fork {
     put: 0,
 };
 
-/// Where a leaf can hang.
+/// A place for a leaf.
 #[derive(Clone, Copy)]
 enum Place {
     Root,
@@ -43,7 +46,7 @@ pub struct Index {
     puts: u32,
 }
 
-/// The leaf's rank. No two leaves have the same.
+/// The rank of a leaf. No two leaves have the same.
 fn rank(leaf: u32) -> u32 {
     let once = (leaf ^ (leaf >> 16)).wrapping_mul(0x85eb_ca6b);
     let twice = (once ^ (once >> 13)).wrapping_mul(0xc2b2_ae35);
@@ -68,7 +71,7 @@ impl Index {
         Ok(())
     }
 
-    /// The number of the put that the leaf hangs by.
+    /// The number of the put with which the leaf came.
     fn put_of(&self, leaf: u32) -> u32 {
         match self.forks.get(leaf as usize) {
             None => 0,
@@ -76,7 +79,8 @@ impl Index {
         }
     }
 
-    /// Whether the leaf comes before the other: its value is less, or the same and it was put later.
+    /// Whether the leaf comes before the other: its value is less, or it is the same and the leaf
+    /// was put later.
     fn comes_before(&self, values: &Vec<Mixed>, leaf: u32, other: u32) -> bool {
         let (Some(value), Some(than)) = (values.get(leaf as usize), values.get(other as usize))
         else {
@@ -89,7 +93,7 @@ impl Index {
         }
     }
 
-    /// The leaf that hangs there.
+    /// The leaf at the place.
     fn at(&self, place: Place) -> Option<u32> {
         match place {
             Place::Root => self.root,
@@ -98,7 +102,7 @@ impl Index {
         }
     }
 
-    /// Hangs a leaf there, with what is below it, or leaves the place empty.
+    /// Puts a leaf at the place, with what is below it, or leaves the place empty.
     fn hang(&mut self, place: Place, leaf: Option<u32>) {
         match place {
             Place::Root => self.root = leaf,
@@ -156,7 +160,8 @@ impl Index {
         place
     }
 
-    /// Parts what hung at the leaf's place into the leaves before it and those behind it, and hangs both below it.
+    /// Splits what was at the leaf's place into the leaves before it and those after it, and puts
+    /// both below it.
     fn part(&mut self, values: &Vec<Mixed>, leaf: u32, below: Option<u32>) {
         let mut before = Place::Before(leaf);
         let mut behind = Place::Behind(leaf);
@@ -192,7 +197,7 @@ impl Index {
         self.part(values, leaf, below);
     }
 
-    /// Joins what hangs below the leaf to one tree, and hangs it where the leaf hung.
+    /// Joins what is below the leaf into one tree, and puts that at the leaf's place.
     fn join(&mut self, leaf: u32, place: Place) {
         let mut place = place;
         let mut before = self.at(Place::Before(leaf));

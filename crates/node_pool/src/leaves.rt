@@ -1,6 +1,7 @@
 //! `Leaves`: the open leaves in rising order of value.
 
-ghost use Rattle.std.specs.Prelude.{◌≡◌, [], ℕ, true, false, Some, ◌<◌, ◌+◌, ◌^◌, length, slice_set, IfOk, OnErr};
+ghost use Rattle.std.specs.Prelude.{◌≡◌, [], ℕ, true, false, Some, ◌<◌, ◌+◌, ◌^◌, length};
+ghost use Rattle.std.specs.Prelude.{slice_set, IfOk, OnErr};
 ghost use Rattle.std.specs.List.{find};
 ghost use Rattle.mixed_numbers.specs.Order.{mixed_cmp};
 ghost use Rattle.link_lists.specs.Lists.{first, following, has, row, without, IsListed};
@@ -18,7 +19,7 @@ pub struct Leaves {
     // List 0 has the leaves.
     lists: Lists,
     room: u32,
-    // Of each node whether it is an open leaf.
+    // For each node, whether it is an open leaf.
     marks: Vec<bool>,
     index: Index,
 }
@@ -44,11 +45,12 @@ fn is_at_least(values: &Vec<Mixed>, value: &Mixed, leaf: u32) -> bool
     value.cmp(&values[leaf as usize]).is_le()
 }
 
-/// From a leaf of less value on to the first one that has at least this one.
+/// From a leaf of less value on to the first one that has at least this value.
 fn on_to_first(lists: &Lists, values: &Vec<Mixed>, value: &Mixed, leaf: u32) -> Option<u32>
     requires listed { has (row lists.now.lists 0) leaf ≡ true }
     requires lower { is_at_least values.now.items value.now leaf ≡ false }
-    requires known { (c : ℕ) → has (row lists.now.lists 0) c ≡ true → c < length values.now.items }
+    requires known { (c : ℕ) → has (row lists.now.lists 0) c ≡ true
+        → c < length values.now.items }
     requires rising { IsRising values.now.items (row lists.now.lists 0) }
     ensures { result ≡ find (is_at_least values.now.items value.now) (row lists.now.lists 0) }
 {
@@ -85,7 +87,8 @@ impl Leaves {
 
     pub fn grow(&mut self, more: u32) -> Result<(), AllocError>
         requires { self.old.room + more < 2 ^ 32 }
-        ensures more { IfOk result (λ _. self.new ≡ record { leaves = self.old.leaves; room = self.old.room + more }) }
+        ensures more { IfOk result
+            (λ _. self.new ≡ record { leaves = self.old.leaves; room = self.old.room + more }) }
         ensures same { OnErr result (self.new ≡ self.old) }
     {
         self.index.grow(self.room + more)?;
@@ -107,14 +110,14 @@ impl Leaves {
         self.lists.first(0)
     }
 
-    /// The leaf behind the first one.
+    /// The leaf after the first one.
     pub fn second(&self) -> Option<u32>
         ensures { result ≡ second self.now.leaves }
     {
         self.lists.next(self.lists.first(0)?)
     }
 
-    /// The leaf behind this one.
+    /// The leaf after this one.
     pub fn next(&self, leaf: u32) -> Option<u32>
         requires { has self.now.leaves leaf ≡ true }
         ensures { result ≡ following leaf self.now.leaves }
@@ -122,11 +125,13 @@ impl Leaves {
         self.lists.next(leaf)
     }
 
-    /// A leaf of less value, as close as the index leads to the first one that has at least this one.
+    /// A leaf of less value, as close as the index leads to the first one that has at least this
+    /// value.
     fn near(&self, values: &Vec<Mixed>, value: &Mixed) -> Option<u32>
         requires known { (c : ℕ) → has self.now.leaves c ≡ true → c < length values.now.items }
         ensures listed { (leaf : ℕ) → result ≡ Some leaf → has self.now.leaves leaf ≡ true }
-        ensures lower { (leaf : ℕ) → result ≡ Some leaf → is_at_least values.now.items value.now leaf ≡ false }
+        ensures lower { (leaf : ℕ) → result ≡ Some leaf
+            → is_at_least values.now.items value.now leaf ≡ false }
     {
         let leaf = self.index.last_below(values, value)?;
         if self.marks.get(leaf as usize).copied() != Some(true)
@@ -167,7 +172,8 @@ impl Leaves {
         requires leaf { leaf < self.old.room }
         requires free { has self.old.leaves leaf ≡ false }
         requires before { (b : ℕ) → before ≡ Some b → has self.old.leaves b ≡ true }
-        ensures { self.new ≡ record { leaves = put_before leaf before self.old.leaves; room = self.old.room } }
+        ensures { self.new
+            ≡ record { leaves = put_before leaf before self.old.leaves; room = self.old.room } }
     {
         match before {
             None => self.lists.push_back(0, leaf),
@@ -180,7 +186,8 @@ impl Leaves {
     /// Takes a leaf out.
     pub fn take(&mut self, values: &Vec<Mixed>, leaf: u32)
         requires { has self.old.leaves leaf ≡ true }
-        ensures { self.new ≡ record { leaves = without leaf self.old.leaves; room = self.old.room } }
+        ensures { self.new
+            ≡ record { leaves = without leaf self.old.leaves; room = self.old.room } }
     {
         self.lists.take(leaf);
         mark(&mut self.marks, leaf, false);

@@ -1,10 +1,14 @@
-//! A tree of nodes with values and payloads, and its open leaves in rising order of value: what a best-first search keeps.
+//! A tree of nodes with values and payloads, and its open leaves in rising order of value.
 //!
-//! Nodes are numbered from 0 in the order of adding, and none is ever removed. Contracts see a `Pool` as the parents, values and
-//! payloads of its nodes, the list of its open leaves, and how many adds cannot fail. A new leaf stands before the leaves of the same
-//! value, so that a search goes on from the newest of equal leaves: down to a network, and not through all of them in breadth. A leaf
-//! that is given another value does so too. Only `open`, `reserve` and `add` take memory, and `add` only where no room is left. Every
-//! call but these, `shut` and `raise` takes constant time; `add`, `shut` and `raise` say what they take.
+//! This is what a best-first search keeps. Nodes are numbered from 0 in the order of adding, and
+//! none is ever removed. Contracts see a `Pool` as the parents, values and payloads of its nodes,
+//! the list of its open leaves, and how many adds cannot fail.
+//!
+//! A new leaf comes before the leaves of the same value, and so does a leaf that is given another
+//! value. So a search continues from the newest of equal leaves: down to a network, and not through
+//! all of them in breadth. Only `open`, `reserve` and `add` take memory, and `add` only if no room
+//! is left. `add`, `shut` and `raise` say how long they take; every call but these, `open` and
+//! `reserve` takes constant time.
 //!
 //! - `pool`: `Pool` and its calls
 //! - `tree`: the nodes by first child and next sibling

@@ -1,12 +1,14 @@
 //! `Pool`: a tree of nodes with values and payloads, and its open leaves.
 
-ghost use Rattle.std.specs.Prelude.{◌≡◌, ◌∷◌, [], ℕ, true, false, Some, ◌<◌, ◌≤◌, ◌+◌, ◌-◌, ◌^◌, length, max, IfOk, OnOk, IsOk, IfErr, OnErr, vec_len};
+ghost use Rattle.std.specs.Prelude.{◌≡◌, ◌∷◌, [], ℕ, true, false, Some, ◌<◌, ◌≤◌, ◌+◌, ◌-◌, ◌^◌};
+ghost use Rattle.std.specs.Prelude.{length, max, IfOk, OnOk, IsOk, IfErr, OnErr, vec_len};
 ghost use Rattle.std.specs.List.{slice_get};
 ghost use Rattle.std.specs.Borrow.{sem};
 ghost use Rattle.link_lists.specs.Lists.{first, following, has};
 ghost use Rattle.node_pool.specs.Tree.{children, sibling_after, AreAfterParents};
 ghost use Rattle.node_pool.specs.Order.{placed, second, IsRising};
-ghost use Rattle.node_pool.specs.Pooled.{Pooled, IsParent, IsShut, AreSameNodes, IsWithLeaf, with_shut, with_value};
+ghost use Rattle.node_pool.specs.Pooled.{Pooled, IsParent, IsShut, AreSameNodes, IsWithLeaf};
+ghost use Rattle.node_pool.specs.Pooled.{with_shut, with_value};
 
 use crate::leaves::Leaves;
 use crate::tree::Tree;
@@ -14,8 +16,8 @@ use mixed_numbers::Mixed;
 use std::alloc::{AllocError, Global};
 use std::marker::Model;
 
-/// A tree of nodes, numbered from 0 in the order of adding, with a value and a payload each. A node is an open leaf until it is
-/// shut, and none is ever removed.
+/// A tree of nodes, numbered from 0 in the order of adding, with a value and a payload each. A node
+/// is an open leaf until it is shut, and none is ever removed.
 #[derive(Drop)]
 pub struct Pool<T> {
     tree: Tree,
@@ -40,7 +42,8 @@ impl<T> Model for Pool<T> {
       spare = p.leaves.room - length p.tree.parents;
     } };
 
-    ghost invariant = { λ p. IsSound p.tree p.values.items (vec_capacity p.values) (length p.payloads.items) (vec_capacity p.payloads) p.leaves };
+    ghost invariant = { λ p. IsSound p.tree p.values.items (vec_capacity p.values)
+        (length p.payloads.items) (vec_capacity p.payloads) p.leaves };
 }
 
 impl<T> Pool<T> {
@@ -48,7 +51,15 @@ impl<T> Pool<T> {
 
     /// No nodes. The first `room` adds cannot fail.
     pub fn open(alloc: Global, room: u32) -> Result<Pool<T>, AllocError>
-        ensures { IfOk result (λ p. p ≡ record { parents = []; values = []; payloads = []; leaves = []; spare = room }) }
+        ensures { IfOk result
+            (λ p. p ≡ record {
+              parents = [];
+              values = [];
+              payloads = [];
+              leaves = [];
+              spare =
+                  room;
+            }) }
     {
         let tree = Tree::with_room(alloc, room)?;
         let values = Vec::with_capacity(alloc, room as usize)?;
@@ -62,28 +73,31 @@ impl<T> Pool<T> {
         })
     }
 
-    /// So many adds cannot fail.
+    /// How many adds cannot fail.
     pub fn spare(&self) -> u32
         ensures { result ≡ self.now.spare }
     {
         self.leaves.room() - self.tree.len() as u32
     }
 
-    /// The open leaf of least value, of several the one that got it last, and none where no leaf is open.
+    /// The open leaf of least value, or `None` if no leaf is open. Of several it is the one that
+    /// got the value last.
     pub fn least(&self) -> Option<u32>
         ensures { result ≡ first self.now.leaves }
     {
         self.leaves.first()
     }
 
-    /// The open leaf behind that of least value in the order of the open leaves, and none where no other leaf is open.
+    /// The open leaf that follows that of least value in the order of the open leaves, or `None` if
+    /// no other leaf is open.
     pub fn next_least(&self) -> Option<u32>
         ensures { result ≡ second self.now.leaves }
     {
         self.leaves.second()
     }
 
-    /// The open leaf behind this one in the order of the open leaves, and none behind the last.
+    /// The open leaf that follows this one in the order of the open leaves, or `None` after the
+    /// last.
     pub fn next_open(&self, id: u32) -> Option<u32>
         requires { has self.now.leaves id ≡ true }
         ensures { result ≡ following id self.now.leaves }
@@ -91,7 +105,7 @@ impl<T> Pool<T> {
         self.leaves.next(id)
     }
 
-    /// The node's first child, and none where it has none.
+    /// The node's first child, or `None` if it has none.
     pub fn first_child(&self, id: u32) -> Option<u32>
         requires { id < length self.now.parents }
         ensures { result ≡ first (children self.now.parents id) }
@@ -99,7 +113,7 @@ impl<T> Pool<T> {
         self.tree.first_child(id)
     }
 
-    /// The next child of the node's parent, and none where there is none.
+    /// The next child of the node's parent, or `None` if there is none.
     pub fn next_sibling(&self, id: u32) -> Option<u32>
         requires { id < length self.now.parents }
         ensures { result ≡ sibling_after self.now.parents id }
@@ -132,7 +146,7 @@ impl<T> Pool<T> {
         &mut self.payloads[id as usize]
     }
 
-    /// Makes `spare` at least `room`. After `Err`, which comes for want of memory alone, all is as before.
+    /// Makes `spare` at least `room`. `Err` means out of memory; then all is as before.
     pub fn reserve(&mut self, room: u32) -> Result<(), AllocError>
         requires { length self.old.parents + room < 2 ^ 32 }
         ensures spare { OnOk result (self.new.spare ≡ max self.old.spare room) }
@@ -150,7 +164,8 @@ impl<T> Pool<T> {
         Ok(())
     }
 
-    /// Makes `spare` at least 1, and more by a part of the nodes that there are, so that many adds take memory seldom.
+    /// Makes `spare` at least 1, and more by a part of the number of nodes, so that many adds
+    /// rarely take memory.
     fn make_room(&mut self) -> Result<(), AllocError>
         requires { length self.old.parents < 2 ^ 32 - 1 }
         ensures some { OnOk result (0 < self.new.spare) }
@@ -182,10 +197,12 @@ impl<T> Pool<T> {
         id
     }
 
-    /// Adds an open leaf, the last child of its parent, before the open leaves of the same value. The first node has no parent, and
-    /// each other has one that is shut. `Err` hands the payload back for want of memory. It cannot come where `spare` is above 0.
+    /// Adds an open leaf, the last child of its parent, before the open leaves of the same value.
+    /// The first node has no parent, and each other has one that is shut. `Err` gives the payload
+    /// back if it is out of memory. This is impossible if `spare` is above 0.
     ///
-    /// The leaf's place is sought in a balanced tree of the open leaves, so an add takes time with the logarithm of their number.
+    /// The leaf's place is searched for in a balanced tree of the open leaves, so an add takes time
+    /// with the logarithm of their number.
     pub fn add(&mut self, parent: Option<u32>, value: Mixed, payload: T) -> Result<u32, T>
         requires parent { IsParent self.old parent }
         requires few { length self.old.parents < 2 ^ 32 - 1 }
@@ -202,7 +219,7 @@ impl<T> Pool<T> {
         }
     }
 
-    /// Changes nothing. What it ensures holds of all pools, for callers that prove with it.
+    /// Changes nothing. What it ensures is true of all pools, for the proofs of callers.
     pub fn is_pool(&self)
         ensures values { length self.now.values ≡ length self.now.parents }
         ensures payloads { length self.now.payloads ≡ length self.now.parents }
@@ -214,7 +231,8 @@ impl<T> Pool<T> {
         self.tree.is_tree();
     }
 
-    /// Shuts an open leaf: it leaves the open leaves. It takes no memory, and time with the logarithm of their number.
+    /// Shuts an open leaf: it is no longer one of the open leaves. It takes no memory, and time
+    /// with the logarithm of their number.
     pub fn shut(&mut self, id: u32)
         requires { has self.old.leaves id ≡ true }
         ensures { self.new ≡ with_shut self.old id }
@@ -222,8 +240,9 @@ impl<T> Pool<T> {
         self.leaves.take(&self.values, id);
     }
 
-    /// Gives an open leaf this value, which may be less than its own too: it then stands before the open leaves of the same value. All
-    /// else stays. It takes no memory, and time with the logarithm of the number of open leaves.
+    /// Gives an open leaf this value, which may also be less than its own. The leaf then comes
+    /// before the open leaves of the same value. All else stays. It takes no memory, and time with
+    /// the logarithm of the number of open leaves.
     pub fn raise(&mut self, id: u32, value: Mixed)
         requires { has self.old.leaves id ≡ true }
         ensures { self.new ≡ with_value self.old id value }

@@ -1,9 +1,12 @@
 //! `Tree`: nodes with parents, by first child and next sibling.
 
-ghost use Rattle.std.specs.Prelude.{◌≡◌, [], ◌++◌, ◌∷◌, None, ℕ, vec_capacity, vec_len, ◌<◌, ◌≤◌, ◌+◌, ◌-◌, ◌^◌, Some, length, max, IfOk, OnOk, OnErr};
+ghost use Rattle.std.specs.Prelude.{◌≡◌, [], ◌++◌, ◌∷◌, None, ℕ, vec_capacity, vec_len, ◌<◌, ◌≤◌};
+ghost use Rattle.std.specs.Prelude.{◌+◌, ◌-◌, ◌^◌, Some, length, max, IfOk, OnOk, OnErr};
 ghost use Rattle.link_lists.specs.Lists.{first};
-ghost use Rattle.node_pool.specs.Kin.{parents_of, first_at, last_at, next_at, with_at, IsAdopted, IsAdoptedBy};
-ghost use Rattle.node_pool.specs.Tree.{Branches, children, sibling_after, AreAfterParents, IsThere, with_node};
+ghost use Rattle.node_pool.specs.Kin.{parents_of, first_at, last_at, next_at, with_at, IsAdopted};
+ghost use Rattle.node_pool.specs.Kin.{IsAdoptedBy};
+ghost use Rattle.node_pool.specs.Tree.{Branches, children, sibling_after, AreAfterParents, IsThere};
+ghost use Rattle.node_pool.specs.Tree.{with_node};
 
 use std::alloc::{AllocError, Global};
 use std::marker::Model;
@@ -25,7 +28,8 @@ pub struct Tree {
 
 impl Model for Tree {
     ghost use Rattle.std.specs.Prelude.{vec_capacity};
-    ghost use Rattle.node_pool.specs.Kin.{parents_of, first_at, last_at, next_at, with_at, IsAdopted, IsAdoptedBy};
+    ghost use Rattle.node_pool.specs.Kin.{parents_of, first_at, last_at, next_at, with_at};
+    ghost use Rattle.node_pool.specs.Kin.{IsAdopted, IsAdoptedBy};
     ghost use Rattle.node_pool.specs.Tree.{Branches};
 
     ghost Value = { Branches };
@@ -70,7 +74,7 @@ fn set_next(kin: &mut Vec<Kin>, node: u32, sibling: u32)
     kin[node as usize].next_sibling = Some(sibling);
 }
 
-/// Links the node behind the other children of its parent.
+/// Links the node as the last child of its parent.
 fn adopt(kin: &mut Vec<Kin>, parent: u32, id: u32)
     requires parent { parent < length kin.old.items }
     requires last { (l : ℕ) → last_at kin.old.items parent ≡ Some l → l < length kin.old.items }
@@ -91,7 +95,8 @@ fn adopt(kin: &mut Vec<Kin>, parent: u32, id: u32)
 
 fn adopt_by(kin: &mut Vec<Kin>, parent: Option<u32>, id: u32)
     requires parent { (p : ℕ) → parent ≡ Some p → p < length kin.old.items }
-    requires last { (p l : ℕ) → parent ≡ Some p → last_at kin.old.items p ≡ Some l → l < length kin.old.items }
+    requires last { (p l : ℕ) → parent ≡ Some p → last_at kin.old.items p ≡ Some l
+        → l < length kin.old.items }
     ensures adopted { IsAdoptedBy kin.old.items kin.new.items parent id }
     ensures capacity { vec_capacity kin.new ≡ vec_capacity kin.old }
 {
@@ -144,7 +149,7 @@ impl Tree {
         });
     }
 
-    /// The first child, and none where there is no child.
+    /// The first child, or `None` if there is no child.
     pub fn first_child(&self, id: u32) -> Option<u32>
         requires { id < length self.now.parents }
         ensures { result ≡ first (children self.now.parents id) }
@@ -152,7 +157,7 @@ impl Tree {
         self.kin[id as usize].first_child
     }
 
-    /// The child of the same parent that was added next, and none where there is none.
+    /// The child of the same parent that was added next, or `None` if there is none.
     pub fn next_sibling(&self, id: u32) -> Option<u32>
         requires { id < length self.now.parents }
         ensures { result ≡ sibling_after self.now.parents id }
@@ -160,7 +165,7 @@ impl Tree {
         self.kin[id as usize].next_sibling
     }
 
-    /// Changes nothing. What it ensures holds of all trees.
+    /// Changes nothing. What it ensures is true of all trees.
     pub fn is_tree(&self)
         ensures { AreAfterParents self.now.parents }
     {

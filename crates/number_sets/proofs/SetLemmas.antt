@@ -1,7 +1,13 @@
 -- Tests below a bound, lists as tests, and rising lists.
-use Rattle.std.proofs.Common.{length-append, ◌≡◌, ℕ, zero, suc, ◌<◌, ◌≤◌, ◌==◌, nat_lt, Bool, true, false, cond, not, ◌&&◌, ◌||◌, List, [], ◌∷◌, ◌++◌, length, refl, sym, ap, ap₂, ◌∙◌, subst, inl, inr, arith, eq-eqb, eqb-true, ltb-true, ltb-false, ne_eqb}
-use Rattle.std.proofs.lemmas.Bool.{cases_lt, true_from_ne_false, le-ltb, lt-ltb, eqb-false, and_right, or_from, or_cases, or_left, or_right, or_parts, both_ways, cases_eq, cases_order, false_from_ne_true}
-use Rattle.number_sets.specs.Sets.{has, IsBelowAll, IsRising, AreBelow, any_below, listed, IsWithin, with_number, kept, union, meet, minus, IsSet}
+use Rattle.std.proofs.Common.{length-append, ◌≡◌, ℕ, zero, suc, ◌<◌, ◌≤◌, ◌==◌, nat_lt, Bool, true}
+use Rattle.std.proofs.Common.{false, cond, not, ◌&&◌, ◌||◌, List, [], ◌∷◌, ◌++◌, length, refl, sym}
+use Rattle.std.proofs.Common.{ap, ap₂, ◌∙◌, subst, inl, inr, arith, eq-eqb, eqb-true, ltb-true}
+use Rattle.std.proofs.Common.{ltb-false, ne_eqb}
+use Rattle.std.proofs.lemmas.Bool.{cases_lt, true_from_ne_false, le-ltb, lt-ltb, eqb-false}
+use Rattle.std.proofs.lemmas.Bool.{and_right, or_from, or_cases, or_left, or_right, or_parts}
+use Rattle.std.proofs.lemmas.Bool.{both_ways, cases_eq, cases_order, false_from_ne_true}
+use Rattle.number_sets.specs.Sets.{has, IsBelowAll, IsRising, AreBelow, any_below, listed, IsWithin}
+use Rattle.number_sets.specs.Sets.{with_number, kept, union, meet, minus, IsSet}
 
 -- a number below n that passes
 pub any_below-from : (n : ℕ) (t : ℕ → Bool) (u : ℕ) → u < n → t u ≡ true → any_below n t ≡ true
@@ -12,7 +18,8 @@ any_below-from (suc n) t u h e =
       | inr d ↦ or_right (t n) (any_below n t) (any_below-from n t u (omega arith) e)
     ]
 
-pub any_below-some : (n : ℕ) (t : ℕ → Bool) → any_below n t ≡ true → (u : ℕ) × (u < n) × (t u ≡ true)
+pub any_below-some : (n : ℕ) (t : ℕ → Bool) → any_below n t ≡ true → (u : ℕ) × (u < n)
+    × (t u ≡ true)
 any_below-some zero t e = cc
 any_below-some (suc n) t e =
     elim (or_cases (t n) (any_below n t) e) [
@@ -21,10 +28,12 @@ any_below-some (suc n) t e =
     ]
 
 pub any_below-none : (n : ℕ) (t : ℕ → Bool) (u : ℕ) → any_below n t ≡ false → u < n → t u ≡ false
-any_below-none n t u e h = false_from_ne_true (t u) (λ q. both_ways (any_below n t) e (any_below-from n t u h q))
+any_below-none n t u e h =
+    false_from_ne_true (t u) (λ q. both_ways (any_below n t) e (any_below-from n t u h q))
 
 -- more numbers pass
-pub any_below-within : (n : ℕ) (s t : ℕ → Bool) → IsWithin s t → any_below n s ≡ true → any_below n t ≡ true
+pub any_below-within : (n : ℕ) (s t : ℕ → Bool) → IsWithin s t → any_below n s ≡ true
+    → any_below n t ≡ true
 any_below-within n s t w e = let k = any_below-some n s e in any_below-from n t k.0 k.1 (w k.0 k.2)
 
 -- ---- laws of tests
@@ -39,7 +48,7 @@ or_twice : (a c : Bool) → (a || c) ≡ (a || (a || c))
 or_twice true c = refl
 or_twice false c = refl
 
--- two tests that say yes together are equal
+-- two tests are equal if each is true when the other is
 pub same_tests : (a b : Bool) → (a ≡ true → b ≡ true) → (b ≡ true → a ≡ true) → a ≡ b
 same_tests true true f g = refl
 same_tests true false f g = sym (f refl)
@@ -57,28 +66,39 @@ has-rest x u xs e = or_right (x == u) (has xs u) e
 pub has-append : (xs ys : List ℕ) (u : ℕ) → has (xs ++ ys) u ≡ (has xs u || has ys u)
 has-append [] ys u = refl
 has-append (x ∷ xs) ys u =
-    elim (x == u) as (λ b. (b || has (xs ++ ys) u) ≡ ((b || has xs u) || has ys u)) [ true ↦ refl | false ↦ has-append xs ys u ]
+    elim (x == u) as (λ b. (b || has (xs ++ ys) u) ≡ ((b || has xs u) || has ys u))
+    [ true ↦ refl | false ↦ has-append xs ys u ]
 
 -- each case of `with_number` at x ∷ xs
-has-with_number_at : (u x : ℕ) (xs : List ℕ) (v : ℕ) (a b : Bool) → (x == u) ≡ b → has (with_number u xs) v ≡ ((u == v) || has xs v) → has (cond a (u ∷ x ∷ xs) (cond b (x ∷ xs) (x ∷ with_number u xs))) v ≡ ((u == v) || ((x == v) || has xs v))
+has-with_number_at : (u x : ℕ) (xs : List ℕ) (v : ℕ) (a b : Bool) → (x == u) ≡ b
+    → has (with_number u xs) v ≡ ((u == v) || has xs v)
+    → has (cond a (u ∷ x ∷ xs) (cond b (x ∷ xs) (x ∷ with_number u xs))) v
+    ≡ ((u == v) || ((x == v) || has xs v))
 has-with_number_at u x xs v true b e ih = refl
 has-with_number_at u x xs v false true e ih =
-    subst (λ w. ((x == v) || has xs v) ≡ ((w == v) || ((x == v) || has xs v))) (eqb-true x u e) (or_twice (x == v) (has xs v))
-has-with_number_at u x xs v false false e ih = ap (λ h. (x == v) || h) ih ∙ or_swap (x == v) (u == v) (has xs v)
+    subst (λ w. ((x == v) || has xs v) ≡ ((w == v) || ((x == v) || has xs v))) (eqb-true x u e)
+    (or_twice (x == v) (has xs v))
+has-with_number_at u x xs v false false e ih =
+    ap (λ h. (x == v) || h) ih ∙ or_swap (x == v) (u == v) (has xs v)
 
-pub has-with_number : (u : ℕ) (xs : List ℕ) (v : ℕ) → has (with_number u xs) v ≡ ((u == v) || has xs v)
+pub has-with_number : (u : ℕ) (xs : List ℕ) (v : ℕ)
+    → has (with_number u xs) v ≡ ((u == v) || has xs v)
 has-with_number u [] v = refl
-has-with_number u (x ∷ xs) v = has-with_number_at u x xs v (nat_lt u x) (x == u) refl (has-with_number u xs v)
+has-with_number u (x ∷ xs) v =
+    has-with_number_at u x xs v (nat_lt u x) (x == u) refl (has-with_number u xs v)
 
 pub has-union : (xs ys : List ℕ) (u : ℕ) → has (union xs ys) u ≡ (has xs u || has ys u)
 has-union [] ys u = refl
-has-union (x ∷ xs) ys u = has-with_number x (union xs ys) u ∙ (ap (λ h. (x == u) || h) (has-union xs ys u) ∙ or_group (x == u) (has xs u) (has ys u))
+has-union (x ∷ xs) ys u = has-with_number x (union xs ys) u
+    ∙ (ap (λ h. (x == u) || h) (has-union xs ys u) ∙ or_group (x == u) (has xs u) (has ys u))
   where
     or_group : (a b c : Bool) → (a || (b || c)) ≡ ((a || b) || c)
     or_group true b c = refl
     or_group false b c = refl
 
-has-kept_at : (t : ℕ → Bool) (x : ℕ) (xs : List ℕ) (u : ℕ) (b c : Bool) → t x ≡ b → (x == u) ≡ c → has (kept t xs) u ≡ (has xs u && t u) → has (cond b (x ∷ kept t xs) (kept t xs)) u ≡ ((c || has xs u) && t u)
+has-kept_at : (t : ℕ → Bool) (x : ℕ) (xs : List ℕ) (u : ℕ) (b c : Bool) → t x ≡ b → (x == u) ≡ c
+    → has (kept t xs) u ≡ (has xs u && t u)
+    → has (cond b (x ∷ kept t xs) (kept t xs)) u ≡ ((c || has xs u) && t u)
 has-kept_at t x xs u true true e q ih =
     ap (λ d. d || has (kept t xs) u) q ∙ sym (subst (λ v. t v ≡ true) (eqb-true x u q) e)
 has-kept_at t x xs u true false e q ih = ap (λ d. d || has (kept t xs) u) q ∙ ih
@@ -110,17 +130,23 @@ below_not_had x u (y ∷ ys) h a =
     let apart : y ≡ u → ⊥ = λ e. let lt : x < y = a.0 in omega arith in
     or_from (y == u) (has ys u) (ne_eqb y u apart) (below_not_had x u ys h a.1)
 
-IsBelowAll-with_number_at : (w u x : ℕ) (xs : List ℕ) (a b : Bool) → w < u → IsBelowAll w (x ∷ xs) → IsBelowAll w (with_number u xs) → IsBelowAll w (cond a (u ∷ x ∷ xs) (cond b (x ∷ xs) (x ∷ with_number u xs)))
+IsBelowAll-with_number_at : (w u x : ℕ) (xs : List ℕ) (a b : Bool) → w < u → IsBelowAll w (x ∷ xs)
+    → IsBelowAll w (with_number u xs)
+    → IsBelowAll w (cond a (u ∷ x ∷ xs) (cond b (x ∷ xs) (x ∷ with_number u xs)))
 IsBelowAll-with_number_at w u x xs true b h a ih = (h, a)
 IsBelowAll-with_number_at w u x xs false true h a ih = a
 IsBelowAll-with_number_at w u x xs false false h a ih = (a.0, ih)
 
-IsBelowAll-with_number : (w u : ℕ) (xs : List ℕ) → w < u → IsBelowAll w xs → IsBelowAll w (with_number u xs)
+IsBelowAll-with_number : (w u : ℕ) (xs : List ℕ) → w < u → IsBelowAll w xs
+    → IsBelowAll w (with_number u xs)
 IsBelowAll-with_number w u [] h a = (h, tt)
 IsBelowAll-with_number w u (x ∷ xs) h a =
-    IsBelowAll-with_number_at w u x xs (nat_lt u x) (x == u) h a (IsBelowAll-with_number w u xs h a.1)
+    IsBelowAll-with_number_at w u x xs (nat_lt u x) (x == u) h a
+    (IsBelowAll-with_number w u xs h a.1)
 
-IsRising-with_number_at : (u x : ℕ) (xs : List ℕ) (a b : Bool) → nat_lt u x ≡ a → (x == u) ≡ b → IsRising (x ∷ xs) → IsRising (with_number u xs) → IsRising (cond a (u ∷ x ∷ xs) (cond b (x ∷ xs) (x ∷ with_number u xs)))
+IsRising-with_number_at : (u x : ℕ) (xs : List ℕ) (a b : Bool) → nat_lt u x ≡ a → (x == u) ≡ b
+    → IsRising (x ∷ xs) → IsRising (with_number u xs)
+    → IsRising (cond a (u ∷ x ∷ xs) (cond b (x ∷ xs) (x ∷ with_number u xs)))
 IsRising-with_number_at u x xs true b e q r ih =
     let lt = ltb-true u x e in
     ((lt, IsBelowAll-lower u x xs (omega arith) r.0), r)
@@ -159,13 +185,16 @@ IsRising-kept t (x ∷ xs) r =
 no_first : (x : ℕ) (xs : List ℕ) → ((u : ℕ) → false ≡ has (x ∷ xs) u) → ⊥
 no_first x xs same = both_ways (has (x ∷ xs) x) (sym (same x)) (has-first x xs)
 
-not_lower : (x y : ℕ) (xs ys : List ℕ) → IsBelowAll y ys → ((u : ℕ) → has (x ∷ xs) u ≡ has (y ∷ ys) u) → x < y → ⊥
+not_lower : (x y : ℕ) (xs ys : List ℕ) → IsBelowAll y ys
+    → ((u : ℕ) → has (x ∷ xs) u ≡ has (y ∷ ys) u) → x < y → ⊥
 not_lower x y xs ys a same h =
     both_ways (has (y ∷ ys) x)
-    (or_from (y == x) (has ys x) (ne_eqb y x (λ e. omega arith)) (below_not_had y x ys (omega arith) a))
+    (or_from (y == x) (has ys x) (ne_eqb y x (λ e. omega arith))
+    (below_not_had y x ys (omega arith) a))
     (sym (same x) ∙ has-first x xs)
 
-pub same_sets : (xs ys : List ℕ) → IsRising xs → IsRising ys → ((u : ℕ) → has xs u ≡ has ys u) → xs ≡ ys
+pub same_sets : (xs ys : List ℕ) → IsRising xs → IsRising ys → ((u : ℕ) → has xs u ≡ has ys u)
+    → xs ≡ ys
 same_sets [] [] r s same = refl
 same_sets [] (y ∷ ys) r s same = absurd (no_first y ys same)
 same_sets (x ∷ xs) [] r s same = absurd (no_first x xs (λ u. sym (same u)))
@@ -177,7 +206,8 @@ same_sets (x ∷ xs) (y ∷ ys) r s same = elim (cases_order x y) [
   ]
 ]
   where
-    at : (u : ℕ) (b : Bool) → (x == u) ≡ b → (x ≡ y) → (b || has xs u) ≡ ((y == u) || has ys u) → has xs u ≡ has ys u
+    at : (u : ℕ) (b : Bool) → (x == u) ≡ b → (x ≡ y) → (b || has xs u) ≡ ((y == u) || has ys u)
+        → has xs u ≡ has ys u
     at u true q e h =
         let xu : x ≡ u = eqb-true x u q in
         below_not_had x u xs (omega arith) r.0 ∙ sym (below_not_had y u ys (omega arith) s.0)
@@ -190,7 +220,8 @@ same_sets (x ∷ xs) (y ∷ ys) r s same = elim (cases_order x y) [
 
 -- ---- the numbers below n that pass
 
-has-last_at : (n u : ℕ) (b c d : Bool) → (n == u) ≡ c → (nat_lt u n) ≡ d → (t : ℕ → Bool) → t n ≡ b → ((d && t u) || has (cond b (n ∷ []) []) u) ≡ (nat_lt u (suc n) && t u)
+has-last_at : (n u : ℕ) (b c d : Bool) → (n == u) ≡ c → (nat_lt u n) ≡ d → (t : ℕ → Bool) → t n ≡ b
+    → ((d && t u) || has (cond b (n ∷ []) []) u) ≡ (nat_lt u (suc n) && t u)
 has-last_at n u b true d e f t g =
     let q : n ≡ u = eqb-true n u e in
     let no : d ≡ false = sym f ∙ le-ltb u n (omega arith) in
@@ -213,7 +244,9 @@ has-last_at n u b false true e f t g =
     none true = or_from (n == u) false e refl
     none false = refl
 has-last_at n u b false false e f t g =
-    let no : nat_lt u (suc n) ≡ false = le-ltb u (suc n) (let le = ltb-false u n f in let ne : n ≡ u → ⊥ = eqb-false n u e in omega arith) in
+    let no : nat_lt u (suc n) ≡ false =
+    le-ltb u (suc n) (let le = ltb-false u n f in let ne : n ≡ u → ⊥ =
+    eqb-false n u e in omega arith) in
     rw no (none b)
   where
     none : (b : Bool) → has (cond b (n ∷ []) []) u ≡ false
@@ -254,7 +287,9 @@ AreBelow-listed zero t = tt
 AreBelow-listed (suc n) t =
     elim (t n) as (λ b. AreBelow (suc n) (listed n t ++ cond b (n ∷ []) [])) [
       | true ↦ AreBelow-push n n (listed n t) (AreBelow-listed n t) (omega arith)
-      | false ↦ rw append_nil (AreBelow-higher n (suc n) (listed n t) (omega arith) (AreBelow-listed n t))
+      | false
+          ↦ rw append_nil
+          (AreBelow-higher n (suc n) (listed n t) (omega arith) (AreBelow-listed n t))
     ]
 
 pub IsRising-listed : (n : ℕ) (t : ℕ → Bool) → IsRising (listed n t)
@@ -284,7 +319,8 @@ IsSet-listed n t = record { rising = IsRising-listed n t; below = AreBelow-liste
 -- tests that agree below n list the same
 pub listed-same : (n : ℕ) (s t : ℕ → Bool) → ((u : ℕ) → u < n → s u ≡ t u) → listed n s ≡ listed n t
 listed-same n s t same =
-    same_sets (listed n s) (listed n t) (IsRising-listed n s) (IsRising-listed n t) (λ u. has-listed n s u ∙ (at u (nat_lt u n) refl ∙ sym (has-listed n t u)))
+    same_sets (listed n s) (listed n t) (IsRising-listed n s) (IsRising-listed n t)
+    (λ u. has-listed n s u ∙ (at u (nat_lt u n) refl ∙ sym (has-listed n t u)))
   where
     at : (u : ℕ) (b : Bool) → nat_lt u n ≡ b → (b && s u) ≡ (b && t u)
     at u true e = same u (ltb-true u n e)
@@ -292,51 +328,76 @@ listed-same n s t same =
 
 -- a set is the list of its own numbers
 pub listed-is : (n : ℕ) (xs : List ℕ) → IsSet n xs → listed n (has xs) ≡ xs
-listed-is n xs s = same_sets (listed n (has xs)) xs (IsRising-listed n (has xs)) s.rising (λ u. has-listed n (has xs) u ∙ at u (nat_lt u n) (has xs u) refl refl)
+listed-is n xs s =
+    same_sets (listed n (has xs)) xs (IsRising-listed n (has xs)) s.rising
+    (λ u. has-listed n (has xs) u ∙ at u (nat_lt u n) (has xs u) refl refl)
   where
     at : (u : ℕ) (a b : Bool) → nat_lt u n ≡ a → has xs u ≡ b → (a && b) ≡ b
     at u true b p q = refl
-    at u false true p q = absurd (both_ways (nat_lt u n) p (lt-ltb u n (has_below n xs u s.below q)))
+    at u false true p q =
+        absurd (both_ways (nat_lt u n) p (lt-ltb u n (has_below n xs u s.below q)))
     at u false false p q = refl
 
 -- ---- length
 
-pub length-within : (xs ys : List ℕ) → IsRising xs → IsRising ys → IsWithin (has xs) (has ys) → length xs ≤ length ys
+pub length-within : (xs ys : List ℕ) → IsRising xs → IsRising ys → IsWithin (has xs) (has ys)
+    → length xs ≤ length ys
 length-within [] ys r s w = omega arith
 length-within (x ∷ xs) [] r s w = absurd (both_ways false refl (w x (has-first x xs)))
 length-within (x ∷ xs) (y ∷ ys) r s w = elim (cases_order x y) [
   | inl e ↦ omega (arith, length-within xs ys r.1 s.1 (same e))
   | inr d ↦ elim d [
-    | inl lt ↦ absurd (both_ways (has (y ∷ ys) x) (or_from (y == x) (has ys x) (ne_eqb y x (λ e. omega arith)) (below_not_had y x ys (omega arith) s.0)) (w x (has-first x xs)))
+    | inl lt
+        ↦ absurd
+        (both_ways (has (y ∷ ys) x)
+        (or_from (y == x) (has ys x) (ne_eqb y x (λ e. omega arith))
+        (below_not_had y x ys (omega arith) s.0)) (w x (has-first x xs)))
     | inr gt ↦ omega (arith, length-within (x ∷ xs) ys r s.1 (above gt))
   ]
 ]
   where
-    -- what is in ys apart from y
+    -- a number of y ∷ ys other than y is in ys
     rest_of : (u : ℕ) → (y ≡ u → ⊥) → has (y ∷ ys) u ≡ true → has ys u ≡ true
-    rest_of u ne e = elim (or_cases (y == u) (has ys u) e) [ inl q ↦ absurd (ne (eqb-true y u q)) | inr q ↦ q ]
+    rest_of u ne e =
+        elim (or_cases (y == u) (has ys u) e) [ inl q ↦ absurd (ne (eqb-true y u q)) | inr q ↦ q ]
 
     same : x ≡ y → IsWithin (has xs) (has ys)
-    same e u h = rest_of u (λ q. both_ways (has xs u) (below_not_had x u xs (omega arith) r.0) h) (w u (has-rest x u xs h))
+    same e u h =
+        rest_of u (λ q. both_ways (has xs u) (below_not_had x u xs (omega arith) r.0) h)
+        (w u (has-rest x u xs h))
 
     above : y < x → IsWithin (has (x ∷ xs)) (has ys)
-    above gt u h = rest_of u (λ q. both_ways (has (x ∷ xs) u) (or_from (x == u) (has xs u) (ne_eqb x u (λ e. omega arith)) (below_not_had x u xs (omega arith) r.0)) h) (w u h)
+    above gt u h =
+        rest_of u
+        (λ q. both_ways (has (x ∷ xs) u)
+        (or_from (x == u) (has xs u) (ne_eqb x u (λ e. omega arith))
+        (below_not_had x u xs (omega arith) r.0)) h) (w u h)
 
-length-with_number_at : (u x : ℕ) (xs : List ℕ) (a b : Bool) → (x == u) ≡ b → has (x ∷ xs) u ≡ false → length (with_number u xs) ≡ suc (length xs) → length (cond a (u ∷ x ∷ xs) (cond b (x ∷ xs) (x ∷ with_number u xs))) ≡ suc (suc (length xs))
+length-with_number_at : (u x : ℕ) (xs : List ℕ) (a b : Bool) → (x == u) ≡ b → has (x ∷ xs) u ≡ false
+    → length (with_number u xs) ≡ suc (length xs)
+    → length (cond a (u ∷ x ∷ xs) (cond b (x ∷ xs) (x ∷ with_number u xs))) ≡ suc (suc (length xs))
 length-with_number_at u x xs true b e h ih = refl
-length-with_number_at u x xs false true e h ih = absurd (both_ways (has (x ∷ xs) u) h (or_left (x == u) (has xs u) e))
+length-with_number_at u x xs false true e h ih =
+    absurd (both_ways (has (x ∷ xs) u) h (or_left (x == u) (has xs u) e))
 length-with_number_at u x xs false false e h ih = ap suc ih
 
--- one number more, where it was not there
-pub length-with_number : (u : ℕ) (xs : List ℕ) → has xs u ≡ false → length (with_number u xs) ≡ suc (length xs)
+-- adding a number that the set lacks makes it longer by one
+pub length-with_number : (u : ℕ) (xs : List ℕ) → has xs u ≡ false
+    → length (with_number u xs) ≡ suc (length xs)
 length-with_number u [] h = refl
 length-with_number u (x ∷ xs) h =
-    length-with_number_at u x xs (nat_lt u x) (x == u) refl h (length-with_number u xs (or_parts (x == u) (has xs u) h).1)
+    length-with_number_at u x xs (nat_lt u x) (x == u) refl h
+    (length-with_number u xs (or_parts (x == u) (has xs u) h).1)
 
 -- a subset that lacks a number is shorter
-pub length-less : (xs ys : List ℕ) (u : ℕ) → IsRising xs → IsRising ys → IsWithin (has xs) (has ys) → has ys u ≡ true → has xs u ≡ false → length xs < length ys
+pub length-less : (xs ys : List ℕ) (u : ℕ) → IsRising xs → IsRising ys → IsWithin (has xs) (has ys)
+    → has ys u ≡ true → has xs u ≡ false → length xs < length ys
 length-less xs ys u r s w in_ys not_in_xs =
-    omega (arith, length-with_number u xs not_in_xs, length-within (with_number u xs) ys (IsRising-with_number u xs r) s within)
+    omega (
+      arith,
+      length-with_number u xs not_in_xs,
+      length-within (with_number u xs) ys (IsRising-with_number u xs r) s within,
+    )
   where
     within : IsWithin (has (with_number u xs)) (has ys)
     within v h = elim (or_cases (u == v) (has xs v) (sym (has-with_number u xs v) ∙ h)) [
@@ -345,15 +406,18 @@ length-less xs ys u r s w in_ys not_in_xs =
     ]
 
 -- a subset that is no shorter is the same list
-pub same_length : (xs ys : List ℕ) → IsRising xs → IsRising ys → IsWithin (has xs) (has ys) → length ys ≤ length xs → xs ≡ ys
+pub same_length : (xs ys : List ℕ) → IsRising xs → IsRising ys → IsWithin (has xs) (has ys)
+    → length ys ≤ length xs → xs ≡ ys
 same_length xs ys r s w le =
     same_sets xs ys r s (λ u. same_tests (has xs u) (has ys u) (w u) (λ h.
     true_from_ne_false (has xs u) (λ no. let lt = length-less xs ys u r s w h no in omega arith)))
 
 -- a subset that is another list is shorter
-pub length-lt_of_ne : (xs ys : List ℕ) → IsRising xs → IsRising ys → IsWithin (has xs) (has ys) → (xs ≡ ys → ⊥) → length xs < length ys
+pub length-lt_of_ne : (xs ys : List ℕ) → IsRising xs → IsRising ys → IsWithin (has xs) (has ys)
+    → (xs ≡ ys → ⊥) → length xs < length ys
 length-lt_of_ne xs ys r s w ne =
-    elim (cases_lt (length xs) (length ys)) [ inl lt ↦ lt | inr le ↦ absurd (ne (same_length xs ys r s w le)) ]
+    elim (cases_lt (length xs) (length ys))
+    [ inl lt ↦ lt | inr le ↦ absurd (ne (same_length xs ys r s w le)) ]
 
 -- a set of numbers below n has at most n
 pub length_listed : (n : ℕ) (t : ℕ → Bool) → length (listed n t) ≤ n
@@ -366,4 +430,9 @@ length_listed (suc n) t = at (t n) (length_listed n t)
     at false ih = let e = length-append (listed n t) [] in omega arith
 
 pub length_below : (n : ℕ) (xs : List ℕ) → IsRising xs → AreBelow n xs → length xs ≤ n
-length_below n xs r b = omega (arith, ap length (listed-is n xs record { rising = r; below = b }), length_listed n (has xs))
+length_below n xs r b =
+    omega (
+      arith,
+      ap length (listed-is n xs record { rising = r; below = b }),
+      length_listed n (has xs),
+    )

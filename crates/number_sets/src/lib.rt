@@ -1,6 +1,8 @@
-//! Sets of numbers: as tests, as rising lists, and the bridge between the two.
+//! Sets of numbers, as tests and as rising lists.
 //!
-//! A set in a definition is a test `ℕ → Bool`, and a set in a contract is the rising list of its numbers: `has xs` is the
-//! test of a list, and `listed n t` the list of a test. `specs/Sets` has both with their operations, `specs/Options` the
-//! sets between a base and the base with free numbers, in numeric order. The lemmas in `proofs/` are for other crates.
+//! A definition uses a set as a test `ℕ → Bool`; a contract uses it as the rising list of its
+//! numbers. `has xs` is the test of a list, and `listed n t` the list of a test.
+//!
+//! `specs/Sets` has both forms with their operations. `specs/Options` has the sets between a base
+//! and the base with free numbers, in numeric order. The lemmas in `proofs/` are for other crates.
 #![tactic(auto)]

@@ -1,5 +1,6 @@
 //! The command `merge`.
-ghost use Rattle.std.specs.Prelude.{◌≡◌, ◌<◌, ◌⊎◌, ◌++◌, List, ℕ, [], IfOk, get_or, length, map, string_bytes};
+ghost use Rattle.std.specs.Prelude.{◌≡◌, ◌<◌, ◌⊎◌, ◌++◌, List, ℕ, [], IfOk, get_or, length, map};
+ghost use Rattle.std.specs.Prelude.{string_bytes};
 ghost use Rattle.std.specs.List.{Contains};
 ghost use Rattle.problem_rules.specs.Each.{Each};
 ghost use Rattle.tree_rules.specs.Known.{KnowsClaim, KnowsTree};
@@ -9,7 +10,9 @@ ghost use Rattle.part_rules.specs.Spelling.{KnowsPart};
 ghost use Rattle.tree_text_rules.specs.Spelling.{tree_text_lines};
 ghost use Rattle.studio_rules.specs.Reading.{OnFile};
 ghost use Rattle.studio_rules.specs.TreeFile.{OnTree};
-ghost use Rattle.studio_rules.specs.Merge.{TreeRefused, PartRefused, FaultSays, MergeSays, MergeWork, part_claim_line, part_node_line, no_leaf_line};
+ghost use Rattle.studio_rules.specs.Merge.{TreeRefused, PartRefused, FaultSays, MergeSays};
+ghost use Rattle.studio_rules.specs.Merge.{MergeWork, part_claim_line, part_node_line};
+ghost use Rattle.studio_rules.specs.Merge.{no_leaf_line};
 ghost use Rattle.studio_rules.specs.PartFile.{are_several};
 ghost use Rattle.studio_rules.specs.Lines.{line};
 ghost use Rattle.studio_rules.specs.Printed.{OneAnswer};
@@ -34,7 +37,8 @@ use tree_rules::{Refusal, Why};
 use tree_text::print_tree;
 
 fn part_claim_line(alloc: Global, several: bool, name: &str, why: Why) -> Result<String, AllocError>
-    ensures { IfOk result (λ text. string_bytes text ≡ line (part_claim_line several name.now why)) }
+    ensures { IfOk result
+        (λ text. string_bytes text ≡ line (part_claim_line several name.now why)) }
 {
     let mut text = String::from_str(alloc, "refused ")?;
     push_part(&mut text, several, name)?;
@@ -51,7 +55,8 @@ fn part_node_line(
     node: u32,
     why: Why,
 ) -> Result<String, AllocError>
-    ensures { IfOk result (λ text. string_bytes text ≡ line (part_node_line several name.now node why)) }
+    ensures { IfOk result
+        (λ text. string_bytes text ≡ line (part_node_line several name.now node why)) }
 {
     let mut text = String::from_str(alloc, "refused ")?;
     push_part(&mut text, several, name)?;
@@ -151,7 +156,9 @@ fn say_tree_text<K: Sink, E: Sink>(
 ) -> Status
     requires claim { KnowsClaim problem.now (claim_of claim.now) }
     requires tree { KnowsTree problem.now tree.now }
-    ensures { Ends (Tells (OneAnswer Done (tree_text_lines problem.now (claim_of claim.now) tree.now whole))) out.old out.new result }
+    ensures { Ends
+        (Tells (OneAnswer Done (tree_text_lines problem.now (claim_of claim.now) tree.now whole)))
+        out.old out.new result }
 {
     let printed = print_tree(alloc, problem, claim, tree, &Tail::Whole, &mut out.out);
     say_printed(out, printed, Status::Done)
@@ -171,7 +178,9 @@ fn say_put_back<K: Sink, E: Sink>(
     requires tree { KnowsTree site.now tree }
     requires parts { Each (KnowsPart site.now) parts.now }
     requires count { length parts.now ≡ length names.now }
-    ensures { Ends (Tells (MergeSays (map string_bytes names.now) site.now (claim_of claim) tree parts.now)) out.old out.new result }
+    ensures { Ends
+        (Tells (MergeSays (map string_bytes names.now) site.now (claim_of claim) tree parts.now))
+        out.old out.new result }
 {
     match merge_all(alloc, site, claim, tree, parts) {
         Ok((both, grown)) => say_tree_text(alloc, out, site.problem(), &both, &grown),
@@ -196,7 +205,10 @@ fn say_merged<K: Sink, E: Sink>(
     requires tree { KnowsTree problem.now tree }
     requires parts { Each (KnowsPart problem.now) parts.now }
     requires count { length parts.now ≡ length names.now }
-    ensures { Ends (Tells (MergeSays (map string_bytes names.now) problem.now (claim_of claim) tree parts.now)) out.old out.new result }
+    ensures { Ends
+        (Tells
+        (MergeSays (map string_bytes names.now) problem.now (claim_of claim) tree parts.now))
+        out.old out.new result }
 {
     let Ok(graph) = Graph::of(alloc, problem) else {
         return say_memory(out);
@@ -216,7 +228,10 @@ fn say_parts<F: Shelf, K: Sink, E: Sink>(
 ) -> Status
     requires claim { KnowsClaim problem.now (claim_of claim) }
     requires tree { KnowsTree problem.now tree }
-    ensures ends { Ends (Says (MergeWork (F.state shelf.old).held (map string_bytes names.now) problem.now (claim_of claim) tree) (Contains (map string_bytes names.now))
+    ensures ends { Ends
+        (Says
+        (MergeWork (F.state shelf.old).held (map string_bytes names.now) problem.now
+        (claim_of claim) tree) (Contains (map string_bytes names.now))
         (F.state shelf.old) (F.state shelf.new)) out.old out.new result }
     ensures keeps { Keeps (F.state shelf.old) (F.state shelf.new) }
 {
@@ -234,8 +249,12 @@ fn say_tree<F: Shelf, K: Sink, E: Sink>(
     shelf: &mut F,
     out: &mut Outputs<K, E>,
 ) -> Status
-    ensures ends { Ends (Says (OnTree (MergeWork (F.state shelf.old).held (map string_bytes names.now)) (F.state shelf.old).held name.now problem.now)
-        (λ other. (other ≡ name.now) ⊎ Contains (map string_bytes names.now) other) (F.state shelf.old) (F.state shelf.new)) out.old out.new result }
+    ensures ends { Ends
+        (Says
+        (OnTree (MergeWork (F.state shelf.old).held (map string_bytes names.now))
+        (F.state shelf.old).held name.now problem.now)
+        (λ other. (other ≡ name.now) ⊎ Contains (map string_bytes names.now) other)
+        (F.state shelf.old) (F.state shelf.new)) out.old out.new result }
     ensures keeps { Keeps (F.state shelf.old) (F.state shelf.new) }
 {
     match tree_of(alloc, shelf, out, name, problem) {
@@ -254,8 +273,14 @@ pub fn merge<F: Shelf, K: Sink, E: Sink>(
     shelf: &mut F,
     out: &mut Outputs<K, E>,
 ) -> Status
-    ensures ends { Ends (Says (OnFile (OnTree (MergeWork (F.state shelf.old).held (map string_bytes parts.now)) (F.state shelf.old).held tree.now) (F.state shelf.old).held file.now)
-        (λ other. (other ≡ file.now) ⊎ ((other ≡ tree.now) ⊎ Contains (map string_bytes parts.now) other)) (F.state shelf.old) (F.state shelf.new)) out.old out.new result }
+    ensures ends { Ends
+        (Says
+        (OnFile
+        (OnTree (MergeWork (F.state shelf.old).held (map string_bytes parts.now))
+        (F.state shelf.old).held tree.now) (F.state shelf.old).held file.now)
+        (λ other. (other ≡ file.now)
+        ⊎ ((other ≡ tree.now) ⊎ Contains (map string_bytes parts.now) other))
+        (F.state shelf.old) (F.state shelf.new)) out.old out.new result }
     ensures keeps { Keeps (F.state shelf.old) (F.state shelf.new) }
 {
     match problem_of(alloc, shelf, out, file) {

@@ -1,11 +1,13 @@
 //! The files of parts: each is read and judged by its grammar.
-ghost use Rattle.std.specs.Prelude.{◌≡◌, ◌++◌, ℕ, List, IfOk, IfErr, OnOk, codes, map, string_bytes};
+ghost use Rattle.std.specs.Prelude.{◌≡◌, ◌++◌, ℕ, List, IfOk, IfErr, OnOk, codes, map};
+ghost use Rattle.std.specs.Prelude.{string_bytes};
 ghost use Rattle.std.specs.List.{Contains};
 ghost use Rattle.problem_rules.specs.Each.{Each};
 ghost use Rattle.studio_rules.specs.Lines.{line};
 ghost use Rattle.part_rules.specs.Spelling.{KnowsPart};
 ghost use Rattle.studio_rules.specs.Reading.{AreHeld};
-ghost use Rattle.studio_rules.specs.PartFile.{GivesPart, PartFaults, GiveParts, FirstFault, are_several, part_words, part_fault_line};
+ghost use Rattle.studio_rules.specs.PartFile.{GivesPart, PartFaults, GiveParts, FirstFault};
+ghost use Rattle.studio_rules.specs.PartFile.{are_several, part_words, part_fault_line};
 ghost use Rattle.studio_rules.specs.Ending.{Ends, Says, Only, OrMemory};
 ghost use Rattle.studio_rules.specs.Keeps.{Keeps};
 ghost use Rattle.studio_rules.specs.declared.status.Status.TheVariants.{BadTree};
@@ -27,7 +29,8 @@ const PART_LIMIT: u64 = 268_435_456;
 
 /// The words by which a line names a part: with the name of its file, if there are several.
 pub(crate) fn push_part(text: &mut String, several: bool, name: &str) -> Result<(), AllocError>
-    ensures { OnOk result (string_bytes text.new ≡ string_bytes text.old ++ part_words several name.now) }
+    ensures { OnOk result
+        (string_bytes text.new ≡ string_bytes text.old ++ part_words several name.now) }
 {
     text.push_str("part")?;
     if several {
@@ -44,7 +47,8 @@ fn part_fault_line(
     number: u32,
     kind: TreeKind,
 ) -> Result<String, AllocError>
-    ensures { IfOk result (λ text. string_bytes text ≡ line (part_fault_line several name.now number kind)) }
+    ensures { IfOk result
+        (λ text. string_bytes text ≡ line (part_fault_line several name.now number kind)) }
 {
     let mut text = String::new(alloc);
     push_part(&mut text, several, name)?;
@@ -66,11 +70,16 @@ fn part_of<F: Shelf, K: Sink, E: Sink>(
     name: &str,
     problem: &Problem,
 ) -> Result<Part, Status>
-    ensures part { IfOk result (λ part. (file : List ℕ) × AreHeld ((F.state shelf.old).held name.now) file × GivesPart problem.now file part) }
+    ensures part { IfOk result
+        (λ part. (file : List ℕ) × AreHeld ((F.state shelf.old).held name.now) file
+        × GivesPart problem.now file part) }
     ensures known { IfOk result (KnowsPart problem.now) }
     ensures silent { OnOk result (out.new ≡ out.old) }
     ensures keeps { Keeps (F.state shelf.old) (F.state shelf.new) }
-    ensures told { IfErr result (Ends (Says (PartFaults several (F.state shelf.old).held name.now problem.now) (λ other. other ≡ name.now) (F.state shelf.old) (F.state shelf.new)) out.old out.new) }
+    ensures told { IfErr result
+        (Ends
+        (Says (PartFaults several (F.state shelf.old).held name.now problem.now)
+        (λ other. other ≡ name.now) (F.state shelf.old) (F.state shelf.new)) out.old out.new) }
 {
     let bytes = match bytes_of(alloc, shelf, out, name, PART_LIMIT) {
         Ok(bytes) => bytes,
@@ -100,11 +109,16 @@ pub(crate) fn parts_of<F: Shelf, K: Sink, E: Sink>(
     names: &[String],
     problem: &Problem,
 ) -> Result<Vec<Part>, Status>
-    ensures parts { IfOk result (λ parts. GiveParts (F.state shelf.old).held problem.now (map string_bytes names.now) parts.items) }
+    ensures parts { IfOk result
+        (λ parts. GiveParts (F.state shelf.old).held problem.now (map string_bytes names.now)
+        parts.items) }
     ensures known { IfOk result (λ parts. Each (KnowsPart problem.now) parts.items) }
     ensures silent { OnOk result (out.new ≡ out.old) }
     ensures keeps { Keeps (F.state shelf.old) (F.state shelf.new) }
-    ensures told { IfErr result (Ends (Says (FirstFault (F.state shelf.old).held (map string_bytes names.now) problem.now) (Contains (map string_bytes names.now))
+    ensures told { IfErr result
+        (Ends
+        (Says (FirstFault (F.state shelf.old).held (map string_bytes names.now) problem.now)
+        (Contains (map string_bytes names.now))
         (F.state shelf.old) (F.state shelf.new)) out.old out.new) }
 {
     let several = 1 < names.len();

@@ -77,7 +77,8 @@ fn say_open<K: Sink, E: Sink>(
     tree: &Tree,
 ) -> Status
     requires few { length tree.now < 2 ^ 32 }
-    ensures { Ends (Tells (SplitWork site.now (claim_of claim.now) tree.now)) out.old out.new result }
+    ensures { Ends (Tells (SplitWork site.now (claim_of claim.now) tree.now)) out.old out.new
+        result }
 {
     match open_leaves(alloc, site, claim, tree) {
         Ok(leaves) => say_leaves(alloc, out, &leaves),
@@ -100,7 +101,8 @@ fn say_split<K: Sink, E: Sink>(
     tree: &Tree,
 ) -> Status
     requires few { length tree.now < 2 ^ 32 }
-    ensures { Ends (Tells (SplitWork problem.now (claim_of claim.now) tree.now)) out.old out.new result }
+    ensures { Ends (Tells (SplitWork problem.now (claim_of claim.now) tree.now)) out.old out.new
+        result }
 {
     let Ok(graph) = Graph::of(alloc, problem) else {
         return say_memory(out);
@@ -116,7 +118,10 @@ fn say_tree<F: Shelf, K: Sink, E: Sink>(
     shelf: &mut F,
     out: &mut Outputs<K, E>,
 ) -> Status
-    ensures ends { Ends (Says (OnTree SplitWork (F.state shelf.old).held name.now problem.now) (λ other. other ≡ name.now) (F.state shelf.old) (F.state shelf.new)) out.old out.new result }
+    ensures ends { Ends
+        (Says (OnTree SplitWork (F.state shelf.old).held name.now problem.now)
+        (λ other. other ≡ name.now) (F.state shelf.old) (F.state shelf.new)) out.old out.new
+        result }
     ensures keeps { Keeps (F.state shelf.old) (F.state shelf.new) }
 {
     match tree_of(alloc, shelf, out, name, problem) {
@@ -134,7 +139,9 @@ pub fn split<F: Shelf, K: Sink, E: Sink>(
     shelf: &mut F,
     out: &mut Outputs<K, E>,
 ) -> Status
-    ensures ends { Ends (TwoFilesSay (OnTree SplitWork) file.now tree.now (F.state shelf.old) (F.state shelf.new)) out.old out.new result }
+    ensures ends { Ends
+        (TwoFilesSay (OnTree SplitWork) file.now tree.now (F.state shelf.old) (F.state shelf.new))
+        out.old out.new result }
     ensures keeps { Keeps (F.state shelf.old) (F.state shelf.new) }
 {
     match problem_of(alloc, shelf, out, file) {

@@ -1,6 +1,7 @@
 -- What is claimed at the end of several merges: a network that costs no more than any that was
 -- claimed, and is one of those.
-use Rattle.std.proofs.Common.{◌≡◌, ◌⊎◌, inl, inr, pos, ◌*ℤ◌, ◌≤ℤ◌, Bool, true, false, int_lt, List, [], ◌∷◌, refl, sym, ap, ◌∙◌, subst, arith, if◌then◌else◌}
+use Rattle.std.proofs.Common.{◌≡◌, ◌⊎◌, inl, inr, pos, ◌*ℤ◌, ◌≤ℤ◌, Bool, true, false, int_lt, List}
+use Rattle.std.proofs.Common.{[], ◌∷◌, refl, sym, ap, ◌∙◌, subst, arith, if◌then◌else◌}
 use Rattle.std.proofs.lemmas.Int.{ints}
 use Rattle.problem_rules.specs.Each.{Each}
 use Rattle.problem_rules.specs.Problem.{Problem}
@@ -23,7 +24,7 @@ record HasAsCheap (claim : Claim) (v : Network) : Type 0 where
   positive : pos 1 ≤ℤ cheap.d
   less : IsNoDearer (cost_of cheap) (cost_of v)
 
--- where the second claims a network over a number of at least 1
+-- if the second claims a network over a number of at least 1
 abbrev IsUnder : Claim → Claim → Type 0
 IsUnder claim (network v) = pos 1 ≤ℤ v.d → HasAsCheap claim v
 IsUnder claim infeasible = Unit {0}
@@ -135,7 +136,7 @@ record IsLast (p : Problem) (both : Claim) (whole : Tree) : Type 0 where
   is_settled : both ≡ settled both whole
 
 module _ (p : Problem) where
-  -- what comes of them is under all that was claimed
+  -- what is claimed after them is under all that was claimed
   under_all : (claim both : Claim) (tree whole : Tree) (ps : List Part)
       → AreMerged p claim tree ps both whole
       → IsUnder both claim × Each (λ part. IsUnder both part.claim) ps
@@ -153,7 +154,7 @@ module _ (p : Problem) where
         (under_next both h.0 part.claim rest.0 here.1, rest.1),
       )
 
-  -- and one of those, where it is a network
+  -- and is one of those, if it is a network
   of_all : (Q : Claim → Type 0) → Q infeasible → Q unknown → (claim both : Claim)
       (tree whole : Tree) (ps : List Part) → AreMerged p claim tree ps both whole
       → Q claim → Each (λ part. Q part.claim) ps → Q both

@@ -1,5 +1,6 @@
 -- Parts in the places of open leaves, in any order: the same tree.
-use Rattle.std.proofs.Common.{◌≡◌, ℕ, zero, suc, ◌+◌, ◌<◌, true, List, [], ◌∷◌, ◌++◌, length, refl, sym, ap, ◌∙◌, subst, inl, inr}
+use Rattle.std.proofs.Common.{◌≡◌, ℕ, zero, suc, ◌+◌, ◌<◌, true, List, [], ◌∷◌, ◌++◌, length, refl}
+use Rattle.std.proofs.Common.{sym, ap, ◌∙◌, subst, inl, inr}
 use Rattle.std.proofs.lemmas.Bool.{cases_order}
 use Rattle.std.proofs.lemmas.List.Sorted.{IsPermutation-to_front}
 use Rattle.problem_rules.specs.Each.{Each}
@@ -24,7 +25,8 @@ use Rattle.part_laws.specs.Order.{StartApart, OthersStayOpen, EitherOrder, AnyOr
 use Rattle.part_laws.proofs.GraftLemmas.{passes-graft}
 use Rattle.part_laws.proofs.OpenLemmas.{graft_is_tree, graft_is_partial}
 use Rattle.part_laws.proofs.SpliceLemmas.{grafts_turn, stands_behind, kept_by}
-use Rattle.part_laws.proofs.ReorderLemmas.{Reorders, stay, under, turn, next, IsOut, reorders, each_reordered, each_front, taken_out, none_left}
+use Rattle.part_laws.proofs.ReorderLemmas.{Reorders, stay, under, turn, next, IsOut, reorders}
+use Rattle.part_laws.proofs.ReorderLemmas.{each_reordered, each_front, taken_out, none_left}
 use Rattle.part_laws.proofs.CostLemmas.{costs_agree}
 
 -- ---- the form of a tree, whatever its leaves are
@@ -65,8 +67,8 @@ one_place p valid tree h n j k s r =
 
 -- ---- two parts
 
--- The parts x and y, for the leaves k and j of the tree: where each stands once the other is in,
--- and that the same comes of both orders.
+-- The parts x and y, for the leaves k and j of the tree: the place of each once the other is in.
+-- Both orders give the same tree.
 record IsTurned (p : Problem) (tree : Tree) (x y : Part) (k j : ℕ) : Type 0 where
   x_place : ℕ
   y_place : ℕ
@@ -76,7 +78,7 @@ record IsTurned (p : Problem) (tree : Tree) (x y : Part) (k j : ℕ) : Type 0 wh
       ≡ graft_at y_place (graft_at k tree x.tree) y.tree
 
 module _ (p : Problem) where
-  -- an open leaf behind the part, and where each other part comes then
+  -- an open leaf after the part, and the place of each other part then
   behind : (tree part : Tree) (k j : ℕ) (n o : Node) → k < j → IsTree part → HasForm p n part
       → IsOpenAt p tree k n → IsOpenAt p tree j o
       → (m : ℕ) × IsOpenAt p (graft_at k tree part) m o
@@ -152,7 +154,7 @@ AreGrown p tree [] whole = whole ≡ tree
 AreGrown p tree (part ∷ more) whole =
     (grown : Tree) × IsGrown p tree part grown × AreGrown p grown more whole
 
--- none of the parts starts where x does
+-- none of the parts starts at the node of x
 abbrev AreAway : Part → List Part → Type 0
 AreAway x = Each (λ other. start_of x ≡ start_of other → ⊥)
 
@@ -163,7 +165,7 @@ module _ (p : Problem) (valid : IsValid p) where
       passes-graft (shape_of p) AnyLeaf (first_node ∷ []) tree part.tree k (start_of part)
       f.whole h s f.form
 
-  -- a part whose leaf is one of the tree may come before the others, where it stands behind them
+  -- a part whose leaf is one of the tree may come before the others, if it is after them
   to_front : (x : Part) (front back : List Part) (tree whole : Tree) (k : ℕ)
       → HasForm p first_node tree → IsFormed p x → Each (IsFormed p) front → AreAway x front
       → IsLeafOf p tree x k

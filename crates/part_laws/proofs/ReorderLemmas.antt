@@ -1,5 +1,6 @@
--- Lists with the same items, by turns of two that stand side by side.
-use Rattle.std.proofs.Common.{◌≡◌, ℕ, zero, suc, ◌<◌, List, [], ◌∷◌, ◌++◌, length, get_or, set, IsPermutation, ap, subst, arith}
+-- Lists with the same items, by exchanges of two neighbours.
+use Rattle.std.proofs.Common.{◌≡◌, ℕ, zero, suc, ◌<◌, List, [], ◌∷◌, ◌++◌, length, get_or, set}
+use Rattle.std.proofs.Common.{IsPermutation, ap, subst, arith}
 use Rattle.std.specs.Prelude.{swap}
 use Rattle.std.proofs.lemmas.List.Sorted.{IsPermutation-keeps}
 use Rattle.problem_rules.specs.Each.{Each}
@@ -10,7 +11,7 @@ pub data Reorders {X : Type 0} : List X → List X → Type 0 where
   turn : {x y : X} {xs : List X} → Reorders (x ∷ y ∷ xs) (y ∷ x ∷ xs)
   next : {xs ys zs : List X} → Reorders xs ys → Reorders ys zs → Reorders xs zs
 
--- the list has x somewhere, and besides the items of `rest`
+-- the list has x somewhere, and also the items of `rest`
 pub record IsOut {X : Type 0} (x : X) (rest ys : List X) : Type 0 where
   pub front : List X
   pub back : List X

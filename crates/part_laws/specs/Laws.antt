@@ -1,4 +1,4 @@
--- Laws of the parts of a tree, each of which a public function of this crate has as its contract.
+-- Laws of the parts of a tree, each the contract of a public function of this crate.
 use Rattle.std.specs.Prelude.{ℕ, List, [], ◌∷◌, ◌↔◌}
 use Rattle.problem_rules.specs.Problem.{Problem}
 use Rattle.pns_rules.specs.Shape.{Shape, shape_of}
@@ -12,18 +12,21 @@ use Rattle.part_rules.specs.Graft.{graft_at, claim_of_both}
 
 -- ---- open leaves
 
--- the list has just the open leaves of a tree, each with the node at which it stands
+-- the list has just the open leaves of a tree, each with its node
 abbrev pub OpenLeavesStand : Type 0
 OpenLeavesStand =
     (g : Shape) (n : Node) (tree : Tree) (l : OpenAt)
-    → IsAmong l (open_leaves g (n ∷ []) tree 0) ↔ Stands g (n ∷ []) tree l.number l.node (leaf untried)
+    → IsAmong l (open_leaves g (n ∷ []) tree 0)
+    ↔ Stands g (n ∷ []) tree l.number l.node (leaf untried)
 
 -- ---- grafts
 
--- A part of a partial tree for the node of an open leaf, in the leaf's place: one whole tree, which proves the claim of both but for
--- its open leaves.
+-- A part of a partial tree for the node of an open leaf, in the leaf's place: one whole tree, which
+-- proves the claim of both but for its open leaves.
 abbrev pub GraftIsTree : Type 0
-GraftIsTree = (g : Shape) (ns : List Node) (k : ℕ) (n : Node) (tree part : Tree) → Stands g ns tree k n (leaf untried) → IsTree tree → IsTree part → IsTree (graft_at k tree part)
+GraftIsTree = (g : Shape) (ns : List Node) (k : ℕ) (n : Node) (tree part : Tree)
+    → Stands g ns tree k n (leaf untried) → IsTree tree → IsTree part
+    → IsTree (graft_at k tree part)
 
 abbrev pub GraftIsPartial : Type 0
 GraftIsPartial =

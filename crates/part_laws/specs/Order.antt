@@ -1,5 +1,5 @@
--- Parts that are put back in any order: the tree that comes of them is the same, and what is
--- claimed of it costs the same. The networks may differ where two cost the same.
+-- Parts that are put back in any order make the same tree, and what is claimed of it costs the
+-- same. The networks may differ if two cost the same.
 use Rattle.std.specs.Prelude.{◌≡◌, ℕ, ◌*ℤ◌, List, [], ◌∷◌, IsPermutation}
 use Rattle.problem_rules.specs.Each.{Each}
 use Rattle.problem_rules.specs.Problem.{Problem}
@@ -22,15 +22,15 @@ SameCost infeasible infeasible = Unit {0}
 SameCost unknown unknown = Unit {0}
 SameCost claim other = ⊥
 
--- No two of the parts start at one node. Where two do, the order may tell: a branch at a material
--- whose makers are all decided has at most one child, which stands at the same node, so each of the
+-- No two of the parts start at one node. If two do, the order may matter. A branch at a material
+-- whose makers are all decided has at most one child, and that is at the same node. So each of the
 -- two may branch at another such material and leave the child open for the other.
 abbrev pub StartApart : List Part → Type 0
 StartApart [] = Unit {0}
 StartApart (part ∷ more) =
     Each (λ other. start_of part ≡ start_of other → ⊥) more × StartApart more
 
--- where a part is put back, each open leaf at another node stays open
+-- when a part is put back, each open leaf at another node stays open
 abbrev pub OthersStayOpen : Type 0
 OthersStayOpen =
     (p : Problem) (claim both : Claim) (tree whole : Tree) (part : Part) (k : ℕ) (n : Node)
@@ -57,7 +57,7 @@ AnyOrder =
     → AreMerged p claim tree ps one whole → AreMerged p claim tree qs other same
     → (whole ≡ same) × SameCost one other
 
--- Where each is for an open leaf of the tree itself, and one order of them can be put back, so can
+-- If each is for an open leaf of the tree itself, and one order of them can be put back, so can
 -- each other order.
 abbrev pub EachOrder : Type 0
 EachOrder =

@@ -1,5 +1,5 @@
--- Several parts in the places of open leaves of one tree. A place is that of the leaf in the tree itself, so the parts are put in from the
--- last place on: a part moves no node that stands before it.
+-- Several parts in the places of open leaves of one tree. A place is that of the leaf in the tree
+-- itself. So the parts are put in from the last place on: a part moves no node before it.
 use Rattle.std.specs.Prelude.{◌<◌, ℕ, true, List, [], ◌∷◌, Option, if◌then◌else◌}
 use Rattle.problem_rules.specs.Problem.{Problem}
 use Rattle.pns_rules.specs.Shape.{shape_of}
@@ -19,7 +19,7 @@ abbrev pub spliced : List Splice → Tree → Tree
 spliced [] tree = tree
 spliced (s ∷ ss) tree = graft_at s.place (spliced ss tree) s.part
 
--- all places are before k, or all are behind it
+-- all places are before k, or all are after it
 abbrev pub AllBelow : ℕ → List Splice → Type 0
 AllBelow k [] = Unit {0}
 AllBelow k (s ∷ ss) = (s.place < k) × AllBelow k ss
@@ -33,7 +33,8 @@ abbrev pub AreRising : List Splice → Type 0
 AreRising [] = Unit {0}
 AreRising (s ∷ ss) = AllAbove s.place ss × AreRising ss
 
--- the place is that of an open leaf, and the part is one whole tree that passes from the leaf's node, against some cost
+-- the place is that of an open leaf, and the part is one whole tree that passes from the leaf's
+-- node, for some claimed cost
 pub record IsPut (p : Problem) (start : Node) (tree : Tree) (s : Splice) : Type 0 where
   pub node : Node
   pub claimed : Option CostOver
@@ -45,12 +46,13 @@ abbrev pub ArePut : Problem → Node → Tree → List Splice → Type 0
 ArePut p start tree [] = Unit {0}
 ArePut p start tree (s ∷ ss) = IsPut p start tree s × ArePut p start tree ss
 
--- a claimed network; where there is none, nothing is claimed while a leaf is open, and else that there is none
+-- the network of the claim; if there is none, nothing is claimed while a leaf is open, and else
+-- that there is none
 abbrev pub settled : Claim → Tree → Claim
 settled (network w) tree = network w
 settled claim tree = if has_open tree then unknown else infeasible
 
--- the cheapest network that is claimed, the first where none is cheaper
+-- the cheapest network that is claimed, the first if none is cheaper
 abbrev pub cheapest : Claim → Claim → Claim
 cheapest (network w) (network v) = network (cheaper w v)
 cheapest (network w) claim = network w

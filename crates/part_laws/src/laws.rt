@@ -6,20 +6,20 @@ pub fn open_leaves_stand()
     ensures { OpenLeavesStand }
 {}
 
-/// A part for the node of an open leaf, in the place of the leaf, makes one whole tree; where both prove their claims but for their open
-/// leaves, it proves the claim of both but for its own.
+/// A part for the node of an open leaf, in the place of the leaf, makes one whole tree. If both
+/// prove their claims but for their open leaves, it proves the claim of both but for its own.
 pub fn grafts_are_partial()
     ensures tree { GraftIsTree }
     ensures partial { GraftIsPartial }
 {}
 
-/// Where a part is put back, the other open leaves of the tree stay open, each at its node.
+/// When a part is put back, the other open leaves of the tree stay open, each at its node.
 pub fn others_stay_open()
     ensures { OthersStayOpen }
 {}
 
 /// Parts that start at different nodes make one tree, in whatever order they are put back, and what
-/// is claimed of it costs the same. Where each is for an open leaf of the tree itself, and one order
+/// is claimed of it costs the same. If each is for an open leaf of the tree itself, and one order
 /// of them can be put back, so can each other order.
 pub fn order_is_free()
     ensures two { EitherOrder }

@@ -1,5 +1,7 @@
--- A part is a tree for the node of an open leaf, from a run of its own, with what it claims. It is put in the place of the leaf.
-use Rattle.std.specs.Prelude.{ℕ, zero, suc, ℤ, ◌*ℤ◌, Bool, true, false, ◌||◌, List, [], ◌∷◌, ◌++◌, int_lt, if◌then◌else◌}
+-- A part is a tree for the node of an open leaf, from a run of its own, with what it claims. It is
+-- put in the place of the leaf.
+use Rattle.std.specs.Prelude.{ℕ, zero, suc, ℤ, ◌*ℤ◌, Bool, true, false, ◌||◌, List, [], ◌∷◌, ◌++◌}
+use Rattle.std.specs.Prelude.{int_lt, if◌then◌else◌}
 use Rattle.tree_rules.specs.Tree.{End, leaf, TreeNode}
 use Rattle.tree_rules.specs.Leaf.{Leaf, untried}
 use Rattle.tree_rules.specs.Claim.{Network, Claim, network, infeasible, unknown}
@@ -7,11 +9,12 @@ use Rattle.tree_rules.specs.Accepted.{Tree}
 
 -- ---- the tree
 
--- the leaf with the steps and the end of the part's root: its own option, its steps first
+-- The leaf with the steps and the end of the part's root. It keeps its own option, and its own
+-- steps come first.
 abbrev pub grafted : TreeNode Leaf → TreeNode Leaf → TreeNode Leaf
 grafted t root = record { option = t.option; steps = t.steps ++ root.steps; end = root.end }
 
--- the part in the place of node k, the part's other nodes behind its root
+-- the part in the place of node k: after its root come the part's other nodes
 abbrev pub graft_at : ℕ → Tree → Tree → Tree
 graft_at k [] part = []
 graft_at k (t ∷ ts) [] = t ∷ ts
@@ -28,12 +31,12 @@ abbrev pub has_open : Tree → Bool
 has_open [] = false
 has_open (t ∷ ts) = is_open t.end || has_open ts
 
--- the cheaper network, the first where none is
+-- the cheaper network, or the first if neither is cheaper
 abbrev pub cheaper : Network → Network → Network
 cheaper w v = if int_lt (v.cost *ℤ w.d) (w.cost *ℤ v.d) then v else w
 
--- The cheaper of the networks that are claimed, the tree's own where none is cheaper; where there is none, nothing is claimed while
--- a leaf is open, and else that there is none.
+-- The network of the cheaper claim, and that of the tree if neither is cheaper. If no network is
+-- claimed, nothing is claimed while a leaf is open, and else that there is no network.
 abbrev pub claim_of_both : Claim → Claim → Tree → Claim
 claim_of_both (network w) (network v) tree = network (cheaper w v)
 claim_of_both (network w) claim tree = network w

@@ -1,5 +1,5 @@
--- What is answered where a part is put back, from the tree and the part. Each answer but want of memory has its cause, and no two
--- causes hold together.
+-- What is answered if a part is put back, from the tree and the part. Each answer but that there
+-- was no memory has its cause, and no two causes are true together.
 use Rattle.std.specs.Prelude.{◌≡◌, ℕ, true, [], ◌∷◌}
 use Rattle.problem_rules.specs.Problem.{Problem}
 use Rattle.pns_rules.specs.Shape.{shape_of}
@@ -20,10 +20,11 @@ use Rattle.part_rules.specs.Part.{start_of}
 abbrev pub IsLeafOf : Problem → trees.Tree → parts.Part → ℕ → Type 0
 IsLeafOf p tree part k = Stands (shape_of p) (first_node ∷ []) tree k (start_of part) (leaf untried)
 
--- The tree is partial from the first node, and the part from its own. The part stands in the place
--- of the one open leaf whose node is its own, the claim is that of both, and what comes of it is
+-- The tree is partial from the first node, and the part from its own. The part is put in the place
+-- of the one open leaf that has the part's node. The claim is that of both, and the result is
 -- partial.
-pub record IsMerged (p : Problem) (claim : rules.Claim) (tree : trees.Tree) (part : parts.Part) (both : rules.Claim) (whole : trees.Tree) : Type 0 where
+pub record IsMerged (p : Problem) (claim : rules.Claim) (tree : trees.Tree) (part : parts.Part)
+    (both : rules.Claim) (whole : trees.Tree) : Type 0 where
   pub tree_proves : IsPartial p first_node claim tree
   pub part_proves : IsPartial p (start_of part) part.claim part.tree
   pub place : ℕ
@@ -33,9 +34,12 @@ pub record IsMerged (p : Problem) (claim : rules.Claim) (tree : trees.Tree) (par
   pub partial : IsPartial p first_node both whole
 
 abbrev pub MergeFails : Problem → rules.Claim → trees.Tree → parts.Part → MergeFault → Type 0
-MergeFails p claim tree part (Tree refusal) = Refuses true p first_node claim tree refusal × (refusal ≡ refusals.Memory → ⊥)
+MergeFails p claim tree part (Tree refusal) =
+    Refuses true p first_node claim tree refusal × (refusal ≡ refusals.Memory → ⊥)
 MergeFails p claim tree part (Part refusal) =
-    IsPartial p first_node claim tree × Refuses true p (start_of part) part.claim part.tree refusal × (refusal ≡ refusals.Memory → ⊥)
+    IsPartial p first_node claim tree × Refuses true p (start_of part) part.claim part.tree refusal
+    × (refusal ≡ refusals.Memory → ⊥)
 MergeFails p claim tree part NoLeaf =
-    IsPartial p first_node claim tree × IsPartial p (start_of part) part.claim part.tree × ((k : ℕ) → IsLeafOf p tree part k → ⊥)
+    IsPartial p first_node claim tree × IsPartial p (start_of part) part.claim part.tree
+    × ((k : ℕ) → IsLeafOf p tree part k → ⊥)
 MergeFails p claim tree part Memory = Unit {0}

@@ -1,4 +1,4 @@
--- The open leaves of a tree: where a search in parts goes on.
+-- The open leaves of a tree: a search in parts continues from them.
 use Rattle.std.specs.Prelude.{◌≡◌, ◌⊎◌, ℕ, ◌+◌, List, [], ◌∷◌, ◌++◌}
 use Rattle.pns_rules.specs.Shape.{Shape}
 use Rattle.pns_rules.specs.Nodes.{Node}
@@ -6,22 +6,23 @@ use Rattle.tree_rules.specs.Tree.{End, leaf, after_all, below}
 use Rattle.tree_rules.specs.Leaf.{Leaf, untried}
 use Rattle.tree_rules.specs.Accepted.{Tree}
 
--- the number of an open leaf among all nodes in preorder, and the node that its steps leave
+-- the number of an open leaf among all nodes in preorder, and the node after its steps
 pub record OpenAt : Type 0 where
   pub number : ℕ
   pub node : Node
 
--- the node itself, where it ends in an open leaf
+-- the node, if it ends in an open leaf
 abbrev pub open_here : ℕ → Node → End Leaf → List OpenAt
 open_here k n (leaf untried) = record { number = k; node = n } ∷ []
 open_here k n end = []
 
--- of the subtrees of the nodes `ns` the open leaves in preorder, where the first node has number k
+-- the open leaves in preorder of the subtrees of the nodes `ns`; the first node has the number k
 abbrev pub open_leaves : Shape → List Node → Tree → ℕ → List OpenAt
 open_leaves g [] ts k = []
 open_leaves g (n ∷ ns) [] k = []
 open_leaves g (n ∷ ns) (t ∷ ts) k =
-    open_here k (after_all g n t.steps) t.end ++ open_leaves g (below g (after_all g n t.steps) t.end ++ ns) ts (k + 1)
+    open_here k (after_all g n t.steps) t.end
+    ++ open_leaves g (below g (after_all g n t.steps) t.end ++ ns) ts (k + 1)
 
 abbrev pub IsAmong : OpenAt → List OpenAt → Type 0
 IsAmong l [] = ⊥

@@ -6,7 +6,8 @@ use Rattle.tree_rules.specs.Claim.{Claim}
 use Rattle.tree_rules.specs.Accepted.{Tree}
 use Rattle.tree_rules.specs.Tail.{Tail}
 
--- the units that are taken in and those that are left out where the run began, what it claims, its tree, and where it stopped
+-- the units that are taken in and those that are left out at the node from which the run began,
+-- what it claims, its tree, and how it ended
 pub record Part : Type 0 where
   pub inside : List ℕ
   pub outside : List ℕ

@@ -1,5 +1,5 @@
--- The one text of a part, as lines of tokens: the two sets of units of the node where its run began, and then the lines of a tree
--- text from its claim on.
+-- The one text of a part, as lines of tokens: the two sets of units of the node from which its run
+-- began, and then the lines of a tree text from its claim on.
 use Rattle.std.specs.Prelude.{ℕ, List, [], ◌∷◌, codes}
 use Rattle.problem_rules.specs.Problem.{Problem}
 use Rattle.tree_rules.specs.Known.{AreUnits, KnowsClaim, KnowsTree, KnowsTail}

@@ -34,7 +34,8 @@ some_is : {A : Type 0} (P : A → Type 0) (a b : A) → Some a ≡ Some b → P 
 some_is P a b e h = subst P (let e' : a ≡ b = cc in e') h
 
 -- what is true of a network is true of the one that is claimed, which is the same
-pub network_is : (P : Network → Type 0) (w known : Network) → network w ≡ network known → P known → P w
+pub network_is : (P : Network → Type 0) (w known : Network) → network w ≡ network known → P known
+    → P w
 network_is P w known e h = subst P (let e' : known ≡ w = cc in e') h
 
 module _ (p : Problem) (n : Node) where
@@ -71,7 +72,8 @@ module _ (p : Problem) (n : Node) where
   can_print budget found.Memory h c e = absurd cc
 
 -- the statuses of a text
-pub is_printing : (tail : tails.Tail) (status : Status) → status ≡ status_of tail → IsOneOf (Done ∷ Past ∷ Spent ∷ []) status
+pub is_printing : (tail : tails.Tail) (status : Status) → status ≡ status_of tail
+    → IsOneOf (Done ∷ Past ∷ Spent ∷ []) status
 is_printing tails.whole status e = inl e
 is_printing (tails.spent next options) status e = inr (inr (inl e))
 is_printing (tails.past node nonbasic place) status e = inr (inl e)
@@ -87,25 +89,31 @@ abbrev pub IsNoDearer : Option Network → Found → Type 0
 IsNoDearer None f = Unit {0}
 IsNoDearer (Some w) f = IsAgainst (Some w) f
 
-solved_no_dearer : (known : Option Network) (w : Network) (tree : Tree) → IsNoDearer known (found.Solved w tree) → NoDearer known (network w)
+solved_no_dearer : (known : Option Network) (w : Network) (tree : Tree)
+    → IsNoDearer known (found.Solved w tree) → NoDearer known (network w)
 solved_no_dearer None w tree h = tt
 solved_no_dearer (Some k) w tree h = h
 
-infeasible_no_dearer : (known : Option Network) (tree : Tree) → IsNoDearer known (found.Infeasible tree) → NoDearer known infeasible
+infeasible_no_dearer : (known : Option Network) (tree : Tree)
+    → IsNoDearer known (found.Infeasible tree) → NoDearer known infeasible
 infeasible_no_dearer None tree h = tt
 infeasible_no_dearer (Some k) tree h = h
 
-spent_no_dearer : (known best : Option Network) (tree : Tree) (next options : ℕ) → IsNoDearer known (found.Spent best tree next options) → NoDearer known (claim_with best)
+spent_no_dearer : (known best : Option Network) (tree : Tree) (next options : ℕ)
+    → IsNoDearer known (found.Spent best tree next options) → NoDearer known (claim_with best)
 spent_no_dearer None best tree next options h = tt
 spent_no_dearer (Some k) None tree next options h = h
 spent_no_dearer (Some k) (Some w) tree next options h = h
 
-past_no_dearer : (known best : Option Network) (tree : Tree) (node : ℕ) (nonbasic : List Column) (place : Place) → IsNoDearer known (found.Past best tree node nonbasic place) → NoDearer known (claim_with best)
+past_no_dearer : (known best : Option Network) (tree : Tree) (node : ℕ) (nonbasic : List Column)
+    (place : Place) → IsNoDearer known (found.Past best tree node nonbasic place)
+    → NoDearer known (claim_with best)
 past_no_dearer None best tree node nonbasic place h = tt
 past_no_dearer (Some k) None tree node nonbasic place h = h
 past_no_dearer (Some k) (Some w) tree node nonbasic place h = h
 
-module _ (budget : ℕ) (known : Option Network) (inside outside : List ℕ) (p : Problem) (s : Status) (lines : List (List ℕ)) where
+module _ (budget : ℕ) (known : Option Network) (inside outside : List ℕ) (p : Problem) (s : Status)
+    (lines : List (List ℕ)) where
   abbrev start : Node
   start = record { inside = has inside; outside = has outside }
 
@@ -125,7 +133,8 @@ module _ (budget : ℕ) (known : Option Network) (inside outside : List ℕ) (p 
         reads = said.2;
       }
 
-  pub part_says : (f : Found) → IsFound p start budget f → IsNoDearer known f → FoundSays p inside outside f s lines → PartSays budget known inside outside p s lines
+  pub part_says : (f : Found) → IsFound p start budget f → IsNoDearer known f
+      → FoundSays p inside outside f s lines → PartSays budget known inside outside p s lines
   part_says (found.Solved w tree) h against said =
       made (record { claim = network w; tree = tree; tail = tails.whole }) h
       (solved_no_dearer known w tree against) said.0 said.1 said.2
@@ -133,9 +142,11 @@ module _ (budget : ℕ) (known : Option Network) (inside outside : List ℕ) (p 
       made (record { claim = infeasible; tree = tree; tail = tails.whole }) h
       (infeasible_no_dearer known tree against) said.0 said.1 said.2
   part_says (found.Spent best tree next options) h against said =
-      made (record { claim = claim_with best; tree = tree; tail = tails.spent next options }) (record { stopped = h.0; not_infeasible = not_infeasible best }, h.1, h.2)
+      made (record { claim = claim_with best; tree = tree; tail = tails.spent next options })
+      (record { stopped = h.0; not_infeasible = not_infeasible best }, h.1, h.2)
       (spent_no_dearer known best tree next options against) said.0 said.1 said.2
   part_says (found.Past best tree node nonbasic place) h against said =
-      made (record { claim = claim_with best; tree = tree; tail = tails.past node nonbasic place }) (record { stopped = h.0; not_infeasible = not_infeasible best }, h.1)
+      made (record { claim = claim_with best; tree = tree; tail = tails.past node nonbasic place })
+      (record { stopped = h.0; not_infeasible = not_infeasible best }, h.1)
       (past_no_dearer known best tree node nonbasic place against) said.0 said.1 said.2
   part_says found.Memory h against said = absurd cc

@@ -10,9 +10,21 @@ use Rattle.part_text.proofs.Tokens.{one_set, wider}
 use Rattle.studio_rules.specs.Start.{IsStart}
 
 module _ (p : Problem) (word other : List ℕ) (few : length p.units ≤ 128) where
-  pub not_sound : (taken left : List ℕ) → AreUnits p taken → AreUnits p left → word ≡ token_of taken → other ≡ token_of left
-      → (IsSound (shape_of p) (record { inside = has taken; outside = has left }) → ⊥) → (inside outside : List ℕ) → IsStart p word other inside outside → ⊥
+  pub not_sound : (taken left : List ℕ) → AreUnits p taken → AreUnits p left → word ≡ token_of taken
+      → other ≡ token_of left
+      → (IsSound (shape_of p) (record { inside = has taken; outside = has left }) → ⊥)
+      → (inside outside : List ℕ) → IsStart p word other inside outside → ⊥
   not_sound taken left set set' named named' unsound inside outside is =
-      let one : taken ≡ inside = one_set (length p.units) word taken inside few (wider (length p.units) taken few set) is.inside_known named is.inside_named in
-      let two : left ≡ outside = one_set (length p.units) other left outside few (wider (length p.units) left few set') is.outside_known named' is.outside_named in
-      unsound (subst (λ (us : List ℕ). IsSound (shape_of p) (record { inside = has us; outside = has left })) (sym one) (subst (λ (us : List ℕ). IsSound (shape_of p) (record { inside = has inside; outside = has us })) (sym two) is.sound))
+      let one : taken ≡ inside =
+      one_set (length p.units) word taken inside few (wider (length p.units) taken few set)
+      is.inside_known named is.inside_named in
+      let two : left ≡ outside =
+      one_set (length p.units) other left outside few (wider (length p.units) left few set')
+      is.outside_known named' is.outside_named in
+      unsound
+      (subst
+      (λ (us : List ℕ). IsSound (shape_of p) (record { inside = has us; outside = has left }))
+      (sym one)
+      (subst
+      (λ (us : List ℕ). IsSound (shape_of p) (record { inside = has inside; outside = has us }))
+      (sym two) is.sound))

@@ -79,7 +79,8 @@ pub(crate) fn say_found<K: Sink, E: Sink>(
         × AreUnits problem.now start.now.outside }
     requires apart { IsApart start.now.inside start.now.outside }
     requires found { (budget : ℕ) × IsFound problem.now (node_of start.now) budget found }
-    ensures { Ends (Tells (FoundSays problem.now start.now.inside start.now.outside found)) out.old out.new result }
+    ensures { Ends (Tells (FoundSays problem.now start.now.inside start.now.outside found)) out.old
+        out.new result }
 {
     match certificate_of(found) {
         Some(certificate) => {

@@ -44,7 +44,9 @@ fn say_searched<K: Sink, E: Sink, W: Watch>(
         × AreUnits problem.now start.now.outside }
     requires some { 1 ≤ effort.budget }
     requires few { effort.budget ≤ 1000000 }
-    ensures { Ends (Tells (PartSays effort.budget None start.now.inside start.now.outside problem.now)) out.old out.new result }
+    ensures { Ends
+        (Tells (PartSays effort.budget None start.now.inside start.now.outside problem.now)) out.old
+        out.new result }
 {
     let site = Site::of(problem, graph);
     let budget = u64::from(effort.budget);
@@ -69,7 +71,10 @@ fn say_against<K: Sink, E: Sink, W: Watch>(
     requires some { 1 ≤ effort.budget }
     requires few { effort.budget ≤ 1000000 }
     requires passes { IsFeasible problem.now network }
-    ensures { Ends (Tells (PartSays effort.budget (Some network) start.now.inside start.now.outside problem.now)) out.old out.new result }
+    ensures { Ends
+        (Tells
+        (PartSays effort.budget (Some network) start.now.inside start.now.outside problem.now))
+        out.old out.new result }
 {
     let site = Site::of(problem, graph);
     let budget = u64::from(effort.budget);
@@ -95,7 +100,10 @@ fn say_claimed<K: Sink, E: Sink, W: Watch>(
         × AreUnits problem.now start.now.outside }
     requires some { 1 ≤ effort.budget }
     requires few { effort.budget ≤ 1000000 }
-    ensures { Ends (Tells (ClaimSays effort.budget start.now.inside start.now.outside problem.now (claim_of claim) tree.now)) out.old out.new result }
+    ensures { Ends
+        (Tells
+        (ClaimSays effort.budget start.now.inside start.now.outside problem.now (claim_of claim)
+        tree.now)) out.old out.new result }
 {
     match claim {
         Claim::Network(network) => {
@@ -126,7 +134,10 @@ fn say_tree<F: Shelf, K: Sink, E: Sink, W: Watch>(
         × AreUnits problem.now start.now.outside }
     requires some { 1 ≤ effort.budget }
     requires few { effort.budget ≤ 1000000 }
-    ensures ends { Ends (Says (OnTree (ClaimSays effort.budget start.now.inside start.now.outside) (F.state shelf.old).held name.now problem.now) (λ other. other ≡ name.now)
+    ensures ends { Ends
+        (Says
+        (OnTree (ClaimSays effort.budget start.now.inside start.now.outside)
+        (F.state shelf.old).held name.now problem.now) (λ other. other ≡ name.now)
         (F.state shelf.old) (F.state shelf.new)) out.old out.new result }
     ensures keeps { Keeps (F.state shelf.old) (F.state shelf.new) }
 {
@@ -147,7 +158,8 @@ fn say_from<K: Sink, E: Sink, W: Watch>(
 ) -> Status
     requires some { 1 ≤ effort.budget }
     requires few { effort.budget ≤ 1000000 }
-    ensures { Ends (Tells (PartWork effort.budget inside.now outside.now problem.now)) out.old out.new result }
+    ensures { Ends (Tells (PartWork effort.budget inside.now outside.now problem.now)) out.old
+        out.new result }
 {
     let Ok(graph) = Graph::of(alloc, problem) else {
         return say_memory(out);
@@ -174,7 +186,11 @@ fn say_from_against<F: Shelf, K: Sink, E: Sink, W: Watch>(
 ) -> Status
     requires some { 1 ≤ effort.budget }
     requires few { effort.budget ≤ 1000000 }
-    ensures ends { Ends (Says (AgainstWork effort.budget (F.state shelf.old).held tree.now inside.now outside.now problem.now) (λ other. other ≡ tree.now) (F.state shelf.old) (F.state shelf.new)) out.old out.new result }
+    ensures ends { Ends
+        (Says
+        (AgainstWork effort.budget (F.state shelf.old).held tree.now inside.now outside.now
+        problem.now) (λ other. other ≡ tree.now) (F.state shelf.old) (F.state shelf.new)) out.old
+        out.new result }
     ensures keeps { Keeps (F.state shelf.old) (F.state shelf.new) }
 {
     let Ok(graph) = Graph::of(alloc, problem) else {
@@ -203,7 +219,9 @@ pub fn part<F: Shelf, K: Sink, E: Sink, W: Watch>(
 ) -> Status
     requires some { 1 ≤ effort.budget }
     requires few { effort.budget ≤ 1000000 }
-    ensures ends { Ends (FileSays (PartWork effort.budget inside.now outside.now) file.now (F.state shelf.old) (F.state shelf.new)) out.old out.new result }
+    ensures ends { Ends
+        (FileSays (PartWork effort.budget inside.now outside.now) file.now (F.state shelf.old)
+        (F.state shelf.new)) out.old out.new result }
     ensures keeps { Keeps (F.state shelf.old) (F.state shelf.new) }
 {
     match problem_of(alloc, shelf, out, file) {
@@ -226,7 +244,9 @@ pub fn part_against<F: Shelf, K: Sink, E: Sink, W: Watch>(
 ) -> Status
     requires some { 1 ≤ effort.budget }
     requires few { effort.budget ≤ 1000000 }
-    ensures ends { Ends (TwoFilesSay (λ held name. AgainstWork effort.budget held name inside.now outside.now) file.now tree.now (F.state shelf.old) (F.state shelf.new)) out.old out.new result }
+    ensures ends { Ends
+        (TwoFilesSay (λ held name. AgainstWork effort.budget held name inside.now outside.now)
+        file.now tree.now (F.state shelf.old) (F.state shelf.new)) out.old out.new result }
     ensures keeps { Keeps (F.state shelf.old) (F.state shelf.new) }
 {
     match problem_of(alloc, shelf, out, file) {

@@ -18,8 +18,10 @@ pub(crate) fn start_of(
     outside: &str,
 ) -> Option<Node>
     requires { shape graph.now ≡ shape_of problem.now }
-    ensures some { IfSome result (λ start. IsStart problem.now inside.now outside.now start.inside start.outside) }
-    ensures none { IfNone result ((ins outs : List ℕ) → IsStart problem.now inside.now outside.now ins outs → ⊥) }
+    ensures some { IfSome result
+        (λ start. IsStart problem.now inside.now outside.now start.inside start.outside) }
+    ensures none { IfNone result
+        ((ins outs : List ℕ) → IsStart problem.now inside.now outside.now ins outs → ⊥) }
 {
     problem.is_valid();
     let Some(taken) = units_named(problem, inside) else {

@@ -22,7 +22,8 @@ pub record Fits (p : Problem) (part : Part) : Type 0 where
 
 -- The text of a part that fits a valid problem has no fault, and stands for the part.
 abbrev pub SpelledPartsRead : Type 0
-SpelledPartsRead = (p : Problem) → IsValid p → (part : Part) → Fits p part → PartReads p (part_text p part) (Ok part)
+SpelledPartsRead = (p : Problem) → IsValid p → (part : Part) → Fits p part
+    → PartReads p (part_text p part) (Ok part)
 
 -- A text without a fault is the one text of what it stands for, which fits the problem.
 pub record IsSpelled (p : Problem) (bytes : List ℕ) (part : Part) : Type 0 where
@@ -30,8 +31,10 @@ pub record IsSpelled (p : Problem) (bytes : List ℕ) (part : Part) : Type 0 whe
   pub fits : Fits p part
 
 abbrev pub ReadPartsAreSpelled : Type 0
-ReadPartsAreSpelled = (p : Problem) → IsValid p → (bytes : List ℕ) (part : Part) → PartReads p bytes (Ok part) → IsSpelled p bytes part
+ReadPartsAreSpelled = (p : Problem) → IsValid p → (bytes : List ℕ) (part : Part)
+    → PartReads p bytes (Ok part) → IsSpelled p bytes part
 
 -- A text stands for one part, or has one first fault.
 abbrev pub PartsAreReadOnce : Type 0
-PartsAreReadOnce = (p : Problem) → IsValid p → (bytes : List ℕ) (one other : Result Part Fault) → PartReads p bytes one → PartReads p bytes other → one ≡ other
+PartsAreReadOnce = (p : Problem) → IsValid p → (bytes : List ℕ) (one other : Result Part Fault)
+    → PartReads p bytes one → PartReads p bytes other → one ≡ other

@@ -7,7 +7,8 @@ use Rattle.text_lines.specs.declared.fault.TextFault.{TextFault}
 use Rattle.text_lines.specs.declared.fault.TextFault.TheVariants.{At, Memory}
 
 -- the first of the lines stands for the set, and those after it are left
-pub record IsTaken (Judged : Line → Result (List ℕ) TreeKind → Type 0) (lines : List Line) (units : List ℕ) (behind : List Line) : Type 0 where
+pub record IsTaken (Judged : Line → Result (List ℕ) TreeKind → Type 0) (lines : List Line)
+    (units : List ℕ) (behind : List Line) : Type 0 where
   pub line : Line
   pub judged : Judged line (Ok units)
   pub cut : lines ≡ line ∷ behind
@@ -17,6 +18,7 @@ abbrev pub HasKind : (Line → Result (List ℕ) TreeKind → Type 0) → List L
 HasKind Judged [] kind = kind ≡ BadLine
 HasKind Judged (line ∷ lines) kind = Judged line (Err kind)
 
-abbrev pub IsFaultAt : (Line → Result (List ℕ) TreeKind → Type 0) → ℕ → List Line → TextFault TreeKind → Type 0
+abbrev pub IsFaultAt : (Line → Result (List ℕ) TreeKind → Type 0) → ℕ → List Line
+    → TextFault TreeKind → Type 0
 IsFaultAt Judged number lines Memory = ⊥
 IsFaultAt Judged number lines (At line kind) = (line ≡ number) × HasKind Judged lines kind

@@ -34,7 +34,8 @@ pub fn print_part<K: Sink>(
     requires claim { KnowsClaim problem.now part.now.claim }
     requires tree { KnowsTree problem.now part.now.tree }
     requires tail { KnowsTail problem.now part.now.tail }
-    ensures prints { Prints (part_text_lines problem.now part.now) (K.state out.old) (K.state out.new) result }
+    ensures prints { Prints (part_text_lines problem.now part.now) (K.state out.old)
+        (K.state out.new) result }
     ensures later { (K.state out.old).faults ≤ (K.state out.new).faults }
 {
     let node = part.start();

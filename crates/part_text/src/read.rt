@@ -31,10 +31,13 @@ fn set_at(
 ) -> Result<(UnitSet, Cut), TreeFault>
     requires cut { IsCut bytes.now cut }
     requires few { length bytes.now < 2 ^ 32 - 1 }
-    ensures taken { IfOk result (λ found. IsTaken (SetLine problem.now before word.now) (lines_at bytes.now cut) found.0 (lines_at bytes.now found.1)) }
+    ensures taken { IfOk result
+        (λ found. IsTaken (SetLine problem.now before word.now) (lines_at bytes.now cut) found.0
+        (lines_at bytes.now found.1)) }
     ensures cut { IfOk result (λ found. IsCut bytes.now found.1) }
     ensures number { IfOk result (λ found. found.1.line ≡ suc cut.line) }
-    ensures fault { IfErr result (IsFaultAt (SetLine problem.now before word.now) cut.line (lines_at bytes.now cut)) }
+    ensures fault { IfErr result
+        (IsFaultAt (SetLine problem.now before word.now) cut.line (lines_at bytes.now cut)) }
 {
     let (line, behind) = line_at(bytes, cut).ok_or(kind_at(cut, TreeKind::BadLine))?;
     let units = set_line(problem, before, word, &line).map_err(|kind| kind_at(cut, kind))?;

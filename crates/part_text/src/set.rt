@@ -1,5 +1,6 @@
 //! Sets of units by their tokens, and the lines of a part's text that have one.
-ghost use Rattle.std.specs.Prelude.{◌≡◌, ◌<◌, ◌∷◌, [], ℕ, List, Ok, Err, IfOk, IfErr, IfSome, IfNone};
+ghost use Rattle.std.specs.Prelude.{◌≡◌, ◌<◌, ◌∷◌, [], ℕ, List, Ok, Err, IfOk, IfErr, IfSome};
+ghost use Rattle.std.specs.Prelude.{IfNone};
 ghost use Rattle.tree_rules.specs.Known.{AreUnits};
 ghost use Rattle.pns_rules.specs.Tokens.{token_of};
 ghost use Rattle.tree_text_rules.specs.Line.{Token};
@@ -16,8 +17,10 @@ use unit_sets::UnitSet;
 /// The units of the problem whose token the word is. It is `None` if and only if the word is the
 /// token of no set of them.
 pub fn units_named(problem: &Problem, word: &str) -> Option<UnitSet>
-    ensures some { IfSome result (λ units. AreUnits problem.now units × (word.now ≡ token_of units)) }
-    ensures none { IfNone result ((units : List ℕ) → AreUnits problem.now units → word.now ≡ token_of units → ⊥) }
+    ensures some { IfSome result
+        (λ units. AreUnits problem.now units × (word.now ≡ token_of units)) }
+    ensures none { IfNone result
+        ((units : List ℕ) → AreUnits problem.now units → word.now ≡ token_of units → ⊥) }
 {
     problem.is_valid();
     let Ok(units) = read_token(word) else {
@@ -33,8 +36,10 @@ pub fn units_named(problem: &Problem, word: &str) -> Option<UnitSet>
 
 // The same of bytes.
 fn units_of(problem: &Problem, token: &[u8]) -> Option<UnitSet>
-    ensures some { IfSome result (λ units. AreUnits problem.now units × (token.now ≡ token_of units)) }
-    ensures none { IfNone result ((units : List ℕ) → AreUnits problem.now units → token.now ≡ token_of units → ⊥) }
+    ensures some { IfSome result
+        (λ units. AreUnits problem.now units × (token.now ≡ token_of units)) }
+    ensures none { IfNone result
+        ((units : List ℕ) → AreUnits problem.now units → token.now ≡ token_of units → ⊥) }
 {
     match str::from_utf8(token) {
         Ok(word) => units_named(problem, word),
@@ -45,8 +50,10 @@ fn units_of(problem: &Problem, token: &[u8]) -> Option<UnitSet>
 // The one token after the word, with which the line begins. It is `None` if and only if the line
 // has another form.
 fn token_behind<'a>(word: &[u8], line: &Line<'a>) -> Option<&'a [u8]>
-    ensures some { IfSome result (λ token. IsFormedAs (line_of line.now) (word.now ∷ token.now ∷ [])) }
-    ensures none { IfNone result ((token : Token) → IsFormedAs (line_of line.now) (word.now ∷ token ∷ []) → ⊥) }
+    ensures some { IfSome result
+        (λ token. IsFormedAs (line_of line.now) (word.now ∷ token.now ∷ [])) }
+    ensures none { IfNone result
+        ((token : Token) → IsFormedAs (line_of line.now) (word.now ∷ token ∷ []) → ⊥) }
 {
     let (first, fields) = first_token(line.text);
     if first != word {
@@ -66,8 +73,10 @@ pub fn set_line(
     word: &[u8],
     line: &Line,
 ) -> Result<UnitSet, TreeKind>
-    ensures ok { IfOk result (λ units. SetLine problem.now before word.now (line_of line.now) (Ok units)) }
-    ensures fault { IfErr result (λ kind. SetLine problem.now before word.now (line_of line.now) (Err kind)) }
+    ensures ok { IfOk result
+        (λ units. SetLine problem.now before word.now (line_of line.now) (Ok units)) }
+    ensures fault { IfErr result
+        (λ kind. SetLine problem.now before word.now (line_of line.now) (Err kind)) }
 {
     problem.is_valid();
     let Some(token) = token_behind(word, line) else {

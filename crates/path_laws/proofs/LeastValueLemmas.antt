@@ -16,19 +16,34 @@ use Rattle.path_laws.proofs.BoolLemmas.{bool_cases}
 use Rattle.path_laws.proofs.SolvedLemmas.{relaxed_of, cost_of}
 use Rattle.path_laws.proofs.Relaxed.{relaxed_cost, bound, IsRelaxedFlow, IsOpen}
 
--- At a tableau whose cost row has no entry below 0 at a column and whose right sides are at least 0, the basic solution is relaxed
--- flows, and the multipliers of the cost row have as their bound, over the scale, its relaxed cost. That no bound is above a
--- relaxed cost is handed in.
-pub least_at : (p : LinearProgram) (b : Basis) (T : ℕ → ℕ → ℤ) → IsOpen p → IsUnitary p b T → IsCombination p (T (scale_at p)) → IsComplete p b T → IsNonNegative p (T (scale_at p)) → ((c : ℕ) → Has b c → c < columns p → pos 0 ≤ℤ T c (right_at p)) → ((c : ℕ) → Has b c → c ≤ scale_at p) → ((Z : ℕ → ℤ) (d : ℤ) → IsRelaxedFlow p Z d → (bound p (T (scale_at p) (scale_at p)) (multiplier p (T (scale_at p))) *ℤ d) ≤ℤ (T (scale_at p) (scale_at p) *ℤ relaxed_cost p Z d)) → (v : ℕ → ℤ) (d : ℤ) → IsBasic p b T v d → IsRelaxedFlow p (λ i. v (x_at p i) +ℤ p.low i *ℤ d) d × (bound p (T (scale_at p) (scale_at p)) (multiplier p (T (scale_at p))) *ℤ d ≡ T (scale_at p) (scale_at p) *ℤ relaxed_cost p (λ i. v (x_at p i) +ℤ p.low i *ℤ d) d)
+-- Take a tableau whose cost row has no entry below 0 at a column and whose right sides are at least
+-- 0. Its basic solution is relaxed flows. The bound of the cost row's multipliers, over the scale,
+-- is their relaxed cost. That no bound is above a relaxed cost is an argument.
+pub least_at : (p : LinearProgram) (b : Basis) (T : ℕ → ℕ → ℤ) → IsOpen p → IsUnitary p b T
+    → IsCombination p (T (scale_at p)) → IsComplete p b T → IsNonNegative p (T (scale_at p))
+    → ((c : ℕ) → Has b c → c < columns p → pos 0 ≤ℤ T c (right_at p))
+    → ((c : ℕ) → Has b c → c ≤ scale_at p)
+    → ((Z : ℕ → ℤ) (d : ℤ) → IsRelaxedFlow p Z d
+    → (bound p (T (scale_at p) (scale_at p)) (multiplier p (T (scale_at p))) *ℤ d)
+    ≤ℤ (T (scale_at p) (scale_at p) *ℤ relaxed_cost p Z d)) → (v : ℕ → ℤ) (d : ℤ)
+    → IsBasic p b T v d → IsRelaxedFlow p (λ i. v (x_at p i) +ℤ p.low i *ℤ d) d
+    × (bound p (T (scale_at p) (scale_at p)) (multiplier p (T (scale_at p))) *ℤ d
+    ≡ T (scale_at p) (scale_at p) *ℤ relaxed_cost p (λ i. v (x_at p i) +ℤ p.low i *ℤ d) d)
 least_at p b T o u cs comp nn right inside weak_duality v d s =
-    let sol : IsSolution p v d = comp v d s.at_right (λ c h. basic_solves p b T v d u s c h (inside c h)) in
+    let sol : IsSolution p v d =
+    comp v d s.at_right (λ c h. basic_solves p b T v d u s c h (inside c h)) in
     let flows = relaxed_of p v d s.positive sol (values v d s) in
     let (k, pk, e, g) = s.basic (scale_at p) u.scale (omega arith) in
     let says : D *ℤ v (scale_at p) ≡ r *ℤ d = said D (v (scale_at p)) k r d e g in
     let cost = cost_of p v d D r sol says in
     let low = bound_of_row p (T (scale_at p)) o cs nn in
-    let weak = weak_duality (λ i. v (x_at p i) +ℤ p.low i *ℤ d) d flows in
-    (flows, between (bound p D (multiplier p (T (scale_at p)))) d (D *ℤ relaxed_cost p (λ i. v (x_at p i) +ℤ p.low i *ℤ d) d) (D *ℤ p.fixed +ℤ D *ℤ total_below p.units (λ i. p.cost i *ℤ p.low i) -ℤ r) s.positive low cost weak)
+    let weak = weak_duality (λ i. v (x_at p i) +ℤ p.low i *ℤ d) d flows in (
+      flows,
+      between (bound p D (multiplier p (T (scale_at p)))) d
+          (D *ℤ relaxed_cost p (λ i. v (x_at p i) +ℤ p.low i *ℤ d) d)
+          (D *ℤ p.fixed +ℤ D *ℤ total_below p.units (λ i. p.cost i *ℤ p.low i) -ℤ r) s.positive low
+          cost weak,
+    )
   where
     D : ℤ
     D = T (scale_at p) (scale_at p)
@@ -37,14 +52,18 @@ least_at p b T o u cs comp nn right inside weak_duality v d s =
     r = T (scale_at p) (right_at p)
 
     said : (D v k r d : ℤ) → v ≡ k *ℤ r → d ≡ k *ℤ D → D *ℤ v ≡ r *ℤ d
-    said D v k r d e g = ap (λ x. D *ℤ x) e ∙ ring (V D ⊗ (V k ⊗ V r)) (V r ⊗ (V k ⊗ V D)) (omega arith) ∙ ap (λ x. r *ℤ x) (sym g)
+    said D v k r d e g = ap (λ x. D *ℤ x) e
+        ∙ ring (V D ⊗ (V k ⊗ V r)) (V r ⊗ (V k ⊗ V D)) (omega arith) ∙ ap (λ x. r *ℤ x) (sym g)
 
     values : (v : ℕ → ℤ) (d : ℤ) → IsBasic p b T v d → (k : ℕ) → k < columns p → pos 0 ≤ℤ v k
     values v d s k h = elim (bool_cases (b k)) [
       | inl bk ↦
           let (q, pq, e, g) = s.basic k bk (omega arith) in
-          subst (λ x. pos 0 ≤ℤ x) (sym e) (mul_nonneg q (T k (right_at p)) (weaken pq) (right k bk h))
-      | inr bk ↦ subst (λ x. pos 0 ≤ℤ x) (sym (s.outside k bk (λ q. absurd (omega arith)))) (omega (arith, ints))
+          subst (λ x. pos 0 ≤ℤ x) (sym e)
+          (mul_nonneg q (T k (right_at p)) (weaken pq) (right k bk h))
+      | inr bk
+          ↦ subst (λ x. pos 0 ≤ℤ x) (sym (s.outside k bk (λ q. absurd (omega arith))))
+          (omega (arith, ints))
     ]
       where
         weaken : {z : ℤ} → pos 0 <ℤ z → pos 0 ≤ℤ z

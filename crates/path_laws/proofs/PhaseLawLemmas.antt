@@ -33,13 +33,22 @@ at_unit : (p : LinearProgram) (i : ℕ) → i < p.units → x_at p i ≤ scale_a
 at_unit p i h = omega arith
 
 -- the first unit below 0 in one tableau is that in the other
-same_unit : (p : LinearProgram) (b : Basis) (T U : ℕ → ℕ → ℤ) (u : ℕ) → IsSound p b → Agree p b T U → u < p.units → T (scale_at p) (x_at p u) <ℤ pos 0 → ((i : ℕ) → i < u → pos 0 ≤ℤ T (scale_at p) (x_at p i)) → (v : ℕ) → IsFirstKind p b U v → u ≡ v
+same_unit : (p : LinearProgram) (b : Basis) (T U : ℕ → ℕ → ℤ) (u : ℕ) → IsSound p b → Agree p b T U
+    → u < p.units → T (scale_at p) (x_at p u) <ℤ pos 0
+    → ((i : ℕ) → i < u → pos 0 ≤ℤ T (scale_at p) (x_at p i)) → (v : ℕ) → IsFirstKind p b U v → u ≡ v
 same_unit p b T U u s a h neg before v f =
     elim (cases_order u v) [
       | inl e ↦ e
       | inr o ↦ elim o [
-        | inl l ↦ absurd (clash (T (scale_at p) (x_at p u)) (U (scale_at p) (x_at p u)) (a (scale_at p) (x_at p u) s.scale (at_unit p u h)) neg (f.before u l))
-        | inr l ↦ absurd (clash (U (scale_at p) (x_at p v)) (T (scale_at p) (x_at p v)) (sym (a (scale_at p) (x_at p v) s.scale (at_unit p v f.is_unit))) f.negative (before v l))
+        | inl l
+            ↦ absurd
+            (clash (T (scale_at p) (x_at p u)) (U (scale_at p) (x_at p u))
+            (a (scale_at p) (x_at p u) s.scale (at_unit p u h)) neg (f.before u l))
+        | inr l
+            ↦ absurd
+            (clash (U (scale_at p) (x_at p v)) (T (scale_at p) (x_at p v))
+            (sym (a (scale_at p) (x_at p v) s.scale (at_unit p v f.is_unit))) f.negative
+            (before v l))
       ]
     ]
 
@@ -48,15 +57,24 @@ first_unit_has_pivot p n b r T t unit h neg before =
     let s = reaches_sound p n b r in
     let U = canonical p b T in
     let a : Agree p b T U = agrees p b T in
-    let given : IsFirstKind p b U unit → IsFirstKind p b T unit = λ f. first_to p b U T unit s (λ c k i l. sym (a c k i l)) f in
-    let rising : VectorsRise p b U → IsFirstKind p b T unit = λ rising. absurd (clash (T (scale_at p) (x_at p unit)) (U (scale_at p) (x_at p unit)) (a (scale_at p) (x_at p unit) s.scale (at_unit p unit h)) neg (costs_not_negative p n b U r (canonical_tableau p b T s t) rising (x_at p unit) (column h))) in
+    let given : IsFirstKind p b U unit → IsFirstKind p b T unit =
+    λ f. first_to p b U T unit s (λ c k i l. sym (a c k i l)) f in
+    let rising : VectorsRise p b U → IsFirstKind p b T unit =
+    λ rising. absurd
+    (clash (T (scale_at p) (x_at p unit)) (U (scale_at p) (x_at p unit))
+    (a (scale_at p) (x_at p unit) s.scale (at_unit p unit h)) neg
+    (costs_not_negative p n b U r (canonical_tableau p b T s t) rising (x_at p unit)
+    (column h))) in
     elim (phase_along p n b r T t) [
       | inr v ↦ rising v
       | inl (u, le, ph) ↦ elim (settle p b U (p.units - u) u (omega arith) ph) [
         | inr v ↦ rising v
         | inl w ↦
-            let f : IsFirstKind p b U w.unit = first_phase_kind p b U w.unit w.is_unit w.phase w.negative in
-            given (subst (IsFirstKind p b U) (sym (same_unit p b T U unit s a h neg before w.unit f)) f)
+            let f : IsFirstKind p b U w.unit =
+            first_phase_kind p b U w.unit w.is_unit w.phase w.negative in
+            given
+            (subst (IsFirstKind p b U) (sym (same_unit p b T U unit s a h neg before w.unit f))
+            f)
       ]
     ]
   where

@@ -1,5 +1,6 @@
 -- What a pivot is, of either kind.
-use Rattle.std.proofs.Common.{◌≡◌, ◌≢◌, ℕ, suc, ◌<◌, ◌⊎◌, inl, inr, true, false, arith, refl, ap, sym, subst}
+use Rattle.std.proofs.Common.{◌≡◌, ◌≢◌, ℕ, suc, ◌<◌, ◌⊎◌, inl, inr, true, false, arith, refl, ap}
+use Rattle.std.proofs.Common.{sym, subst}
 use Rattle.std.specs.Prelude.{ℤ, pos, neg_ℤ, ◌<ℤ◌, unsigned_abs}
 use Rattle.std.specs.Int.{◌∣◌}
 use Rattle.std.proofs.lemmas.Int.{ints}
@@ -16,13 +17,25 @@ pub exchanged-out : (b : Basis) (l e : ℕ) → exchanged b l e l ≡ false
 exchanged-out b l e = elim (eqb_tells l l) [ inl (g, _) ↦ rw g | inr (_, q) ↦ absurd (q refl) ]
 
 pub exchanged-in : (b : Basis) (l e : ℕ) → e ≢ l → exchanged b l e e ≡ true
-exchanged-in b l e n = elim (eqb_tells e l) [ inl (_, q) ↦ absurd (n q) | inr (g, _) ↦ elim (eqb_tells e e) [ inl (h, _) ↦ rw (g, h) | inr (_, q) ↦ absurd (q refl) ] ]
+exchanged-in b l e n =
+    elim (eqb_tells e l) [
+      | inl (_, q) ↦ absurd (n q)
+      | inr (g, _)
+          ↦ elim (eqb_tells e e) [ inl (h, _) ↦ rw (g, h) | inr (_, q) ↦ absurd (q refl) ]
+    ]
 
 pub exchanged-other : (b : Basis) (l e k : ℕ) → k ≢ l → k ≢ e → exchanged b l e k ≡ b k
-exchanged-other b l e k n m = elim (eqb_tells k l) [ inl (_, q) ↦ absurd (n q) | inr (g, _) ↦ elim (eqb_tells k e) [ inl (_, q) ↦ absurd (m q) | inr (h, _) ↦ rw (g, h) ] ]
+exchanged-other b l e k n m =
+    elim (eqb_tells k l) [
+      | inl (_, q) ↦ absurd (n q)
+      | inr (g, _)
+          ↦ elim (eqb_tells k e) [ inl (_, q) ↦ absurd (m q) | inr (h, _) ↦ rw (g, h) ]
+    ]
 
--- what a pivot is: the row of a basis column, as it is or negated, with an entry above 0 at a column outside the basis
-pub record IsTurn (p : LinearProgram) (b : Basis) (T : ℕ → ℕ → ℤ) (l e : ℕ) (P : ℕ → ℤ) : Type 0 where
+-- what a pivot is: the row of a basis column, as it is or negated, with an entry above 0 at a
+-- column outside the basis
+pub record IsTurn (p : LinearProgram) (b : Basis) (T : ℕ → ℕ → ℤ) (l e : ℕ) (P : ℕ → ℤ) : Type
+    0 where
   pub was : Has b l
   pub outside : b e ≡ false
   pub column : e < columns p
@@ -34,8 +47,10 @@ pub record IsTurn (p : LinearProgram) (b : Basis) (T : ℕ → ℕ → ℤ) (l e
   pub primitive : IsPrimitive (suc (scale_at p)) P
   pub same : ((k : ℕ) → T l k ≡ P k) ⊎ ((k : ℕ) → T l k ≡ neg_ℤ (P k))
 
-outside_of : (p : LinearProgram) (b : Basis) (l e : ℕ) (r : ℕ → ℤ) → IsRowOf p b l r → e ≢ l → (r e ≡ pos 0 → ⊥) → b e ≡ false
-outside_of p b l e r row n h = elim (bool_cases (b e)) [ inl t ↦ absurd (h (row.others e t n)) | inr f ↦ f ]
+outside_of : (p : LinearProgram) (b : Basis) (l e : ℕ) (r : ℕ → ℤ) → IsRowOf p b l r → e ≢ l
+    → (r e ≡ pos 0 → ⊥) → b e ≡ false
+outside_of p b l e r row n h =
+    elim (bool_cases (b e)) [ inl t ↦ absurd (h (row.others e t n)) | inr f ↦ f ]
 
 abs_same : (z : ℤ) → unsigned_abs (neg_ℤ z) ≡ unsigned_abs z
 abs_same z = omega (arith, ints)
@@ -43,7 +58,8 @@ abs_same z = omega (arith, ints)
 twice : (z : ℤ) → z ≡ neg_ℤ (neg_ℤ z)
 twice z = omega (arith, ints)
 
-pub turn_of : (p : LinearProgram) (b : Basis) (T : ℕ → ℕ → ℤ) (l e : ℕ) (P : ℕ → ℤ) → IsTableau p b T → HasPivot p b T l e P → IsTurn p b T l e P
+pub turn_of : (p : LinearProgram) (b : Basis) (T : ℕ → ℕ → ℤ) (l e : ℕ) (P : ℕ → ℤ)
+    → IsTableau p b T → HasPivot p b T l e P → IsTurn p b T l e P
 turn_of p b T l e P t (first_kind u f) =
     let row = t (s_at p u) f.basic in
     let n : x_at p u ≢ s_at p u = λ q. apart p u q f.is_unit in
@@ -75,7 +91,10 @@ turn_of p b T l e P t (second_kind l' e' f g) =
     let row = t l' f.basic in
     record {
       was = f.basic;
-      outside = outside_of p b l' e' (T l') row (λ q. apart (T l' l') (T l' e') (ap (T l') (sym q)) row.own g.negative) (not_zero g.negative);
+      outside =
+          outside_of p b l' e' (T l') row
+          (λ q. apart (T l' l') (T l' e') (ap (T l') (sym q)) row.own g.negative)
+          (not_zero g.negative);
       column = g.column;
       leaving = f.column;
       positive = flip g.negative;

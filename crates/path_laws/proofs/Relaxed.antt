@@ -31,7 +31,8 @@ abbrev pub unit_part : LinearProgram → ℤ → (ℕ → ℤ) → ℕ → ℤ
 unit_part p D Y i = int_min (left_over p D Y i *ℤ p.low i) (left_over p D Y i *ℤ p.high i)
 
 abbrev pub bound : LinearProgram → ℤ → (ℕ → ℤ) → ℤ
-bound p D Y = D *ℤ p.fixed +ℤ total_below p.rows (row_part p Y) +ℤ total_below p.units (unit_part p D Y)
+bound p D Y =
+    D *ℤ p.fixed +ℤ total_below p.rows (row_part p Y) +ℤ total_below p.units (unit_part p D Y)
 
 -- no range is empty
 pub record IsOpen (p : LinearProgram) : Type 0 where

@@ -10,12 +10,16 @@ use Rattle.path_rules.specs.Columns.{x_at, Basis, columns, right_at, scale_at}
 use Rattle.path_rules.specs.Lexicographic.{IsBefore, IsRising}
 use Rattle.path_rules.specs.LinearProgram.{LinearProgram}
 use Rattle.path_rules.specs.Path.{Reaches}
-use Rattle.path_rules.specs.Pivots.{IsPivoted, HasPivot, first_kind, second_kind, IsFirstKind, IsLeaving, IsEntering}
+use Rattle.path_rules.specs.Pivots.{IsPivoted, HasPivot, first_kind, second_kind, IsFirstKind}
+use Rattle.path_rules.specs.Pivots.{IsLeaving, IsEntering}
 use Rattle.path_rules.specs.Tableau.{IsTableau, IsRowOf}
 use Rattle.path_rules.specs.Vectors.{gain}
 use Rattle.path_laws.proofs.BoolLemmas.{bool_cases}
 
-module _ (p : LinearProgram) (n : ℕ) (b b' : Basis) (T T' : ℕ → ℕ → ℤ) (l e : ℕ) (reached : Reaches p n b) (tableau : IsTableau p b T) (rising : VectorsRise p b T) (lv : IsLeaving p b T l) (en : IsEntering p b T l e) (v : IsPivoted b b' T T' l e (λ k. neg_ℤ (T l k))) where
+module _ (p : LinearProgram) (n : ℕ) (b b' : Basis) (T T' : ℕ → ℕ → ℤ) (l e : ℕ)
+    (reached : Reaches p n b) (tableau : IsTableau p b T) (rising : VectorsRise p b T)
+    (lv : IsLeaving p b T l) (en : IsEntering p b T l e)
+    (v : IsPivoted b b' T T' l e (λ k. neg_ℤ (T l k))) where
   abbrev P : ℕ → ℤ
   P k = neg_ℤ (T l k)
 
@@ -46,16 +50,24 @@ module _ (p : LinearProgram) (n : ℕ) (b b' : Basis) (T T' : ℕ → ℕ → �
   below : (z : ℤ) → pos 0 <ℤ neg_ℤ z → z <ℤ pos 0
   below z h = omega (arith, ints)
 
-  ratio : (j : ℕ) → j < columns p → b j ≡ false → j ≢ e → pos 0 <ℤ P j → IsBefore (suc (columns p)) (λ q. P j *ℤ gain b T (scale_at p) e q) (λ q. P e *ℤ gain b T (scale_at p) j q)
+  ratio : (j : ℕ) → j < columns p → b j ≡ false → j ≢ e → pos 0 <ℤ P j
+      → IsBefore (suc (columns p)) (λ q. P j *ℤ gain b T (scale_at p) e q)
+      (λ q. P e *ℤ gain b T (scale_at p) j q)
   ratio j h f n q = en.least j h (below (T l j) q) n
 
   -- the vectors still rise
   pub second_rising : VectorsRise p b' T'
-  second_rising = pivot_rising (suc (columns p)) (columns p) b b' T T' (scale_at p) l e P v (λ k. refl) sound.scale sl (λ c h n. (tableau c h).others l lv.basic (λ q. n (sym q))) own_pos (rising e en.column v.free) rising ratio
+  second_rising =
+      pivot_rising (suc (columns p)) (columns p) b b' T T' (scale_at p) l e P v (λ k. refl)
+      sound.scale sl (λ c h n. (tableau c h).others l lv.basic (λ q. n (sym q))) own_pos
+      (rising e en.column v.free) rising ratio
 
   -- and the values rise
   pub second_values : ValuesRise p b T b' T'
-  second_values = values_rise (suc (columns p)) b b' T T' (scale_at p) (right_at p) l e P v (λ k. refl) sound.scale sl (λ c h. (tableau c h).own) (λ k h n. zero_neg (T l k) (row.others k h n)) (flip (T l (right_at p)) lv.negative) (rising e en.column v.free)
+  second_values =
+      values_rise (suc (columns p)) b b' T T' (scale_at p) (right_at p) l e P v (λ k. refl)
+      sound.scale sl (λ c h. (tableau c h).own) (λ k h n. zero_neg (T l k) (row.others k h n))
+      (flip (T l (right_at p)) lv.negative) (rising e en.column v.free)
 
 -- the first number of a rising list is not below 0
 rising_first : (n : ℕ) (f : ℕ → ℤ) → IsRising n f → pos 0 ≤ℤ f 0
@@ -65,12 +77,15 @@ rising_first n f r = at_zero r.at refl
     at_zero zero e = let h = subst (λ i. pos 0 <ℤ f i) e r.less in omega (arith, ints)
     at_zero (suc k) e = let h = r.same 0 (omega (arith, e)) in omega (arith, ints, h)
 
--- so in the second phase no entry of the cost row is below 0, and no pivot of the first kind is left
-pub costs_not_negative : (p : LinearProgram) (n : ℕ) (b : Basis) (T : ℕ → ℕ → ℤ) → Reaches p n b → IsTableau p b T → VectorsRise p b T → (k : ℕ) → k < columns p → pos 0 ≤ℤ T (scale_at p) k
+-- so in the second phase no entry of the cost row is below 0, and no pivot of the first kind is
+-- left
+pub costs_not_negative : (p : LinearProgram) (n : ℕ) (b : Basis) (T : ℕ → ℕ → ℤ) → Reaches p n b
+    → IsTableau p b T → VectorsRise p b T → (k : ℕ) → k < columns p → pos 0 ≤ℤ T (scale_at p) k
 costs_not_negative p n b T reached tableau rising k h =
     elim (bool_cases (b k)) [
       | inl t ↦
-          let z : T (scale_at p) k ≡ pos 0 = (tableau (scale_at p) sound.scale).others k t (apart h) in
+          let z : T (scale_at p) k ≡ pos 0 =
+          (tableau (scale_at p) sound.scale).others k t (apart h) in
           omega (arith, ints, z)
       | inr f ↦ rising_first (suc (columns p)) (gain b T (scale_at p) k) (rising k h f)
     ]
@@ -84,17 +99,42 @@ costs_not_negative p n b T reached tableau rising k h =
 clash : (z : ℤ) → z <ℤ pos 0 → pos 0 ≤ℤ z → ⊥
 clash z h k = omega (arith, ints)
 
-pub no_first_kind : (p : LinearProgram) (n : ℕ) (b : Basis) (T : ℕ → ℕ → ℤ) (unit : ℕ) → Reaches p n b → IsTableau p b T → VectorsRise p b T → IsFirstKind p b T unit → ⊥
-no_first_kind p n b T unit r t rising f = clash (T (scale_at p) (x_at p unit)) f.negative (costs_not_negative p n b T r t rising (x_at p unit) (column f.is_unit))
+pub no_first_kind : (p : LinearProgram) (n : ℕ) (b : Basis) (T : ℕ → ℕ → ℤ) (unit : ℕ)
+    → Reaches p n b → IsTableau p b T → VectorsRise p b T → IsFirstKind p b T unit → ⊥
+no_first_kind p n b T unit r t rising f =
+    clash (T (scale_at p) (x_at p unit)) f.negative
+    (costs_not_negative p n b T r t rising (x_at p unit) (column f.is_unit))
   where
     column : unit < p.units → x_at p unit < columns p
     column h = omega arith
 
 -- ---- any step of the second phase
-pub rises : (p : LinearProgram) (n : ℕ) (b b' : Basis) (T T' : ℕ → ℕ → ℤ) (l e : ℕ) (P : ℕ → ℤ) → HasPivot p b T l e P → Reaches p n b → IsTableau p b T → VectorsRise p b T → IsPivoted b b' T T' l e P → VectorsRise p b' T' × ValuesRise p b T b' T'
-rises p n b b' T T' l e P (first_kind u f) r t rising v = absurd (no_first_kind p n b T u r t rising f)
-rises p n b b' T T' l e P (second_kind l' e' lv en) r t rising v = (second_rising p n b b' T T' l' e' r t rising lv en v, second_values p n b b' T T' l' e' r t rising lv en v)
+pub rises : (p : LinearProgram) (n : ℕ) (b b' : Basis) (T T' : ℕ → ℕ → ℤ) (l e : ℕ) (P : ℕ → ℤ)
+    → HasPivot p b T l e P → Reaches p n b → IsTableau p b T → VectorsRise p b T
+    → IsPivoted b b' T T' l e P → VectorsRise p b' T' × ValuesRise p b T b' T'
+rises p n b b' T T' l e P (first_kind u f) r t rising v =
+    absurd (no_first_kind p n b T u r t rising f)
+rises p n b b' T T' l e P (second_kind l' e' lv en) r t rising v = (
+  second_rising p n b b' T T' l' e' r t rising lv en v,
+  second_values p n b b' T T' l' e' r t rising lv en v,
+)
 
 -- the basis after a step is on the path
-pub exchange_reaches : (p : LinearProgram) (n : ℕ) (b b' : Basis) (T T' : ℕ → ℕ → ℤ) (l e : ℕ) (P : ℕ → ℤ) → Reaches p n b → IsTableau p b T → IsExchange p b b' T T' l e P → Reaches p (suc n) b'
-exchange_reaches p n b b' T T' l e P r t x = (b, r, record { tableau = T; is_tableau = t; leaves = l; enters = e; pivot = P; has_pivot = x.has_pivot; fits = x.fits; next = x.next })
+pub exchange_reaches : (p : LinearProgram) (n : ℕ) (b b' : Basis) (T T' : ℕ → ℕ → ℤ) (l e : ℕ)
+    (P : ℕ → ℤ) → Reaches p n b → IsTableau p b T → IsExchange p b b' T T' l e P
+    → Reaches p (suc n) b'
+exchange_reaches p n b b' T T' l e P r t x = (
+  b,
+  r,
+  record {
+    tableau = T;
+    is_tableau = t;
+    leaves = l;
+    enters = e;
+    pivot = P;
+    has_pivot =
+        x.has_pivot;
+    fits = x.fits;
+    next = x.next;
+  },
+)

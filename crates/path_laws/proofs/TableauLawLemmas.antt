@@ -2,7 +2,9 @@
 use Rattle.std.proofs.Common.{◌≡◌, ◌≢◌, ℕ, ◌<◌, ◌≤◌, true, false, arith, ap, sym, ◌∙◌}
 use Rattle.path_rules.specs.LinearProgram.{LinearProgram}
 use Rattle.path_rules.specs.Columns.{columns, scale_at}
-use Rattle.path_laws.specs.TableauLaws.{TableauIsOne, StartIsTableau, StartIsComplete, PivotKeepsIndependence, PivotKeepsTableau, PivotKeepsSolutions}
+use Rattle.path_laws.specs.TableauLaws.{TableauIsOne, StartIsTableau, StartIsComplete}
+use Rattle.path_laws.specs.TableauLaws.{PivotKeepsIndependence, PivotKeepsTableau}
+use Rattle.path_laws.specs.TableauLaws.{PivotKeepsSolutions}
 use Rattle.path_laws.proofs.CombinationLemmas.{exchange_independent}
 use Rattle.path_laws.proofs.UniqueLemmas.{row_unique}
 use Rattle.path_laws.proofs.KeptLemmas.{pivot_tableau}
@@ -23,14 +25,18 @@ pub pivot_keeps_independence : PivotKeepsIndependence
 pivot_keeps_independence p b b' T l e P ind t h next =
     let turn = turn_of p b T l e P t h in
     let el : e ≢ l = λ q. let y : true ≡ false = sym turn.was ∙ ap b (sym q) ∙ turn.outside in cc in
-    exchange_independent p b b' l e P turn.outside (next e ∙ exchanged-in b l e el) (λ k n m. next k ∙ exchanged-other b l e k n m) turn.positive (within p e turn.column) turn.combination turn.own turn.clear ind
+    exchange_independent p b b' l e P turn.outside (next e ∙ exchanged-in b l e el)
+    (λ k n m. next k ∙ exchanged-other b l e k n m) turn.positive (within p e turn.column)
+    turn.combination turn.own turn.clear ind
   where
     within : (p : LinearProgram) (k : ℕ) → k < columns p → k ≤ scale_at p
     within p k h = omega arith
 
 pub pivot_keeps_tableau : PivotKeepsTableau
 pivot_keeps_tableau p b b' T T' l e P t h v prims =
-    let turn = turn_of p b T l e P t h in pivot_tableau p b b' T T' l e P v t turn.combination turn.clear turn.primitive prims
+    let turn = turn_of p b T l e P t h in
+    pivot_tableau p b b' T T' l e P v t turn.combination turn.clear turn.primitive prims
 
 pub pivot_keeps_solutions : PivotKeepsSolutions
-pivot_keeps_solutions p b b' T T' l e P t h v comp = pivot_complete p b b' T T' l e P v (turn_of p b T l e P t h).same comp
+pivot_keeps_solutions p b b' T T' l e P t h v comp =
+    pivot_complete p b b' T T' l e P v (turn_of p b T l e P t h).same comp

@@ -38,19 +38,26 @@ values_are_within p n b r T t m one small = record {
     positive zero = (t (scale_at p) sound.scale).own
     positive (suc k) = elim (bool_cases (b k)) [
       | inl h ↦ subst (λ z. pos 0 <ℤ z) (sym (bottom-basic b T (scale_at p) k h)) (t k h).own
-      | inr h ↦ subst (λ z. pos 0 <ℤ z) (sym (bottom-outside b T (scale_at p) k h)) (omega (arith, ints))
+      | inr h ↦ subst (λ z. pos 0 <ℤ z) (sym (bottom-outside b T (scale_at p) k h))
+          (omega (arith, ints))
     ]
 
     bottom : (q : ℕ) → q < suc (columns p) → unsigned_abs (value_bottom b T (scale_at p) q) ≤ m
     bottom zero h = small (scale_at p) (scale_at p) sound.scale (omega arith)
     bottom (suc k) h = elim (bool_cases (b k)) [
-      | inl e ↦ subst (λ z. unsigned_abs z ≤ m) (sym (bottom-basic b T (scale_at p) k e)) (small k k e (omega arith))
+      | inl e ↦ subst (λ z. unsigned_abs z ≤ m) (sym (bottom-basic b T (scale_at p) k e))
+          (small k k e (omega arith))
       | inr e ↦ subst (λ z. unsigned_abs z ≤ m) (sym (bottom-outside b T (scale_at p) k e)) one
     ]
 
-    top : (q : ℕ) → q < suc (columns p) → unsigned_abs (value_top b T (scale_at p) (right_at p) q) ≤ m
-    top zero h = subst (λ z. z ≤ m) (sym (same_size (T (scale_at p) (right_at p)))) (small (scale_at p) (right_at p) sound.scale right_inside)
+    top : (q : ℕ) → q < suc (columns p)
+        → unsigned_abs (value_top b T (scale_at p) (right_at p) q) ≤ m
+    top zero h =
+        subst (λ z. z ≤ m) (sym (same_size (T (scale_at p) (right_at p))))
+        (small (scale_at p) (right_at p) sound.scale right_inside)
     top (suc k) h = elim (bool_cases (b k)) [
-      | inl e ↦ subst (λ z. unsigned_abs z ≤ m) (sym (top-basic b T (scale_at p) (right_at p) k e)) (small k (right_at p) e right_inside)
-      | inr e ↦ subst (λ z. unsigned_abs z ≤ m) (sym (top-outside b T (scale_at p) (right_at p) k e)) (omega arith)
+      | inl e ↦ subst (λ z. unsigned_abs z ≤ m) (sym (top-basic b T (scale_at p) (right_at p) k e))
+          (small k (right_at p) e right_inside)
+      | inr e ↦ subst (λ z. unsigned_abs z ≤ m)
+          (sym (top-outside b T (scale_at p) (right_at p) k e)) (omega arith)
     ]

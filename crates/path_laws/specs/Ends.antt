@@ -1,4 +1,4 @@
--- What holds of the tableau of a basis of the path of a node's program, and what is read off it.
+-- The tableau of a basis of the path of a node's program, and what is read off it.
 use Rattle.std.specs.Prelude.{◌≡◌, ℕ, ◌<◌, not, ℤ, List}
 use Rattle.pns_rules.specs.Nodes.{Node}
 use Rattle.flow_rules.specs.Net.{Net}
@@ -16,13 +16,15 @@ pub record IsOnPath (net : Net) (n : Node) (b : Basis) (T : ℕ → ℕ → ℤ)
   pub is_tableau : IsTableau (linear net n) b T
 
 -- the basis gives least flows, and d and ys are the multipliers of its cost row
-pub record EndsLeast (net : Net) (n : Node) (b : Basis) (T : ℕ → ℕ → ℤ) (d : ℤ) (ys : List ℤ) : Type 0 where
+pub record EndsLeast (net : Net) (n : Node) (b : Basis) (T : ℕ → ℕ → ℤ) (d : ℤ) (ys : List ℤ) : Type
+    0 where
   pub on_path : IsOnPath net n b T
   pub feasible : IsFeasible (linear net n) b T
   pub are : AreMultipliers (linear net n) (T (scale_at (linear net n))) d ys
 
 -- a row of the basis can't be met, and ys are its multipliers
-pub record EndsNone (net : Net) (n : Node) (b : Basis) (T : ℕ → ℕ → ℤ) (row : ℕ) (ys : List ℤ) : Type 0 where
+pub record EndsNone (net : Net) (n : Node) (b : Basis) (T : ℕ → ℕ → ℤ) (row : ℕ)
+    (ys : List ℤ) : Type 0 where
   pub on_path : IsOnPath net n b T
   pub refuting : IsRefuting (linear net n) b T row
   pub are : AreRefuting (linear net n) (T row) ys

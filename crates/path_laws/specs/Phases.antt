@@ -1,8 +1,10 @@
--- What holds of the bases of a path: while pivots of the first kind are left, which columns are in and what their rows are;
--- after them, that the vector of each column outside the basis rises.
-use Rattle.std.specs.Prelude.{◌≡◌, ◌≢◌, ℕ, suc, ◌<◌, ◌≤◌, ◌⊎◌, false, ℤ, pos, ◌-ℤ◌, ◌*ℤ◌, neg_ℤ, ◌<ℤ◌, ◌≤ℤ◌}
+-- The bases of a path. While pivots of the first kind are left: which columns are in, and what
+-- their rows are. After them: the vector of each column outside the basis rises.
+use Rattle.std.specs.Prelude.{◌≡◌, ◌≢◌, ℕ, suc, ◌<◌, ◌≤◌, ◌⊎◌, false, ℤ, pos, ◌-ℤ◌, ◌*ℤ◌, neg_ℤ}
+use Rattle.std.specs.Prelude.{◌<ℤ◌, ◌≤ℤ◌}
 use Rattle.path_rules.specs.LinearProgram.{LinearProgram}
-use Rattle.path_rules.specs.Columns.{Basis, Has, x_at, s_at, t_at, w_at, columns, right_at, scale_at, exchanged}
+use Rattle.path_rules.specs.Columns.{Basis, Has, x_at, s_at, t_at, w_at, columns, right_at}
+use Rattle.path_rules.specs.Columns.{scale_at, exchanged}
 use Rattle.path_rules.specs.Tableau.{IsPrimitive}
 use Rattle.path_rules.specs.Lexicographic.{IsRising}
 use Rattle.path_rules.specs.Vectors.{gain, value_top, value_bottom}
@@ -12,7 +14,7 @@ use Rattle.path_rules.specs.Start.{one_at}
 
 -- ---- the first phase
 
--- the row x_i + s_i = high_i - low_i, but for its right side
+-- the row x_i + s_i = high_i - low_i, except for its right side
 pub record IsBoxRow (p : LinearProgram) (i : ℕ) (r : ℕ → ℤ) : Type 0 where
   pub at_x : (k : ℕ) → k < p.units → r (x_at p k) ≡ one_at i k
   pub at_s : (k : ℕ) → k < p.units → r (s_at p k) ≡ one_at i k
@@ -20,7 +22,7 @@ pub record IsBoxRow (p : LinearProgram) (i : ℕ) (r : ℕ → ℤ) : Type 0 whe
   pub at_w : (j : ℕ) → j < p.rows → r (w_at p j) ≡ pos 0
   pub at_scale : r (scale_at p) ≡ pos 0
 
--- x_i has come in for s_i
+-- x_i has entered the basis in the place of s_i
 pub record IsIn (p : LinearProgram) (b : Basis) (T : ℕ → ℕ → ℤ) (i : ℕ) : Type 0 where
   pub basic : Has b (x_at p i)
   pub free : b (s_at p i) ≡ false
@@ -29,7 +31,7 @@ pub record IsIn (p : LinearProgram) (b : Basis) (T : ℕ → ℕ → ℤ) (i : �
   pub cost_x : T (scale_at p) (x_at p i) ≡ pos 0
   pub cost_s : T (scale_at p) (s_at p i) ≡ neg_ℤ (p.cost i)
 
--- x_i has not come in
+-- x_i has not entered the basis
 pub record IsOut (p : LinearProgram) (b : Basis) (T : ℕ → ℕ → ℤ) (i : ℕ) : Type 0 where
   pub free : b (x_at p i) ≡ false
   pub basic : Has b (s_at p i)
@@ -49,18 +51,22 @@ pub record IsFirstPhase (p : LinearProgram) (b : Basis) (T : ℕ → ℕ → ℤ
 
 -- the vector of each column outside the basis rises
 abbrev pub VectorsRise : LinearProgram → Basis → (ℕ → ℕ → ℤ) → Type 0
-VectorsRise p b T = (j : ℕ) → j < columns p → b j ≡ false → IsRising (suc (columns p)) (gain b T (scale_at p) j)
+VectorsRise p b T = (j : ℕ) → j < columns p → b j ≡ false
+    → IsRising (suc (columns p)) (gain b T (scale_at p) j)
 
--- the values of b' are those of b or greater at the first place where they differ, of which there is one; by cross products
+-- there is a first place at which the values of b and b' differ, and there b' has the greater; by
+-- cross products
 abbrev pub ValuesRise : LinearProgram → Basis → (ℕ → ℕ → ℤ) → Basis → (ℕ → ℕ → ℤ) → Type 0
 ValuesRise p b T b' T' =
     IsRising (suc (columns p))
-    (λ q. value_top b' T' (scale_at p) (right_at p) q *ℤ value_bottom b T (scale_at p) q -ℤ value_top b T (scale_at p) (right_at p) q *ℤ value_bottom b' T' (scale_at p) q)
+    (λ q. value_top b' T' (scale_at p) (right_at p) q *ℤ value_bottom b T (scale_at p) q -ℤ
+    value_top b T (scale_at p) (right_at p) q *ℤ value_bottom b' T' (scale_at p) q)
 
 -- ---- a step of the path
 
--- by this pivot b' follows b, and T' are the rows that come of T, in lowest terms
-pub record IsExchange (p : LinearProgram) (b b' : Basis) (T T' : ℕ → ℕ → ℤ) (l e : ℕ) (pivot : ℕ → ℤ) : Type 0 where
+-- by this pivot b' follows b, and T' are the rows that T becomes, in lowest terms
+pub record IsExchange (p : LinearProgram) (b b' : Basis) (T T' : ℕ → ℕ → ℤ) (l e : ℕ)
+    (pivot : ℕ → ℤ) : Type 0 where
   pub has_pivot : HasPivot p b T l e pivot
   pub fits : (c : ℕ) → Has b c → c ≢ l → Fits (scale_at p) pivot (T c) e
   pub next : (k : ℕ) → b' k ≡ exchanged b l e k

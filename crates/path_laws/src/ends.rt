@@ -1,9 +1,12 @@
-//! Laws of what is read off at the end of the path of a node's program: multipliers whose bound is the cost of least flows, these
-//! flows, or a refutation. `specs/EndLaws` states them, and `specs/Ends` what they speak of.
-ghost use Rattle.path_laws.specs.EndLaws.{ScaleIsPositive, BoundIsReached, BoundIsLeast, ReadFlowsAreRelaxed, ReadFlowsAreLeast, RelaxedAreFlows, RelaxedCostIsCost, RowRefutes};
+//! Laws of what is read off at the end of the path of a node's program: multipliers whose bound is
+//! the cost of least flows, these flows, or a refutation. `specs/EndLaws` states them, with the
+//! definitions of `specs/Ends`.
+ghost use Rattle.path_laws.specs.EndLaws.{ScaleIsPositive, BoundIsReached, BoundIsLeast};
+ghost use Rattle.path_laws.specs.EndLaws.{ReadFlowsAreRelaxed, ReadFlowsAreLeast, RelaxedAreFlows};
+ghost use Rattle.path_laws.specs.EndLaws.{RelaxedCostIsCost, RowRefutes};
 
-/// At a basis of the path that gives least flows, the bound of the cost row's multipliers, over their scale, is the cost of some
-/// relaxed flows, and at most that of all.
+/// At a basis of the path that gives least flows, take the bound of the cost row's multipliers over
+/// their scale. It is the cost of some relaxed flows, and at most that of all.
 pub fn least_flows()
     ensures scale { ScaleIsPositive }
     ensures reached { BoundIsReached }
@@ -16,7 +19,8 @@ pub fn read_flows()
     ensures least { ReadFlowsAreLeast }
 {}
 
-/// Where each unit is either taken in or left out, relaxed flows are flows for the units that are taken in, of the same cost.
+/// If each unit is either taken in or left out, relaxed flows are flows for the units that are
+/// taken in, of the same cost.
 pub fn split_nodes()
     ensures flows { RelaxedAreFlows }
     ensures cost { RelaxedCostIsCost }

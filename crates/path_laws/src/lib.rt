@@ -1,8 +1,12 @@
-//! Laws of bases, tableaux and the path of the dual simplex method over `path_rules`. There is no code here: each law is the contract
-//! of a function without a body, which a proof elsewhere calls to have it, and `specs/` states them.
+//! A program has one path, no basis twice; its end gives least flows or a refutation.
 //!
-//! Modules: `tableaux` has the rows of a basis, `paths` that the path is one and that its numbers of pivots are bounded, `phases` that no
-//! basis stands twice on it, `ranges` which numbers can leave the range, and `ends` what is read off at its end.
+//! These are laws of bases, tableaux and the path of the dual simplex method of `path_rules`. There
+//! is no code: each law is the contract of a function without a body, and `specs/` states it. A
+//! proof elsewhere calls the function to use the law.
+//!
+//! Modules: `tableaux` (the rows of a basis), `paths` (the path is one, and a rank rises along it),
+//! `phases` (no basis is on it twice), `ranges` (which numbers can leave the range), `ends` (what
+//! is read off at its end).
 #![tactic(auto)]
 
 mod ends;

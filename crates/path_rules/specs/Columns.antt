@@ -1,6 +1,7 @@
--- The columns of a tableau and their places in a row: for each unit x, its size above the least, then for each unit s, what
--- is left to the greatest; for each row t, what it is above its floor, then for each row w, what is left to its ceiling.
--- Behind them stand the right side and the scale.
+-- The columns of a tableau and their places in a row. First come the columns x: for each unit its
+-- size above the least. Then s: for each unit what is left to the greatest size. Then t: for each
+-- row what it is above its floor. Then w: for each row what is left to its ceiling. After them come
+-- the right side and the scale.
 use Rattle.std.specs.Prelude.{◌≡◌, ℕ, suc, ◌+◌, Bool, true, false, cond, nat_eq, nat_lt, nat_le}
 use Rattle.path_rules.specs.LinearProgram.{LinearProgram}
 
@@ -34,7 +35,8 @@ Has b k = b k ≡ true
 
 -- all s, t and w, and the scale
 abbrev pub start : LinearProgram → Basis
-start p k = cond (nat_lt k p.units) false (cond (nat_eq k (right_at p)) false (nat_le k (scale_at p)))
+start p k =
+    cond (nat_lt k p.units) false (cond (nat_eq k (right_at p)) false (nat_le k (scale_at p)))
 
 -- the columns that are in the basis after l has left it and e has entered it
 abbrev pub exchanged : Basis → ℕ → ℕ → Basis

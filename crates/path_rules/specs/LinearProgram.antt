@@ -1,13 +1,13 @@
--- A linear program whose columns and rows have ranges, with its columns (the units) and its rows numbered from 0; and the
--- flow program of a node as one.
+-- A linear program whose columns and rows have ranges, and the flow program of a node as one. Its
+-- columns (the units) and its rows are numbered from 0.
 use Rattle.std.specs.Prelude.{ℕ, ◌+◌, ◌*◌, ℤ, pos, ◌*ℤ◌, length, slice_index_or}
 use Rattle.integer_laws.specs.Total.{total_below}
 use Rattle.pns_rules.specs.Nodes.{Node}
 use Rattle.flow_rules.specs.Net.{Net}
 use Rattle.flow_rules.specs.Program.{Program, program_of}
 
--- The sizes z over d are within the program where, for each unit, `low * d ≤ z ≤ high * d` and, for each row,
--- `floor * d ≤ the sum of rate * z ≤ ceiling * d`.
+-- The sizes z over d are within the program if `low * d ≤ z ≤ high * d` for each unit and, for each
+-- row, `floor * d ≤ the sum of rate * z ≤ ceiling * d`.
 pub record LinearProgram : Type 0 where
   pub units : ℕ
   pub rows : ℕ

@@ -1,6 +1,8 @@
--- The columns of a tableau, and the places where a number can leave the range, by the numbers that units and materials have in the
--- problem: a tableau and its path know them by their places in the program.
-use Rattle.std.specs.Prelude.{ℕ, ◌+◌, ◌-◌, not, cond, nat_lt, nat_eq, List, length, map, slice_index_or, Some, None}
+-- The columns of a tableau, and the places at which a number can leave the range, by the numbers
+-- that units and materials have in the problem. A tableau and its path have them by their places in
+-- the program.
+use Rattle.std.specs.Prelude.{ℕ, ◌+◌, ◌-◌, not, cond, nat_lt, nat_eq, List, length, map}
+use Rattle.std.specs.Prelude.{slice_index_or, Some, None}
 use Rattle.std.specs.List.{filter, range_with_len}
 use Rattle.flow_rules.specs.declared.place.Column.{Column}
 use Rattle.flow_rules.specs.declared.place.Column.TheVariants.{X, S, T, W, Right, Scale}
@@ -35,7 +37,8 @@ column_named q k = named_at q (length q.units) (length q.rows) k
 
 -- the columns that are not in the basis, in the order of their places: x, s, t, w
 abbrev pub nonbasic_named : Program → Basis → List Column
-nonbasic_named q b = map (column_named q) (filter (λ k. not (b k)) (range_with_len 0 (columns (linear_of q))))
+nonbasic_named q b =
+    map (column_named q) (filter (λ k. not (b k)) (range_with_len 0 (columns (linear_of q))))
 
 abbrev pub step_named : read.FlowStep → FlowStep
 step_named read.Lcm = steps.Lcm
@@ -46,7 +49,9 @@ step_named read.Total = steps.Total
 -- the row of the scale is the cost row, which has no column's name
 abbrev pub place_named : Program → path.Place → Place
 place_named q (path.Entry leave enter row column which) =
-    places.Entry (column_named q leave) (column_named q enter) (cond (nat_eq row (scale_at (linear_of q))) None (Some (column_named q row))) (column_named q column) which
+    places.Entry (column_named q leave) (column_named q enter)
+    (cond (nat_eq row (scale_at (linear_of q))) None (Some (column_named q row)))
+    (column_named q column) which
 place_named q (path.Flow unit step) = places.Flow (unit_named q unit) (step_named step)
 place_named q (path.Cost at) = places.Cost at
 place_named q (path.FlowSum at) = places.FlowSum at

@@ -1,4 +1,4 @@
--- What it means that a place is past for a node, by the numbers of the problem.
+-- When a number overflows at a place for a node, by the numbers of the problem.
 use Rattle.std.specs.Prelude.{◌≡◌, List}
 use Rattle.flow_rules.specs.declared.place.Column.{Column}
 use Rattle.flow_rules.specs.declared.place.Place.{Place}
@@ -9,9 +9,10 @@ use Rattle.path_rules.specs.Columns.{Basis}
 use Rattle.path_rules.specs.Places as path
 use Rattle.path_rules.specs.Named.{nonbasic_named, place_named}
 
--- the place is past at the last basis of the path of the node's program, and these are the other columns, all by the numbers of
--- the problem
-pub record IsPastNamed (net : Net) (n : Node) (nonbasic : List Column) (place : Place) : Type 0 where
+-- a number overflows at the place, at the last basis of the path of the node's program; these are
+-- the columns outside that basis; all by the numbers of the problem
+pub record IsPastNamed (net : Net) (n : Node) (nonbasic : List Column) (place : Place) : Type
+    0 where
   pub last : Basis
   pub at : path.Place
   pub nonbasic_are : nonbasic ≡ nonbasic_named (program_of net n) last

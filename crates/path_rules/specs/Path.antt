@@ -1,5 +1,5 @@
--- The path of a program: a list of bases. It begins with the start, and goes on by pivots until a basis has none or a number
--- of it is out of range.
+-- The path of a program: a list of bases. It begins with the start, and goes on by pivots until a
+-- basis has none or a number of the pivot is out of range.
 use Rattle.std.specs.Prelude.{◌≡◌, ◌≢◌, ℕ, zero, suc, ◌<◌, ◌≤◌, ℤ, pos, None, Some}
 use Rattle.integer_laws.specs.declared.which.Which.{Which}
 use Rattle.integer_laws.specs.Combined.{past_of}
@@ -9,12 +9,14 @@ use Rattle.path_rules.specs.Columns.{Basis, Has, start, exchanged, scale_at}
 use Rattle.path_rules.specs.Tableau.{IsTableau}
 use Rattle.path_rules.specs.Pivots.{HasPivot}
 
--- A row up to place `last` can be combined with the pivot row so that its entry at e becomes 0: no number on the way is out
--- of range. A row with entry 0 at e stays as it is.
+-- A row up to place `last` can be combined with the pivot row so that its entry at e becomes 0: no
+-- number on the way is out of range. A row with entry 0 at e stays as it is.
 abbrev pub Fits : ℕ → (ℕ → ℤ) → (ℕ → ℤ) → ℕ → Type 0
-Fits last pivot row e = row e ≢ pos 0 → (m n : ℤ) → IsLowest (row e) (pivot e) n m → (k : ℕ) → k ≤ last → past_of m (row k) n (pivot k) ≡ None
+Fits last pivot row e = row e ≢ pos 0 → (m n : ℤ) → IsLowest (row e) (pivot e) n m → (k : ℕ)
+    → k ≤ last → past_of m (row k) n (pivot k) ≡ None
 
--- the first number on that way that is out of range, place by place, stands at place k and is `which` there
+-- place by place, the first number on that way that is out of range is at place k and is `which`
+-- there
 pub record IsPastEntry (last : ℕ) (pivot row : ℕ → ℤ) (e k : ℕ) (which : Which) : Type 0 where
   pub counts : row e ≢ pos 0
   pub place : k ≤ last

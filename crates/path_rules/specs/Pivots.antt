@@ -5,7 +5,8 @@ use Rattle.path_rules.specs.Columns.{Basis, Has, x_at, s_at, columns, right_at, 
 use Rattle.path_rules.specs.Lexicographic.{IsBefore}
 use Rattle.path_rules.specs.Vectors.{gain}
 
--- The first unit whose entry in the cost row is below 0. Its s is in the basis, with a row that is positive at its x.
+-- The first unit whose entry in the cost row is below 0. Its s is in the basis, with a row that is
+-- positive at its x.
 pub record IsFirstKind (p : LinearProgram) (b : Basis) (T : ℕ → ℕ → ℤ) (unit : ℕ) : Type 0 where
   pub is_unit : unit < p.units
   pub negative : T (scale_at p) (x_at p unit) <ℤ pos 0
@@ -21,16 +22,21 @@ pub record IsLeaving (p : LinearProgram) (b : Basis) (T : ℕ → ℕ → ℤ) (
   pub negative : T l (right_at p) <ℤ pos 0
   pub before : (c : ℕ) → c < l → Has b c → pos 0 ≤ℤ T c (right_at p)
 
--- of the columns at which the row of l is below 0, e has the least vector over minus that entry; compared by cross products
+-- Of the columns at which the row of l is below 0, e has the least vector over minus that entry.
+-- The comparison is by cross products.
 pub record IsEntering (p : LinearProgram) (b : Basis) (T : ℕ → ℕ → ℤ) (l e : ℕ) : Type 0 where
   pub column : e < columns p
   pub negative : T l e <ℤ pos 0
-  pub least : (j : ℕ) → j < columns p → T l j <ℤ pos 0 → j ≢ e → IsBefore (suc (columns p)) (λ q. neg_ℤ (T l j) *ℤ gain b T (scale_at p) e q) (λ q. neg_ℤ (T l e) *ℤ gain b T (scale_at p) j q)
+  pub least : (j : ℕ) → j < columns p → T l j <ℤ pos 0 → j ≢ e
+      → IsBefore (suc (columns p)) (λ q. neg_ℤ (T l j) *ℤ gain b T (scale_at p) e q)
+      (λ q. neg_ℤ (T l e) *ℤ gain b T (scale_at p) j q)
 
 -- the pivot by which l leaves the basis and e enters it, with its pivot row
 pub data HasPivot (p : LinearProgram) (b : Basis) (T : ℕ → ℕ → ℤ) : ℕ → ℕ → (ℕ → ℤ) → Type 0 where
-  first_kind : (unit : ℕ) → IsFirstKind p b T unit → HasPivot p b T (s_at p unit) (x_at p unit) (T (s_at p unit))
-  second_kind : (l e : ℕ) → IsLeaving p b T l → IsEntering p b T l e → HasPivot p b T l e (λ k. neg_ℤ (T l k))
+  first_kind : (unit : ℕ) → IsFirstKind p b T unit
+      → HasPivot p b T (s_at p unit) (x_at p unit) (T (s_at p unit))
+  second_kind : (l e : ℕ) → IsLeaving p b T l → IsEntering p b T l e
+      → HasPivot p b T l e (λ k. neg_ℤ (T l k))
 
 -- no entry of the cost row is below 0, and no value: the basis gives least flows
 pub record IsFeasible (p : LinearProgram) (b : Basis) (T : ℕ → ℕ → ℤ) : Type 0 where

@@ -18,7 +18,9 @@ power w (suc n) = power w n * w
 
 -- The rank of a list of n fractions of numbers of at most m.
 abbrev pub rank : ℕ → ℕ → (ℕ → ℤ) → (ℕ → ℤ) → ℕ
-rank m n top bottom = number (2 * m * (m * m) + 1) n (λ q. digit m (unsigned_abs (top q +ℤ pos m *ℤ bottom q)) (unsigned_abs (bottom q)))
+rank m n top bottom =
+    number (2 * m * (m * m) + 1) n
+    (λ q. digit m (unsigned_abs (top q +ℤ pos m *ℤ bottom q)) (unsigned_abs (bottom q)))
 
 -- the fractions have positive denominators, and no number is above m
 pub record IsWithin (m n : ℕ) (top bottom : ℕ → ℤ) : Type 0 where

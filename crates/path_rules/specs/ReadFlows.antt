@@ -1,5 +1,6 @@
 -- The flows of a basis, and the numbers that are formed on the way to them. T is the tableau.
-use Rattle.std.specs.Prelude.{◌≡◌, ℕ, suc, ◌<◌, false, ℤ, pos, ◌+ℤ◌, ◌*ℤ◌, ◌≤ℤ◌, int_div, unsigned_abs, List, [], ◌∷◌, ◌++◌, map, cond, get_or}
+use Rattle.std.specs.Prelude.{◌≡◌, ℕ, suc, ◌<◌, false, ℤ, pos, ◌+ℤ◌, ◌*ℤ◌, ◌≤ℤ◌, int_div}
+use Rattle.std.specs.Prelude.{unsigned_abs, List, [], ◌∷◌, ◌++◌, map, cond, get_or}
 use Rattle.std.specs.List.{range_with_len}
 use Rattle.std.specs.Int.{◌∣◌}
 use Rattle.integer_laws.specs.Lowest.{IsLowest}
@@ -13,18 +14,22 @@ pub record IsLcm (a b m : ℕ) : Type 0 where
   pub right : b ∣ m
   pub least : (c : ℕ) → a ∣ c → b ∣ c → m ∣ c
 
--- `right` over `own` is the value of each x in the basis in lowest terms, and 0 over 1 for the others. The common
--- denominator begins with 1, and for each x in the basis becomes the least common multiple with its `own`.
-pub record AreValues (p : LinearProgram) (b : Basis) (T : ℕ → ℕ → ℤ) (own right : ℕ → ℤ) (den : ℕ → ℤ) : Type 0 where
-  pub basic : (i : ℕ) → i < p.units → Has b (x_at p i) → IsLowest (T (x_at p i) (right_at p)) (T (x_at p i) (x_at p i)) (right i) (own i)
+-- For each x in the basis `right` over `own` is its value in lowest terms; for the others it is 0
+-- over 1. The common denominator begins with 1. At each x in the basis it becomes the least common
+-- multiple with the `own` of x.
+pub record AreValues (p : LinearProgram) (b : Basis) (T : ℕ → ℕ → ℤ) (own right : ℕ → ℤ)
+    (den : ℕ → ℤ) : Type 0 where
+  pub basic : (i : ℕ) → i < p.units → Has b (x_at p i)
+      → IsLowest (T (x_at p i) (right_at p)) (T (x_at p i) (x_at p i)) (right i) (own i)
   pub outside-right : (i : ℕ) → i < p.units → b (x_at p i) ≡ false → right i ≡ pos 0
   pub outside-own : (i : ℕ) → i < p.units → b (x_at p i) ≡ false → own i ≡ pos 1
   pub first : den 0 ≡ pos 1
   pub not_negative : (i : ℕ) → i < p.units → pos 0 ≤ℤ den (suc i)
-  pub next : (i : ℕ) → i < p.units → IsLcm (unsigned_abs (den i)) (unsigned_abs (own i)) (unsigned_abs (den (suc i)))
+  pub next : (i : ℕ) → i < p.units
+      → IsLcm (unsigned_abs (den i)) (unsigned_abs (own i)) (unsigned_abs (den (suc i)))
 
--- a number that is formed for a unit: the common denominator so far, the least size times the last common denominator, the
--- size above the least times it, and the sum of the two
+-- a number that is formed for a unit: the common denominator so far; the least size times the last
+-- common denominator; the size above the least times it; or the sum of the last two
 pub data FlowStep : Type 0 where
   Lcm : FlowStep
   Shift : FlowStep
@@ -58,7 +63,8 @@ lcms b (i ∷ is) = cond (b i) (record { unit = i; step = Lcm } ∷ lcms b is) (
 -- the second round: all units
 abbrev pub sizes : List ℕ → List Formed
 sizes [] = []
-sizes (i ∷ is) = record { unit = i; step = Shift } ∷ record { unit = i; step = Scaled } ∷ record { unit = i; step = Total } ∷ sizes is
+sizes (i ∷ is) = record { unit = i; step = Shift } ∷ record { unit = i; step = Scaled }
+    ∷ record { unit = i; step = Total } ∷ sizes is
 
 -- all numbers in the order in which they are formed
 abbrev pub rounds : LinearProgram → Basis → List Formed
@@ -68,7 +74,8 @@ abbrev pub numbers : LinearProgram → Basis → (ℕ → ℤ) → (ℕ → ℤ)
 numbers p b own right den = map (λ f. formed p own right den f.unit f.step) (rounds p b)
 
 -- the flows of the basis are read, over d, with no number out of range
-pub record AreRead (p : LinearProgram) (b : Basis) (T : ℕ → ℕ → ℤ) (zs : List ℤ) (d : ℤ) : Type 0 where
+pub record AreRead (p : LinearProgram) (b : Basis) (T : ℕ → ℕ → ℤ) (zs : List ℤ) (d : ℤ) : Type
+    0 where
   pub own : ℕ → ℤ
   pub right : ℕ → ℤ
   pub den : ℕ → ℤ
@@ -78,11 +85,13 @@ pub record AreRead (p : LinearProgram) (b : Basis) (T : ℕ → ℕ → ℤ) (zs
   pub d_is : d ≡ den p.units
 
 -- the first number out of range is this one of this unit
-pub record IsPastFlow (p : LinearProgram) (b : Basis) (T : ℕ → ℕ → ℤ) (unit : ℕ) (step : FlowStep) : Type 0 where
+pub record IsPastFlow (p : LinearProgram) (b : Basis) (T : ℕ → ℕ → ℤ) (unit : ℕ)
+    (step : FlowStep) : Type 0 where
   pub own : ℕ → ℤ
   pub right : ℕ → ℤ
   pub den : ℕ → ℤ
   pub values : AreValues p b T own right den
   pub at : ℕ
   pub past : IsFirstPast (numbers p b own right den) at
-  pub is : get_or (rounds p b) at (record { unit = unit; step = step }) ≡ record { unit = unit; step = step }
+  pub is : get_or (rounds p b) at (record { unit = unit; step = step })
+      ≡ record { unit = unit; step = step }

@@ -1,15 +1,17 @@
--- The tableau of a basis: for each of its columns the one combination of the equations in lowest terms that has a positive
--- entry there and 0 at the other columns of the basis. The row of the scale is the cost row.
+-- The tableau of a basis. For each of its columns it has the one combination of the equations in
+-- lowest terms that has a positive entry there and 0 at the other columns of the basis. The row of
+-- the scale is the cost row.
 use Rattle.std.specs.Prelude.{◌≡◌, ◌≢◌, ℕ, suc, ◌<◌, ◌≤◌, ℤ, pos, neg_ℤ, ◌<ℤ◌, unsigned_abs}
 use Rattle.std.specs.Int.{◌∣◌}
 use Rattle.path_rules.specs.LinearProgram.{LinearProgram}
 use Rattle.path_rules.specs.Columns.{Basis, Has, right_at, scale_at}
 use Rattle.path_rules.specs.Equations.{IsCombination, IsSolution, dot}
 
--- The equations determine the columns of the basis from the others: no combination of them is 0 at all columns of the basis
--- but the one that is 0 everywhere.
+-- The equations determine the columns of the basis from the others: a combination of them that is 0
+-- at all columns of the basis is 0 everywhere.
 abbrev pub IsIndependent : LinearProgram → Basis → Type 0
-IsIndependent p b = (r : ℕ → ℤ) → IsCombination p r → ((k : ℕ) → Has b k → r k ≡ pos 0) → (k : ℕ) → k ≤ scale_at p → r k ≡ pos 0
+IsIndependent p b = (r : ℕ → ℤ) → IsCombination p r → ((k : ℕ) → Has b k → r k ≡ pos 0) → (k : ℕ)
+    → k ≤ scale_at p → r k ≡ pos 0
 
 -- no number above 1 divides each of the first n entries
 abbrev pub IsPrimitive : ℕ → (ℕ → ℤ) → Type 0
@@ -28,4 +30,5 @@ IsTableau p b rows = (c : ℕ) → Has b c → IsRowOf p b c (rows c)
 
 -- what solves the rows solves the equations
 abbrev pub IsComplete : LinearProgram → Basis → (ℕ → ℕ → ℤ) → Type 0
-IsComplete p b rows = (v : ℕ → ℤ) (d : ℤ) → v (right_at p) ≡ neg_ℤ d → ((c : ℕ) → Has b c → dot p (rows c) v ≡ pos 0) → IsSolution p v d
+IsComplete p b rows = (v : ℕ → ℤ) (d : ℤ) → v (right_at p) ≡ neg_ℤ d
+    → ((c : ℕ) → Has b c → dot p (rows c) v ≡ pos 0) → IsSolution p v d

@@ -1,8 +1,11 @@
 //! The text of a design.
-ghost use Rattle.std.specs.Prelude.{◌≡◌, ◌≤◌, ◌<◌, ◌+◌, ◌++◌, ◌∷◌, [], IfOk, OnOk, codes, decimal, length, string_bytes};
+ghost use Rattle.std.specs.Prelude.{◌≡◌, ◌≤◌, ◌<◌, ◌+◌, ◌++◌, ◌∷◌, [], IfOk, OnOk, codes};
+ghost use Rattle.std.specs.Prelude.{decimal};
+ghost use Rattle.std.specs.Prelude.{length, string_bytes};
 ghost use Rattle.std.specs.Fmt.{signed_decimal};
 ghost use Rattle.studio_rules.specs.Lines.{text_of};
-ghost use Rattle.studio_rules.specs.DesignText.{spaced_units, spaced_numbers, built_lines, run_lines, runs_lines, design_lines};
+ghost use Rattle.studio_rules.specs.DesignText.{spaced_units, spaced_numbers, built_lines};
+ghost use Rattle.studio_rules.specs.DesignText.{run_lines, runs_lines, design_lines};
 
 use designs::{Design, Run};
 use endings::line::push_unit_names;
@@ -11,7 +14,8 @@ use std::alloc::{AllocError, Global};
 use unit_sets::UnitSet;
 
 fn push_number(line: &mut String, number: i128) -> Result<(), AllocError>
-    ensures { OnOk result (string_bytes line.new ≡ string_bytes line.old ++ 32 ∷ signed_decimal number) }
+    ensures { OnOk result
+        (string_bytes line.new ≡ string_bytes line.old ++ 32 ∷ signed_decimal number) }
 {
     line.push(' ')?;
     write!(line, "{number}")?;
@@ -20,7 +24,8 @@ fn push_number(line: &mut String, number: i128) -> Result<(), AllocError>
 
 /// Appends the numbers, each after a space.
 fn push_numbers(line: &mut String, numbers: &[i128]) -> Result<(), AllocError>
-    ensures { OnOk result (string_bytes line.new ≡ string_bytes line.old ++ spaced_numbers numbers.now) }
+    ensures { OnOk result
+        (string_bytes line.new ≡ string_bytes line.old ++ spaced_numbers numbers.now) }
 {
     'printing: for number in numbers {
         push_number(line, *number)?;
@@ -38,7 +43,8 @@ fn push_units(text: &mut Vec<u8>, problem: &Problem, units: UnitSet) -> Result<(
 
 /// The line of a period with its number, and the first word of the next.
 fn head_text(alloc: Global, number: u32) -> Result<String, AllocError>
-    ensures { IfOk result (λ text. string_bytes text ≡ codes "period " ++ (decimal number ++ 10 ∷ codes "units")) }
+    ensures { IfOk result
+        (λ text. string_bytes text ≡ codes "period " ++ (decimal number ++ 10 ∷ codes "units")) }
 {
     let text = format!(in alloc; "period {number}\nunits")?;
     Ok(text)
@@ -46,7 +52,9 @@ fn head_text(alloc: Global, number: u32) -> Result<String, AllocError>
 
 /// The line of sizes, from the end of the line of names on.
 fn sizes_text(alloc: Global, sizes: &[i128]) -> Result<String, AllocError>
-    ensures { IfOk result (λ text. string_bytes text ≡ (10 ∷ codes "sizes") ++ (spaced_numbers sizes.now ++ 10 ∷ [])) }
+    ensures { IfOk result
+        (λ text. string_bytes text ≡ (10 ∷ codes "sizes")
+        ++ (spaced_numbers sizes.now ++ 10 ∷ [])) }
 {
     let mut text = String::from_str(alloc, "\nsizes")?;
     push_numbers(&mut text, sizes)?;
@@ -56,7 +64,8 @@ fn sizes_text(alloc: Global, sizes: &[i128]) -> Result<String, AllocError>
 
 /// The divisor of all sizes, with the first word of its line, from the end of the line of names on.
 fn over_text(alloc: Global, d: i128) -> Result<String, AllocError>
-    ensures { IfOk result (λ text. string_bytes text ≡ (10 ∷ codes "capacities ") ++ signed_decimal d) }
+    ensures { IfOk result
+        (λ text. string_bytes text ≡ (10 ∷ codes "capacities ") ++ signed_decimal d) }
 {
     let text = format!(in alloc; "\ncapacities {d}")?;
     Ok(text)
@@ -64,7 +73,9 @@ fn over_text(alloc: Global, d: i128) -> Result<String, AllocError>
 
 /// The line of capacities, from the end of the line of names on.
 fn capacities_text(alloc: Global, d: i128, capacities: &[i128]) -> Result<String, AllocError>
-    ensures { IfOk result (λ text. string_bytes text ≡ ((10 ∷ codes "capacities ") ++ signed_decimal d) ++ spaced_numbers capacities.now) }
+    ensures { IfOk result
+        (λ text. string_bytes text ≡ ((10 ∷ codes "capacities ") ++ signed_decimal d)
+        ++ spaced_numbers capacities.now) }
 {
     let mut text = over_text(alloc, d)?;
     push_numbers(&mut text, capacities)?;
@@ -73,7 +84,8 @@ fn capacities_text(alloc: Global, d: i128, capacities: &[i128]) -> Result<String
 
 /// The line of the cost, from the end of the line of capacities on.
 fn cost_text(alloc: Global, cost: i128) -> Result<String, AllocError>
-    ensures { IfOk result (λ text. string_bytes text ≡ (10 ∷ codes "cost ") ++ (signed_decimal cost ++ 10 ∷ [])) }
+    ensures { IfOk result
+        (λ text. string_bytes text ≡ (10 ∷ codes "cost ") ++ (signed_decimal cost ++ 10 ∷ [])) }
 {
     let text = format!(in alloc; "\ncost {cost}\n")?;
     Ok(text)
@@ -81,8 +93,13 @@ fn cost_text(alloc: Global, cost: i128) -> Result<String, AllocError>
 
 /// The lines of capacities and of the cost, from the end of the line of names on.
 fn costs_text(alloc: Global, design: &Design) -> Result<(String, String), AllocError>
-    ensures capacities { IfOk result (λ texts. string_bytes texts.0 ≡ ((10 ∷ codes "capacities ") ++ signed_decimal design.now.d) ++ spaced_numbers design.now.capacities) }
-    ensures cost { IfOk result (λ texts. string_bytes texts.1 ≡ (10 ∷ codes "cost ") ++ (signed_decimal design.now.cost ++ 10 ∷ [])) }
+    ensures capacities { IfOk result
+        (λ texts. string_bytes texts.0
+        ≡ ((10 ∷ codes "capacities ") ++ signed_decimal design.now.d)
+        ++ spaced_numbers design.now.capacities) }
+    ensures cost { IfOk result
+        (λ texts. string_bytes texts.1 ≡ (10 ∷ codes "cost ")
+        ++ (signed_decimal design.now.cost ++ 10 ∷ [])) }
 {
     let capacities = capacities_text(alloc, design.d, &design.capacities)?;
     let cost = cost_text(alloc, design.cost)?;
@@ -104,7 +121,8 @@ fn push_run(
     number: u32,
     run: &Run,
 ) -> Result<(), AllocError>
-    ensures { OnOk result (text.new.items ≡ text.old.items ++ text_of (run_lines problem.now number run.now)) }
+    ensures { OnOk result
+        (text.new.items ≡ text.old.items ++ text_of (run_lines problem.now number run.now)) }
 {
     let head = head_text(alloc, number)?;
     let sizes = sizes_text(alloc, &run.sizes)?;
@@ -122,7 +140,8 @@ fn push_runs(
     runs: &[Run],
 ) -> Result<(), AllocError>
     requires { length runs.now ≤ 256 }
-    ensures { OnOk result (text.new.items ≡ text.old.items ++ text_of (runs_lines problem.now 1 runs.now)) }
+    ensures { OnOk result
+        (text.new.items ≡ text.old.items ++ text_of (runs_lines problem.now 1 runs.now)) }
 {
     let mut number: u32 = 1;
     'running: for run in runs {
@@ -139,7 +158,8 @@ fn push_built(
     problem: &Problem,
     design: &Design,
 ) -> Result<(), AllocError>
-    ensures { OnOk result (text.new.items ≡ text.old.items ++ text_of (built_lines problem.now design.now)) }
+    ensures { OnOk result
+        (text.new.items ≡ text.old.items ++ text_of (built_lines problem.now design.now)) }
 {
     let texts = costs_text(alloc, design)?;
     push_text(text, "built")?;

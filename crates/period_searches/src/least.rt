@@ -35,7 +35,9 @@ fn network_text(
 ) -> Result<Vec<u8>, AllocError>
     requires plan { IsPlan problem.now plan.now }
     requires feasible { IsFeasible (expanded problem.now plan.now) network.now }
-    ensures { IfOk result (λ text. text.items ≡ text_of (design_lines problem.now (folded problem.now plan.now network.now))) }
+    ensures { IfOk result
+        (λ text. text.items
+        ≡ text_of (design_lines problem.now (folded problem.now plan.now network.now))) }
 {
     problem.is_valid();
     plans_are_short();

@@ -24,7 +24,10 @@ fn say_planned<F: Shelf, K: Sink, E: Sink, W: Watch>(
 ) -> Status
     requires some { 1 ≤ effort.budget }
     requires few { effort.budget ≤ 1000000 }
-    ensures ends { Ends (Says (OnPlan (PeriodsWork effort.budget) (F.state shelf.old).held plan.now problem.now) (λ other. other ≡ plan.now) (F.state shelf.old) (F.state shelf.new)) out.old out.new result }
+    ensures ends { Ends
+        (Says (OnPlan (PeriodsWork effort.budget) (F.state shelf.old).held plan.now problem.now)
+        (λ other. other ≡ plan.now) (F.state shelf.old) (F.state shelf.new)) out.old out.new
+        result }
     ensures keeps { Keeps (F.state shelf.old) (F.state shelf.new) }
 {
     match plan_of(alloc, shelf, out, plan, problem) {
@@ -45,7 +48,9 @@ pub fn periods<F: Shelf, K: Sink, E: Sink, W: Watch>(
 ) -> Status
     requires some { 1 ≤ effort.budget }
     requires few { effort.budget ≤ 1000000 }
-    ensures ends { Ends (TwoFilesSay (OnPlan (PeriodsWork effort.budget)) file.now plan.now (F.state shelf.old) (F.state shelf.new)) out.old out.new result }
+    ensures ends { Ends
+        (TwoFilesSay (OnPlan (PeriodsWork effort.budget)) file.now plan.now (F.state shelf.old)
+        (F.state shelf.new)) out.old out.new result }
     ensures keeps { Keeps (F.state shelf.old) (F.state shelf.new) }
 {
     match problem_of(alloc, shelf, out, file) {

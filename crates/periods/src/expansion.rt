@@ -11,7 +11,8 @@ use plan_laws::{expanded_is_valid, plans_are_short};
 use pns_problem::{Parts, Problem};
 use std::alloc::{AllocError, Global};
 
-/// The ordinary problem into which the problem and the plan are expanded. Its only refusal is want of memory.
+/// The ordinary problem into which the problem and the plan are expanded. The only refusal is out
+/// of memory.
 pub fn expand(alloc: Global, problem: &Problem, plan: &Plan) -> Result<Problem, AllocError>
     requires { IsPlan problem.now plan.now }
     ensures { IfOk result (λ whole. whole ≡ expanded problem.now plan.now) }

@@ -1,7 +1,8 @@
-//! A plant over several periods: the plan as a value, and the ordinary problem into which the plant and its plan are expanded.
+//! A plant over several periods, expanded into one ordinary problem.
 //!
-//! Contracts see plans and periods as the records of `plan_rules`, and which problem it is by the definition there. Modules:
-//! `plan` (the values), `number` (names and terms), `materials`, `units`, and `expansion`.
+//! A plan is a value here. Contracts see plans and periods as the records of `plan_rules`, and say
+//! which problem it is with the definition there. Modules: `plan` (the values), `number` (names and
+//! terms), `materials`, `units`, and `expansion`.
 #![tactic(auto)]
 
 mod expansion;

@@ -2,7 +2,8 @@
 ghost use Rattle.std.specs.Prelude.{◌≡◌, ◌++◌, ◌<◌, ◌≤◌, IfOk, OnOk, length, map, flat_map};
 ghost use Rattle.std.specs.List.{range_with_len};
 ghost use Rattle.problem_rules.specs.Each.{Each};
-ghost use Rattle.plan_rules.specs.Expanded.{site, copy, copies, capacity, capacities, period_materials, materials_of};
+ghost use Rattle.plan_rules.specs.Expanded.{site, copy, copies, capacity, capacities};
+ghost use Rattle.plan_rules.specs.Expanded.{period_materials, materials_of};
 ghost use Rattle.plan_rules.specs.Plan.{IsPeriod, IsPlan};
 
 use crate::number::{UNLIMITED, numbered, numbered_in};
@@ -81,7 +82,8 @@ fn push_copies(
 ) -> Result<(), AllocError>
     requires formed { IsPeriod (length problem.now.materials) at.now }
     requires few { period < 1000 }
-    ensures { OnOk result (materials.new.items ≡ materials.old.items ++ copies problem.now at.now period) }
+    ensures { OnOk result
+        (materials.new.items ≡ materials.old.items ++ copies problem.now at.now period) }
 {
     problem.is_valid();
     let count = problem.materials().len() as u32;
@@ -98,7 +100,8 @@ fn push_capacities(
     period: u32,
 ) -> Result<(), AllocError>
     requires { period < 1000 }
-    ensures { OnOk result (materials.new.items ≡ materials.old.items ++ capacities problem.now period) }
+    ensures { OnOk result
+        (materials.new.items ≡ materials.old.items ++ capacities problem.now period) }
 {
     problem.is_valid();
     let count = problem.units().len() as u32;
@@ -108,7 +111,7 @@ fn push_capacities(
     Ok(())
 }
 
-// The materials of one period behind those before.
+// Adds the materials of one period.
 fn push_period(
     alloc: Global,
     materials: &mut Vec<Material>,
@@ -118,13 +121,15 @@ fn push_period(
 ) -> Result<(), AllocError>
     requires formed { IsPeriod (length problem.now.materials) at.now }
     requires few { period < 1000 }
-    ensures { OnOk result (materials.new.items ≡ materials.old.items ++ (copies problem.now at.now period ++ capacities problem.now period)) }
+    ensures { OnOk result
+        (materials.new.items ≡ materials.old.items
+        ++ (copies problem.now at.now period ++ capacities problem.now period)) }
 {
     push_copies(alloc, materials, problem, at, period)?;
     push_capacities(alloc, materials, problem, period)
 }
 
-// The materials of these periods behind those before.
+// Adds the materials of these periods.
 fn push_periods(
     alloc: Global,
     materials: &mut Vec<Material>,
@@ -133,7 +138,10 @@ fn push_periods(
 ) -> Result<(), AllocError>
     requires formed { Each (IsPeriod (length problem.now.materials)) periods.now }
     requires few { length periods.now ≤ 256 }
-    ensures { OnOk result (materials.new.items ≡ materials.old.items ++ flat_map (period_materials problem.now (record { periods = periods.now })) (range_with_len 0 (length periods.now))) }
+    ensures { OnOk result
+        (materials.new.items ≡ materials.old.items
+        ++ flat_map (period_materials problem.now (record { periods = periods.now }))
+        (range_with_len 0 (length periods.now))) }
 {
     let mut t: u32 = 0;
     'copying: for at in periods {
@@ -143,7 +151,8 @@ fn push_periods(
     Ok(())
 }
 
-/// All materials: what the units are built of, and then, for each period, those of the plant and the capacities.
+/// All materials: those of which the units are built, and then, for each period, those of the plant
+/// and the capacities.
 pub(crate) fn materials_of(
     alloc: Global,
     problem: &Problem,

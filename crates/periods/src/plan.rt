@@ -21,7 +21,12 @@ impl Model for Period {
 
     ghost Value = { rules.Period };
 
-    ghost view = { λ q. record { prices = q.prices.items; lowers = q.lowers.items; uppers = q.uppers.items } };
+    ghost view = { λ q. record {
+      prices = q.prices.items;
+      lowers = q.lowers.items;
+      uppers =
+          q.uppers.items;
+    } };
 }
 
 impl Period {
@@ -54,14 +59,18 @@ impl Period {
 
     /// Sets both bounds of the material of this number, if there is one.
     pub fn set_bounds(&mut self, material: u32, lower: i64, upper: i64)
-        ensures { self.new ≡ record self.old { lowers = slice_set self.old.lowers material lower; uppers = slice_set self.old.uppers material upper } }
+        ensures { self.new ≡ record self.old {
+          lowers = slice_set self.old.lowers material lower;
+          uppers =
+              slice_set self.old.uppers material upper;
+        } }
     {
         set(&mut self.lowers, material, lower);
         set(&mut self.uppers, material, upper);
     }
 }
 
-// Sets the number at a place; one past the end changes nothing.
+// Sets the number at a place; a place at or after the end changes nothing.
 #[tactic(auto, using(std::proofs::lemmas::List::set_past))]
 fn set(numbers: &mut Vec<i64>, place: u32, number: i64)
     ensures { numbers.new.items ≡ slice_set numbers.old.items place number }
@@ -91,7 +100,8 @@ impl Plan {
     pub fn of(problem: &Problem, periods: Vec<Period>) -> Result<Plan, PlanKind>
         ensures plan { IfOk result (λ plan. plan ≡ record { periods = periods.items }) }
         ensures good { IfOk result (λ _. count_fault problem.now (length periods.items) ≡ None) }
-        ensures fault { IfErr result (λ kind. count_fault problem.now (length periods.items) ≡ Some kind) }
+        ensures fault { IfErr result
+            (λ kind. count_fault problem.now (length periods.items) ≡ Some kind) }
     {
         if periods.is_empty() {
             Err(PlanKind::NoPeriod)
@@ -102,9 +112,11 @@ impl Plan {
         }
     }
 
-    /// Whether the expanded problem of a plan of so many periods has more than 128 units or 256 materials.
+    /// Whether the expanded problem of a plan of so many periods has more than 128 units or 256
+    /// materials.
     pub fn is_too_wide(problem: &Problem, periods: usize) -> bool
-        ensures { result ≡ is_too_wide (length problem.now.units) (length problem.now.materials) periods }
+        ensures { result ≡ is_too_wide (length problem.now.units) (length problem.now.materials)
+            periods }
     {
         problem.is_valid();
         let units = problem.units().len() as u128;

@@ -4,7 +4,8 @@ ghost use Rattle.std.specs.List.{range_with_len};
 ghost use Rattle.problem_rules.specs.Each.{Each};
 ghost use Rattle.problem_rules.specs.Problem.{unit_at};
 ghost use Rattle.problem_rules.specs.WellFormed.{IsWellFormedTerm};
-ghost use Rattle.plan_rules.specs.Expanded.{first_of, capacity_of, at_rate_one, built, built_units, side_in, running, period_units, units_of};
+ghost use Rattle.plan_rules.specs.Expanded.{first_of, capacity_of, at_rate_one, built, built_units};
+ghost use Rattle.plan_rules.specs.Expanded.{side_in, running, period_units, units_of};
 
 use crate::number::{at_rate_one, numbered, numbered_in};
 use pns_problem::{OperatingUnit, Problem, Term};
@@ -40,7 +41,9 @@ fn capacities_of(
 ) -> Result<Vec<Term>, AllocError>
     requires few { periods ≤ 256 }
     requires known { unit < length problem.now.units }
-    ensures { IfOk result (λ v. v.items ≡ map (λ t. at_rate_one (capacity_of problem.now t unit)) (range_with_len 0 periods)) }
+    ensures { IfOk result
+        (λ v. v.items ≡ map (λ t. at_rate_one (capacity_of problem.now t unit))
+        (range_with_len 0 periods)) }
 {
     let mut terms = Vec::new(alloc);
     'making: for period in 0..periods {

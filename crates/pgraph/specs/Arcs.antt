@@ -7,7 +7,7 @@ pub record Arcs : Type 0 where
   pub materials : List (List ℕ)
   pub units : List (List ℕ)
 
--- none where there is no such unit, and no such material
+-- none if there is no such unit, or no such material
 abbrev pub materials_at : Arcs → ℕ → List ℕ
 materials_at a u = slice_index_or a.materials u []
 
@@ -22,7 +22,7 @@ joins a u x = has (units_at a x) u
 abbrev pub joins_some : Arcs → (ℕ → Bool) → ℕ → Bool
 joins_some a o x = any_below (length a.materials) (λ u. o u && joins a u x)
 
--- both ends tell the same, and there are no more units and materials than a set can hold
+-- both ends agree, and there are no more units and materials than a set can have
 pub record IsArcs (a : Arcs) : Type 0 where
   pub both_ends : (u x : ℕ) → has (materials_at a u) x ≡ joins a u x
   pub few_units : length a.materials ≤ 128

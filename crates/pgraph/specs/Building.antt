@@ -1,6 +1,8 @@
 -- What the building of a graph reads of a problem.
 use Rattle.std.specs.Prelude.{ℕ, Bool, List, slice_index_or}
-use Rattle.problem_rules.specs.Problem.{Material, Term, OperatingUnit, Exclusion, no_material, no_unit, no_exclusion, is_raw_material, is_product, terms_have}
+use Rattle.problem_rules.specs.Problem.{Material, Term, OperatingUnit, Exclusion, no_material}
+use Rattle.problem_rules.specs.Problem.{no_unit, no_exclusion, is_raw_material, is_product}
+use Rattle.problem_rules.specs.Problem.{terms_have}
 use Rattle.pgraph.specs.declared.arcs.Side.{Side}
 use Rattle.pgraph.specs.declared.arcs.Side.TheVariants.{Inputs, Outputs}
 

@@ -16,4 +16,5 @@ IsRival g o u = (o u ≡ false) × SharesBelow g o g.exclusions u
 
 -- u was found, or is in the exclusion, which has a unit of the set
 abbrev pub IsFoundOrMet : (ℕ → Bool) → (ℕ → Bool) → (ℕ → Bool) → ℕ → Type 0
-IsFoundOrMet found excluded o u = (found u ≡ true) ⊎ ((excluded u ≡ true) × ((v : ℕ) × (excluded v ≡ true) × (o v ≡ true)))
+IsFoundOrMet found excluded o u = (found u ≡ true)
+    ⊎ ((excluded u ≡ true) × ((v : ℕ) × (excluded v ≡ true) × (o v ≡ true)))

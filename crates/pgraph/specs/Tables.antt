@@ -1,5 +1,5 @@
--- What contracts see of a graph: its raw materials and its products, the arcs from input materials to units and from
--- units to output materials, and the units of each exclusion.
+-- What contracts see of a graph: its raw materials and its products, the arcs from input materials
+-- to units and from units to output materials, and the units of each exclusion.
 use Rattle.std.specs.Prelude.{◌≡◌, ℕ, ◌≤◌, List, [], length, slice_index_or}
 use Rattle.number_sets.specs.Sets.{has}
 use Rattle.pns_rules.specs.Shape.{Shape, IsProper}
@@ -12,7 +12,7 @@ pub record Tables : Type 0 where
   pub outputs : Arcs
   pub exclusions : List (List ℕ)
 
--- the units of an exclusion, none where there is no such exclusion
+-- the units of an exclusion; none if there is no such exclusion
 abbrev pub excluded_at : Tables → ℕ → List ℕ
 excluded_at t k = slice_index_or t.exclusions k []
 

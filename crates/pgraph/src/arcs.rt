@@ -27,8 +27,8 @@ fn terms_of(unit: &OperatingUnit, side: Side) -> &[Term]
     }
 }
 
-/// Which units and materials are joined: on the side of the inputs where the unit uses the material, on that of the
-/// outputs where it makes it. Both ends are kept, so that either is found in one look.
+/// Which units and materials are joined: on the side of the inputs if the unit uses the material,
+/// on that of the outputs if it makes it. Both ends are kept, so either is found in one look.
 #[derive(Drop)]
 pub struct Arcs {
     materials: Vec<MatSet>,
@@ -42,7 +42,8 @@ impl Model for Arcs {
 
     ghost view = { λ a. record { materials = a.materials.items; units = a.units.items } };
 
-    ghost invariant = { λ a. IsArcs (record { materials = a.materials.items; units = a.units.items }) };
+    ghost invariant = { λ a. IsArcs
+        (record { materials = a.materials.items; units = a.units.items }) };
 }
 
 impl Arcs {
@@ -87,7 +88,8 @@ impl Arcs {
     fn join(&mut self, u: u32, x: u32)
         requires unit { u < length self.old.materials }
         requires material { x < length self.old.units }
-        ensures joined { (v y : ℕ) → joins self.new v y ≡ (((u == v) && (x == y)) || joins self.old v y) }
+        ensures joined { (v y : ℕ)
+            → joins self.new v y ≡ (((u == v) && (x == y)) || joins self.old v y) }
         ensures units { length self.new.materials ≡ length self.old.materials }
         ensures materials { length self.new.units ≡ length self.old.units }
     {
@@ -101,7 +103,8 @@ impl Arcs {
     fn join_all(&mut self, u: u32, terms: &[Term])
         requires unit { u < length self.old.materials }
         requires known { (x : ℕ) → terms_have terms.now x ≡ true → x < length self.old.units }
-        ensures joined { (v y : ℕ) → joins self.new v y ≡ (((u == v) && terms_have terms.now y) || joins self.old v y) }
+        ensures joined { (v y : ℕ)
+            → joins self.new v y ≡ (((u == v) && terms_have terms.now y) || joins self.old v y) }
         ensures units { length self.new.materials ≡ length self.old.materials }
         ensures materials { length self.new.units ≡ length self.old.units }
     {
@@ -110,7 +113,7 @@ impl Arcs {
         }
     }
 
-    /// What holds of all arcs. A clause sees the value alone.
+    /// All arcs have this. A call gives it to a proof.
     fn is_arcs(&self)
         ensures { IsArcs self.now }
     {

@@ -19,9 +19,10 @@ impl Graph {
         both.count() >= 2
     }
 
-    /// The least exclusion of which the set has two units; `None` exactly where there is none.
+    /// The least exclusion of which the set has two units; `None` exactly if there is none.
     pub fn clash(&self, set: UnitSet) -> Option<u32>
-        ensures { MatchOption result (IsNever (Clashes (shape self.now) (has set))) (IsFirst (Clashes (shape self.now) (has set))) }
+        ensures { MatchOption result (IsNever (Clashes (shape self.now) (has set)))
+            (IsFirst (Clashes (shape self.now) (has set))) }
     {
         self.is_proper();
         'exclusions: for k in 0..self.exclusion_count() {
@@ -34,7 +35,8 @@ impl Graph {
 
     /// The units that share an exclusion with a unit of the set, those of the set among them.
     fn sharing(&self, set: UnitSet) -> UnitSet
-        ensures { (u : ℕ) → (has result u ≡ true) ↔ SharesBelow (shape self.now) (has set) (shape self.now).exclusions u }
+        ensures { (u : ℕ) → (has result u ≡ true)
+            ↔ SharesBelow (shape self.now) (has set) (shape self.now).exclusions u }
     {
         let mut found = UnitSet::empty();
         for k in 0..self.exclusion_count() {
@@ -52,9 +54,10 @@ impl Graph {
     }
 }
 
-/// The units found, with those of the exclusion where the set has one of them.
+/// The units found and, if the set has a unit of the exclusion, the units of the exclusion.
 fn with_if_met(found: UnitSet, excluded: UnitSet, set: UnitSet) -> UnitSet
-    ensures { (u : ℕ) → (has result u ≡ true) ↔ IsFoundOrMet (has found) (has excluded) (has set) u }
+    ensures { (u : ℕ) → (has result u ≡ true)
+        ↔ IsFoundOrMet (has found) (has excluded) (has set) u }
 {
     if excluded.meet(set).is_empty() {
         found

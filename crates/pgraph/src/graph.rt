@@ -1,4 +1,4 @@
-//! The graph of a problem, and what it tells of materials, units and sets of units.
+//! The graph of a problem, and what it says of materials, units and sets of units.
 ghost use Rattle.std.specs.Prelude.{◌≡◌, ◌<◌, ◌≤◌, ℕ, true, length, IfOk};
 ghost use Rattle.number_sets.specs.Sets.{has};
 ghost use Rattle.pns_rules.specs.Shape.{IsProper, shape_of};
@@ -13,7 +13,8 @@ use std::alloc::{AllocError, Global};
 use std::marker::Model;
 use unit_sets::{MatSet, UnitSet};
 
-/// The P-graph of a problem, and its exclusions. Contracts see it through `shape`, the tests that the axioms read.
+/// The P-graph of a problem, and its exclusions. Contracts see it through `shape`, the tests that
+/// the axioms read.
 #[derive(Drop)]
 pub struct Graph {
     raws: MatSet,
@@ -28,9 +29,24 @@ impl Model for Graph {
 
     ghost Value = { Tables };
 
-    ghost view = { λ g. record { raws = g.raws; products = g.products; inputs = g.inputs; outputs = g.outputs; exclusions = g.exclusions.items } };
+    ghost view = { λ g. record {
+      raws = g.raws;
+      products = g.products;
+      inputs = g.inputs;
+      outputs =
+          g.outputs;
+      exclusions = g.exclusions.items;
+    } };
 
-    ghost invariant = { λ g. IsGraph (record { raws = g.raws; products = g.products; inputs = g.inputs; outputs = g.outputs; exclusions = g.exclusions.items }) };
+    ghost invariant = { λ g. IsGraph
+        (record {
+          raws = g.raws;
+          products = g.products;
+          inputs = g.inputs;
+          outputs =
+              g.outputs;
+          exclusions = g.exclusions.items;
+        }) };
 }
 
 impl Graph {
@@ -56,8 +72,24 @@ impl Graph {
         outputs: Arcs,
         exclusions: Vec<UnitSet>,
     ) -> Graph
-        requires { IsGraph (record { raws = raws; products = products; inputs = inputs; outputs = outputs; exclusions = exclusions.items }) }
-        ensures { result ≡ record { raws = raws; products = products; inputs = inputs; outputs = outputs; exclusions = exclusions.items } }
+        requires { IsGraph
+            (record {
+              raws = raws;
+              products = products;
+              inputs = inputs;
+              outputs =
+                  outputs;
+              exclusions = exclusions.items;
+            }) }
+        ensures { result
+            ≡ record {
+              raws = raws;
+              products = products;
+              inputs = inputs;
+              outputs =
+                  outputs;
+              exclusions = exclusions.items;
+            } }
     {
         Graph {
             raws,
@@ -68,7 +100,7 @@ impl Graph {
         }
     }
 
-    /// What holds of every graph. A clause sees the value alone.
+    /// Every graph has this. A call gives it to a proof.
     pub fn is_proper(&self)
         ensures proper { IsProper (shape self.now) }
         ensures few_units { (shape self.now).units ≤ 128 }

@@ -1,10 +1,12 @@
-//! The laws of steps, ends and children, said of a graph. Each function does nothing; a call tells a proof the law.
+//! The laws of steps, ends and children, for a graph. Each function does nothing; a call gives the
+//! law to a proof.
 ghost use Rattle.pgraph.specs.Tables.{shape};
-ghost use Rattle.pgraph.specs.Laws.{StepsKeepFamilies, ClashesAreEmpty, DeadAreEmpty, ChildrenCover, ChildrenAreApart};
+ghost use Rattle.pgraph.specs.Laws.{StepsKeepFamilies, ClashesAreEmpty, DeadAreEmpty};
+ghost use Rattle.pgraph.specs.Laws.{ChildrenCover, ChildrenAreApart};
 
 use crate::graph::Graph;
 
-/// A step that is possible at a node, `rival` among them, leaves its family as it was.
+/// A step that is possible at a node keeps its family, even `rival`.
 pub fn steps_keep_families(graph: &Graph)
     ensures { StepsKeepFamilies (shape graph.now) }
 {
@@ -12,7 +14,7 @@ pub fn steps_keep_families(graph: &Graph)
     pns_rules::steps_keep_families();
 }
 
-/// A node that clashes at an exclusion has an empty family, and so has a node with a dead material.
+/// A node that clashes at an exclusion has an empty family. So has a node with a dead material.
 pub fn ends_are_empty(graph: &Graph)
     ensures clash { ClashesAreEmpty (shape graph.now) }
     ensures dead { DeadAreEmpty (shape graph.now) }
@@ -21,7 +23,8 @@ pub fn ends_are_empty(graph: &Graph)
     pns_rules::ends_are_empty();
 }
 
-/// The families of the children of a needed material cover the family of the node, and no structure is in two.
+/// The families of the children of a needed material cover the family of the node, and no structure
+/// is in two.
 pub fn children_split_families(graph: &Graph)
     ensures cover { ChildrenCover (shape graph.now) }
     ensures apart { ChildrenAreApart (shape graph.now) }

@@ -9,8 +9,9 @@ use crate::graph::Graph;
 use unit_sets::{Node, UnitSet};
 
 impl Graph {
-    /// The base and the free makers of the material: those that the node has taken in, and those that it has neither taken
-    /// in nor left out. The options of the material are the non-empty sets between the base and the two together.
+    /// The base and the free makers of the material: those that the node has taken in, and those
+    /// that it has neither taken in nor left out. The options of the material are the non-empty
+    /// sets between the base and both together.
     pub fn options(&self, node: Node, x: u32) -> (UnitSet, UnitSet)
         requires { x < (shape self.now).materials }
         ensures base { result.0 ≡ base_makers (shape self.now) (node_of node) x }

@@ -8,8 +8,8 @@ use crate::graph::Graph;
 use unit_sets::{MatSet, UnitSet};
 
 impl Graph {
-    /// The units of the set that have a path to a product through units of the set. It goes back from the products, and
-    /// looks at each material and each unit once.
+    /// The units of the set that have a path to a product through units of the set. It goes back
+    /// from the products, and looks at each material and each unit once.
     pub fn reaching(&self, set: UnitSet) -> UnitSet
         ensures { (u : ℕ) → (has result u ≡ true) ↔ HasPath (shape self.now) (has set) u }
     {

@@ -1,4 +1,4 @@
-//! A problem beside its graph.
+//! A problem with its graph.
 ghost use Rattle.std.specs.Prelude.{◌≡◌, ◌≤◌};
 ghost use Rattle.problem_rules.specs.Validity.{IsValid};
 ghost use Rattle.pns_rules.specs.Shape.{IsProper, shape_of};
@@ -8,8 +8,8 @@ use crate::graph::Graph;
 use pns_problem::Problem;
 use std::marker::Model;
 
-/// A problem and its graph, which the same calls read: rates, prices and bounds stand in the problem, and what makes and
-/// uses a material in the graph. Contracts see a site as its problem.
+/// A problem and its graph, which the same calls read. Rates, prices and bounds are in the problem;
+/// the graph says what makes and uses a material. Contracts see a site as its problem.
 #[derive(Drop)]
 pub struct Site<'a> {
     problem: &'a Problem,

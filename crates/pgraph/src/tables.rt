@@ -1,5 +1,7 @@
-//! The sets that a graph takes from its problem: materials by their kind, and the units of each exclusion.
-ghost use Rattle.std.specs.Prelude.{◌≡◌, ◌<◌, ◌≤◌, ◌==◌, ◌&&◌, ◌||◌, ℕ, true, List, [], length, IfOk, slice_index_or};
+//! The sets that a graph takes from its problem: materials by their kind, and the units of each
+//! exclusion.
+ghost use Rattle.std.specs.Prelude.{◌≡◌, ◌<◌, ◌≤◌, ◌==◌, ◌&&◌, ◌||◌, ℕ, true, List, [], length};
+ghost use Rattle.std.specs.Prelude.{IfOk, slice_index_or};
 ghost use Rattle.number_sets.specs.Sets.{has};
 ghost use Rattle.problem_rules.specs.Problem.{is_raw_material, is_product};
 ghost use Rattle.pns_problem.specs.Kind.{kind_of};
@@ -21,7 +23,7 @@ fn is_product(kind: Kind) -> bool
     matches!(kind, Kind::Product)
 }
 
-/// The set, with x where it belongs to it.
+/// The set, and x if it belongs to it.
 fn with_if(set: MatSet, x: u32, belongs: bool) -> MatSet
     requires { x < 256 }
     ensures { (y : ℕ) → has result y ≡ ((belongs && (x == y)) || has set y) }
@@ -61,7 +63,9 @@ fn set_of(units: &[u32]) -> UnitSet
 pub fn excluded_units(alloc: Global, exclusions: &[Exclusion]) -> Result<Vec<UnitSet>, AllocError>
     requires { (k u : ℕ) → has (units_excluded exclusions.now k) u ≡ true → u < 128 }
     ensures count { IfOk result (λ sets. length sets.items ≡ length exclusions.now) }
-    ensures units { IfOk result (λ sets. (k u : ℕ) → has (slice_index_or sets.items k []) u ≡ has (units_excluded exclusions.now k) u) }
+    ensures units { IfOk result
+        (λ sets. (k u : ℕ) → has (slice_index_or sets.items k []) u
+        ≡ has (units_excluded exclusions.now k) u) }
 {
     let mut sets = Vec::new(alloc);
     for exclusion in exclusions {

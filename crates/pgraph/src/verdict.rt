@@ -19,7 +19,8 @@ impl Graph {
         self.products().minus(self.materials(set))
     }
 
-    /// The materials at which S2 is broken: raw materials that the set makes, and others that it uses and does not make.
+    /// The materials at which S2 is broken: raw materials that the set makes, and others that it
+    /// uses and does not make.
     pub fn breaking_s2(&self, set: UnitSet) -> MatSet
         requires { (u : ℕ) → has set u ≡ true → u < (shape self.now).units }
         ensures { (x : ℕ) → (has result x ≡ true) ↔ BreaksS2 (shape self.now) (has set) x }
@@ -30,10 +31,12 @@ impl Graph {
             .union(self.used(set).minus(raws.union(made)))
     }
 
-    /// The units at which S4 is broken: those of the set without a path to a product through units of the set.
+    /// The units at which S4 is broken: those of the set without a path to a product through units
+    /// of the set.
     pub fn breaking_s4(&self, set: UnitSet) -> UnitSet
         ensures broken { (u : ℕ) → (has result u ≡ true) ↔ BreaksS4 (shape self.now) (has set) u }
-        ensures others { (u : ℕ) → has set u ≡ true → has result u ≡ false → HasPath (shape self.now) (has set) u }
+        ensures others { (u : ℕ) → has set u ≡ true → has result u ≡ false
+            → HasPath (shape self.now) (has set) u }
     {
         set.minus(self.reaching(set))
     }

@@ -1,14 +1,16 @@
--- The laws of plans, each of which a public function of this crate has as its contract.
+-- The laws of plans. Each is the contract of a public function of this crate.
 use Rattle.std.specs.Prelude.{◌≤◌, length}
 use Rattle.problem_rules.specs.Problem.{Problem}
 use Rattle.problem_rules.specs.Validity.{IsValid}
 use Rattle.plan_rules.specs.Expanded.{expanded}
 use Rattle.plan_rules.specs.Plan.{Plan, IsPlan}
 
--- names and terms come once, bounds and rates are as the plant and the plan have them, and there are not too many of either
+-- Names and terms are there once, bounds and rates are as the plant and the plan have them, and
+-- there are not too many units or materials.
 abbrev pub ExpandedIsValid : Type 0
-ExpandedIsValid = (p : Problem) (plan : Plan) → IsValid p → IsPlan p plan → IsValid (expanded p plan)
+ExpandedIsValid = (p : Problem) (plan : Plan) → IsValid p → IsPlan p plan
+    → IsValid (expanded p plan)
 
--- each period has a copy of every material, of which there is one at least
+-- each period has a copy of every material, and there is at least one material
 abbrev pub PlansAreShort : Type 0
 PlansAreShort = (p : Problem) (plan : Plan) → IsValid p → IsPlan p plan → length plan.periods ≤ 256

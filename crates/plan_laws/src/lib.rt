@@ -1,6 +1,8 @@
-//! The laws of plans, over their definitions alone: the problem into which a plant and a valid plan are expanded is valid.
+//! The problem of a valid plan is valid, and plans have at most 256 periods.
 //!
-//! `specs/Laws` states them. Each is the contract of a function that does nothing: a caller's proof has the law behind the call.
+//! These are laws of plans, over their definitions alone: the problem into which a valid plant and
+//! a plan for it are expanded is valid. `specs/Laws` states them. Each is the contract of a
+//! function that does nothing: a call gives the law to the caller's proof.
 #![tactic(auto)]
 
 ghost use Rattle.plan_laws.specs.Laws.{ExpandedIsValid, PlansAreShort};

@@ -1,5 +1,7 @@
--- A plant over two periods: its plan is read, it is expanded, and its design is one and costs what it should.
-use Rattle.std.proofs.Common.{◌≡◌, ◌++◌, ℕ, zero, suc, true, List, [], ◌∷◌, codes, refl, None, Ok, Err, ℤ, pos}
+-- A plant over two periods: its plan is read, it is expanded, and its design is a design and costs
+-- what it should.
+use Rattle.std.proofs.Common.{◌≡◌, ◌++◌, ℕ, zero, suc, true, List, [], ◌∷◌, codes, refl, None, Ok}
+use Rattle.std.proofs.Common.{Err, ℤ, pos}
 use Rattle.std.specs.Fmt.{digits}
 use Rattle.number_sets.specs.Sets.{listed}
 use Rattle.problem_rules.specs.Problem.{material_names, unit_names}
@@ -15,44 +17,54 @@ use Rattle.plan_rules.proofs.Texts.{body}
 
 -- ---- read
 
-plan_read : read_plan plant (body (codes "period" ∷ codes "bounds P 20 20" ∷ codes "period" ∷ codes "bounds P 30 30" ∷ [])) ≡ Ok plan
+plan_read : read_plan plant
+    (body (codes "period" ∷ codes "bounds P 20 20" ∷ codes "period" ∷ codes "bounds P 30 30" ∷ []))
+    ≡ Ok plan
 plan_read = refl
 
 -- with carriage returns, an empty line, and a last line without its line feed
 apart : List ℕ
 apart =
-    codes "file_type=PNS_plan_v1" ++ 13 ∷ 10 ∷ codes "period" ++ 13 ∷ 10 ∷ 13 ∷ 10 ∷ codes "bounds P +20.0 2e1" ++ 10 ∷ codes "period" ++ 10 ∷ codes "bounds P 30 30"
+    codes "file_type=PNS_plan_v1" ++ 13 ∷ 10 ∷ codes "period" ++ 13 ∷ 10 ∷ 13 ∷ 10
+    ∷ codes "bounds P +20.0 2e1" ++ 10 ∷ codes "period" ++ 10 ∷ codes "bounds P 30 30"
 
 apart_read : read_plan plant apart ≡ Ok plan
 unfolding apart
 apart_read = refl
 
--- with remarks, of which one stands behind blanks and one would have been a line of its period
+-- with remarks: one has blanks before it, and one would be a line of its period without its sign
 remarked : List ℕ
-remarked = body (codes "# a remark" ∷ codes "period" ∷ codes "bounds P 20 20" ∷ (32 ∷ 9 ∷ codes "# 2") ∷ codes "period" ∷ codes "#price A 4" ∷ codes "bounds P 30 30" ∷ [])
+remarked =
+    body (codes "# a remark" ∷ codes "period" ∷ codes "bounds P 20 20" ∷ (32 ∷ 9 ∷ codes "# 2")
+    ∷ codes "period" ∷ codes "#price A 4" ∷ codes "bounds P 30 30" ∷ [])
 
 remarked_read : read_plan plant remarked ≡ Ok plan
 unfolding remarked
 remarked_read = refl
 
--- the other names and sides of the order: each period begins anew with the problem's own numbers
+-- with a price in the second period: each period begins again with the problem's own numbers
 dear : Plan
 dear = record { periods = first ∷ record second { prices = pos 4000000 ∷ pos 0 ∷ [] } ∷ [] }
 
-dear_read : read_plan plant (body (codes "period" ∷ codes "bounds P 20 20" ∷ codes "period" ∷ codes "price A 4" ∷ codes "bounds P 30 30" ∷ [])) ≡ Ok dear
+dear_read : read_plan plant
+    (body (codes "period" ∷ codes "bounds P 20 20" ∷ codes "period" ∷ codes "price A 4"
+    ∷ codes "bounds P 30 30" ∷ [])) ≡ Ok dear
 unfolding dear
 dear_read = refl
 
 first_line_alone : read_plan plant (body []) ≡ Err (2, NoPeriod)
 first_line_alone = refl
 
-unknown : read_plan plant (body (codes "period" ∷ codes "price Z 1" ∷ codes "period" ∷ codes "bounds P 30 30" ∷ [])) ≡ Err (3, UnknownName)
+unknown : read_plan plant
+    (body (codes "period" ∷ codes "price Z 1" ∷ codes "period" ∷ codes "bounds P 30 30" ∷ []))
+    ≡ Err (3, UnknownName)
 unknown = refl
 
 -- ---- expanded
 
 materials_named : material_names (expanded plant plan).materials
-    ≡ codes "s0" ∷ codes "m0.1" ∷ codes "m1.1" ∷ codes "c0.1" ∷ codes "m0.2" ∷ codes "m1.2" ∷ codes "c0.2" ∷ []
+    ≡ codes "s0" ∷ codes "m0.1" ∷ codes "m1.1" ∷ codes "c0.1" ∷ codes "m0.2" ∷ codes "m1.2"
+    ∷ codes "c0.2" ∷ []
 unfolding digits
 materials_named = refl
 
@@ -60,7 +72,8 @@ units_named : unit_names (expanded plant plan).units ≡ codes "b0" ∷ codes "u
 unfolding digits
 units_named = refl
 
-rates : rates_lines (expanded plant plan) ≡ codes "b0: s0 => c0.1 + c0.2" ∷ codes "u0.1: m0.1 + c0.1 => m1.1" ∷ codes "u0.2: m0.2 + c0.2 => m1.2" ∷ []
+rates : rates_lines (expanded plant plan) ≡ codes "b0: s0 => c0.1 + c0.2"
+    ∷ codes "u0.1: m0.1 + c0.1 => m1.1" ∷ codes "u0.2: m0.2 + c0.2 => m1.2" ∷ []
 unfolding digits
 rates = refl
 

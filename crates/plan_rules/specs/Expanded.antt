@@ -1,10 +1,13 @@
--- The ordinary problem into which a plant and its plan are expanded. A unit is built once, by a unit of its own that costs
--- what it costs and makes its capacity for each period; in each period a copy of it runs on that capacity, at no cost of
--- its own, over copies of the materials at the period's prices and bounds. Numbers of units and materials count from 0 in
--- names, periods count from 1.
-use Rattle.std.specs.Prelude.{ℕ, suc, ◌+◌, ◌*◌, List, [], ◌∷◌, ◌++◌, map, flat_map, length, codes, decimal, ℤ, pos}
+-- The ordinary problem into which a plant and its plan are expanded. A unit is built once, by a
+-- unit of its own, which has the unit's costs and makes its capacity for each period. In each
+-- period a copy of the unit runs on that capacity, without costs of its own, over copies of the
+-- materials at the period's prices and bounds. In names, the numbers of units and materials count
+-- from 0, and periods count from 1.
+use Rattle.std.specs.Prelude.{ℕ, suc, ◌+◌, ◌*◌, List, [], ◌∷◌, ◌++◌, map, flat_map, length, codes}
+use Rattle.std.specs.Prelude.{decimal, ℤ, pos}
 use Rattle.std.specs.List.{range_with_len}
-use Rattle.problem_rules.specs.Problem.{raw_material, intermediate, Material, Term, OperatingUnit, Problem, material_at, unit_at}
+use Rattle.problem_rules.specs.Problem.{raw_material, intermediate, Material, Term, OperatingUnit}
+use Rattle.problem_rules.specs.Problem.{Problem, material_at, unit_at}
 use Rattle.plan_rules.specs.Plan.{Period, Plan, period_at, price_at, lower_at, upper_at}
 
 -- ---- names
@@ -12,7 +15,7 @@ use Rattle.plan_rules.specs.Plan.{Period, Plan, period_at, price_at, lower_at, u
 abbrev pub numbered : List ℕ → ℕ → List ℕ
 numbered letter number = letter ++ decimal number
 
--- in the period t, from 0
+-- a name with the period t, which counts from 0
 abbrev pub numbered_in : List ℕ → ℕ → ℕ → List ℕ
 numbered_in letter number t = numbered letter number ++ (codes "." ++ decimal (suc t))
 
@@ -39,9 +42,17 @@ one = pos 1000000
 abbrev pub unlimited : ℤ
 unlimited = pos 1000000000000000
 
--- what a unit is built of
+-- the raw material of which unit i is built
 abbrev pub site : ℕ → Material
-site i = record { name = numbered (codes "s") i; kind = raw_material; price = pos 0; lower = pos 0; upper = unlimited }
+site i =
+    record {
+      name = numbered (codes "s") i;
+      kind = raw_material;
+      price = pos 0;
+      lower =
+          pos 0;
+      upper = unlimited;
+    }
 
 abbrev pub copy : Problem → Period → ℕ → ℕ → Material
 copy p q t j = record {
@@ -53,7 +64,15 @@ copy p q t j = record {
 }
 
 abbrev pub capacity : ℕ → ℕ → Material
-capacity t i = record { name = numbered_in (codes "c") i t; kind = intermediate; price = pos 0; lower = pos 0; upper = unlimited }
+capacity t i =
+    record {
+      name = numbered_in (codes "c") i t;
+      kind = intermediate;
+      price = pos 0;
+      lower =
+          pos 0;
+      upper = unlimited;
+    }
 
 abbrev pub copies : Problem → Period → ℕ → List Material
 copies p q t = map (copy p q t) (range_with_len 0 (length p.materials))
@@ -69,7 +88,8 @@ abbrev pub period_materials : Problem → Plan → ℕ → List Material
 period_materials p plan t = copies p (period_at plan t) t ++ capacities p t
 
 abbrev pub materials_of : Problem → Plan → List Material
-materials_of p plan = sites p ++ flat_map (period_materials p plan) (range_with_len 0 (length plan.periods))
+materials_of p plan =
+    sites p ++ flat_map (period_materials p plan) (range_with_len 0 (length plan.periods))
 
 -- ---- units
 
@@ -89,7 +109,8 @@ built_units p count = map (built p count) (range_with_len 0 (length p.units))
 
 -- a side of a unit in a period
 abbrev pub side_in : Problem → ℕ → List Term → List Term
-side_in p t terms = map (λ (term : Term). record { material = copy_of p t term.material; rate = term.rate }) terms
+side_in p t terms =
+    map (λ (term : Term). record { material = copy_of p t term.material; rate = term.rate }) terms
 
 -- unit i as it runs in a period
 abbrev pub running : Problem → ℕ → ℕ → OperatingUnit
@@ -113,6 +134,7 @@ units_of p count = built_units p count ++ flat_map (period_units p) (range_with_
 
 -- ---- the problem
 
--- the units that build have the numbers of the units that they build, so each exclusion is kept as it is
+-- a unit that builds has the number of the unit that it builds, so each exclusion stays as it is
 abbrev pub expanded : Problem → Plan → Problem
-expanded p plan = record p { materials = materials_of p plan; units = units_of p (length plan.periods) }
+expanded p plan =
+    record p { materials = materials_of p plan; units = units_of p (length plan.periods) }

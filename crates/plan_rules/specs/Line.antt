@@ -1,14 +1,17 @@
--- The lines of a plan, and what is wrong with one by itself. Lines end, tokens are parted, names and amounts are written as in
--- an edit script: a carriage return before a line feed is dropped, the last line feed may be missing, an empty line stands in
--- the place of a remark, nothing else is dropped, and each token stands behind one space.
-use Rattle.std.specs.Prelude.{ℕ, ℤ, List, [], ◌∷◌, codes, Option, Some, None, Result, Ok, Err, if◌then◌else◌}
+-- The lines of a plan, and what is wrong with one line alone. Lines, tokens, names and amounts are
+-- as in an edit script. A carriage return before a line feed is dropped, and the last line feed may
+-- be missing. A remark becomes an empty line, nothing else is dropped, and there is one space
+-- before each token but the first.
+use Rattle.std.specs.Prelude.{ℕ, ℤ, List, [], ◌∷◌, codes, Option, Some, None, Result, Ok, Err}
+use Rattle.std.specs.Prelude.{if◌then◌else◌}
 use Rattle.std.specs.Str.{bytes_eq}
 use Rattle.script_rules.specs.declared.EditKind.{EditKind}
 use Rattle.script_rules.specs.declared.EditKind.TheVariants as script
 use Rattle.script_rules.specs.Line.{tokens_of}
 use Rattle.script_rules.specs.Read.{amount_read, bounds_read}
 use Rattle.plan_rules.specs.declared.PlanKind.{PlanKind}
-use Rattle.plan_rules.specs.declared.PlanKind.TheVariants.{BadLine, BadName, BadNumber, TooFine, TooLarge, Sign}
+use Rattle.plan_rules.specs.declared.PlanKind.TheVariants.{BadLine, BadName, BadNumber, TooFine}
+use Rattle.plan_rules.specs.declared.PlanKind.TheVariants.{TooLarge, Sign}
 use Rattle.plan_rules.specs.declared.PlanWord.{PlanWord}
 use Rattle.plan_rules.specs.declared.PlanWord.TheVariants as words
 
@@ -38,8 +41,8 @@ word_named text =
     else if bytes_eq text (word_text words.Bounds) then Some words.Bounds
     else None
 
--- What a script calls wrong with a name or an amount, a plan calls the same, and in the same order. Other kinds than these
--- a name and amounts have not.
+-- A fault of a name or an amount has the same kind as in a script, and the kinds have the same
+-- order. A name or an amount has no other kinds.
 abbrev pub kind_of : EditKind → PlanKind
 kind_of script.BadName = BadName
 kind_of script.BadNumber = BadNumber
@@ -56,11 +59,13 @@ abbrev pub period_read : List (List ℕ) → Result Entry PlanKind
 period_read [] = Ok begins
 period_read (field ∷ fields) = Err BadLine
 
--- what stands behind the first token: nothing; a material and its price; a material, its lower and its upper bound
+-- the entry of the tokens after the first: none; a material and its price; a material, its lower
+-- and its upper bound
 abbrev pub fields_read : PlanWord → List (List ℕ) → Result Entry PlanKind
 fields_read words.Period fields = period_read fields
 fields_read words.Price fields = entry_by (λ read. price read.0 read.1) (amount_read fields)
-fields_read words.Bounds fields = entry_by (λ read. bounds read.0 read.1.0 read.1.1) (bounds_read fields)
+fields_read words.Bounds fields =
+    entry_by (λ read. bounds read.0 read.1.0 read.1.1) (bounds_read fields)
 
 abbrev pub worded_read : Option PlanWord → List (List ℕ) → Result Entry PlanKind
 worded_read (Some word) fields = fields_read word fields

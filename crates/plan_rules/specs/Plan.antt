@@ -1,5 +1,7 @@
--- A plan: the periods in which a plant runs, each with a price, a lower and an upper bound of every material, in millionths.
-use Rattle.std.specs.Prelude.{◌≡◌, ◌<◌, ◌+◌, ◌*◌, ℕ, nat_lt, Bool, false, ◌||◌, List, [], map, length, ℤ, pos, slice_index_or}
+-- A plan: the periods in which a plant runs, each with a price, a lower and an upper bound of every
+-- material, in millionths.
+use Rattle.std.specs.Prelude.{◌≡◌, ◌<◌, ◌+◌, ◌*◌, ℕ, nat_lt, Bool, false, ◌||◌, List, [], map}
+use Rattle.std.specs.Prelude.{length, ℤ, pos, slice_index_or}
 use Rattle.std.specs.List.{range_with_len}
 use Rattle.problem_rules.specs.Each.{Each}
 use Rattle.problem_rules.specs.Problem.{Material, Problem, material_at}
@@ -34,15 +36,18 @@ upper_at q j = slice_index_or q.uppers j (pos 0)
 
 -- a material at the period's price and bounds
 abbrev pub material_in : Problem → Period → ℕ → Material
-material_in p q j = record (material_at p j) { price = price_at q j; lower = lower_at q j; upper = upper_at q j }
+material_in p q j =
+    record (material_at p j) { price = price_at q j; lower = lower_at q j; upper = upper_at q j }
 
 -- the plant at the period's prices and bounds
 abbrev pub in_period : Problem → Period → Problem
-in_period p q = record p { materials = map (material_in p q) (range_with_len 0 (length p.materials)) }
+in_period p q =
+    record p { materials = map (material_in p q) (range_with_len 0 (length p.materials)) }
 
 -- ---- validity
 
--- one price, lower and upper bound for each of so many materials, each as a problem has them
+-- one price, lower and upper bound for each of so many materials, and all of them as a valid
+-- problem has them
 pub record IsPeriod (materials : ℕ) (q : Period) : Type 0 where
   pub all_prices : length q.prices ≡ materials
   pub all_lowers : length q.lowers ≡ materials
@@ -50,9 +55,11 @@ pub record IsPeriod (materials : ℕ) (q : Period) : Type 0 where
   pub prices_in_range : (j : ℕ) → j < materials → IsInRange (price_at q j)
   pub bounds : (j : ℕ) → j < materials → AreBounds (lower_at q j) (upper_at q j)
 
--- with so many units, materials and periods the expanded problem would have more than 128 units or 256 materials
+-- with so many units, materials and periods the expanded problem would have more than 128 units or
+-- 256 materials
 abbrev pub is_too_wide : ℕ → ℕ → ℕ → Bool
-is_too_wide units materials periods = nat_lt 128 (units * (periods + 1)) || nat_lt 256 ((materials + units) * periods + units)
+is_too_wide units materials periods =
+    nat_lt 128 (units * (periods + 1)) || nat_lt 256 ((materials + units) * periods + units)
 
 pub record IsPlan (p : Problem) (plan : Plan) : Type 0 where
   pub some : 0 < length plan.periods

@@ -1,24 +1,27 @@
-//! Several periods: a plant that is built once and runs in each period at prices and bounds of its own.
+//! Several periods: a plant that is built once and runs in each period at prices and bounds of its
+//! own.
 //!
-//! `specs/` states what a plan is (`Plan`), the text PNS_plan_v1 by which it is written (`Line`: words and faults; `Read`: the
-//! lines of a text, or its first fault; `Meaning`: the plan of those lines), the ordinary problem into which a plant and its
-//! plan are expanded (`Expanded`), and, without a word of that problem, what a design of the plant over its periods is and
-//! costs (`Design`). `proofs/` reads small plans and expands a small plant by computation.
+//! `specs/` states what a plan is (`Plan`), and its text PNS_plan_v1. `Line` has words and faults,
+//! `Read` the lines of a text, or its first fault, and `Meaning` the plan of those lines.
+//! `Expanded` is the ordinary problem into which a plant and its plan are expanded. `Design`, which
+//! does not mention that problem, says what a design of the plant over its periods is and costs.
+//! `proofs/` reads small plans and expands a small plant by computation.
 #![tactic(auto)]
 
-/// A fault of a plan. The variants stand in the order of their numbers, 1 to 12. Those of form, 1 to 8, are looked for in the
-/// whole text first, those of meaning only where there is none of form. The first line with a fault of its group is told,
-/// and of the faults at that line the one with the least number.
+/// A kind of fault of a plan. The variants are in the order of their numbers, 1 to 12. The whole
+/// text is first searched for faults of form, 1 to 8; faults of meaning count only if there is none
+/// of form. The first line with a fault of its group is reported, and of the faults at that line
+/// the one with the least number.
 #[derive(Clone, Copy, Debug, PartialEq, Eq)]
 pub enum PlanKind {
-    /// The first line is another text than `file_type=PNS_plan_v1`, or is missing.
+    /// The first line is not `file_type=PNS_plan_v1`, or is missing.
     FileType,
-    /// A line that has none of the three forms, as far as its first word and the number of its tokens go, or that changes a
-    /// material before the first period begins.
+    /// A line that has none of the three forms, as far as its first word and the number of its
+    /// tokens go, or that changes a material before the first period begins.
     BadLine,
-    /// A text in the place of a name that is no name.
+    /// A text in the place of a name that is not a name.
     BadName,
-    /// A text in the place of an amount that is none.
+    /// A text in the place of an amount that is not one.
     BadNumber,
     /// An amount that is not a whole number of millionths.
     TooFine,
@@ -32,9 +35,10 @@ pub enum PlanKind {
     UnknownName,
     /// A lower bound above its upper bound. A fault of meaning.
     LowAboveHigh,
-    /// No period; it stands behind the last line. A fault of meaning.
+    /// No period; this is reported after the last line. A fault of meaning.
     NoPeriod,
-    /// More than 128 units or 256 materials in the expanded problem; it stands behind the last line. A fault of meaning.
+    /// More than 128 units or 256 materials in the expanded problem; this is reported after the
+    /// last line. A fault of meaning.
     TooWide,
 }
 

@@ -1,5 +1,6 @@
 -- The place of a name, as a look-up finds it.
-use Rattle.std.proofs.Common.{◌≡◌, ◌+◌, ℕ, suc, Bool, true, false, cond, not, ◌||◌, nat_lt, Some, None, List, [], ◌∷◌, length, refl, sym, ◌∙◌, arith, inl, inr}
+use Rattle.std.proofs.Common.{◌≡◌, ◌+◌, ℕ, suc, Bool, true, false, cond, not, ◌||◌, nat_lt, Some}
+use Rattle.std.proofs.Common.{None, List, [], ◌∷◌, length, refl, sym, ◌∙◌, arith, inl, inr}
 use Rattle.std.specs.List.{list_any, position, position_or_len}
 use Rattle.std.specs.Str.{bytes_eq}
 use Rattle.std.proofs.lemmas.Bool.{cases_lt, lt-ltb, le-ltb}
@@ -12,14 +13,17 @@ step_same a b = elim (cases_lt a b) as (λ _. nat_lt (1 + a) (suc b) ≡ nat_lt 
   | inr le ↦ le-ltb (1 + a) (suc b) (omega (arith, le)) ∙ sym (le-ltb a b le)
 ]
 
-by_first : (b any : Bool) (at long : ℕ) → any ≡ nat_lt at long → (b || any) ≡ nat_lt (cond (not b) (1 + at) 0) (suc long)
+by_first : (b any : Bool) (at long : ℕ) → any ≡ nat_lt at long
+    → (b || any) ≡ nat_lt (cond (not b) (1 + at) 0) (suc long)
 by_first true any at long e = sym (lt-ltb 0 (suc long) (omega arith))
 by_first false any at long e = e ∙ sym (step_same at long)
 
--- a name stands among others where its place is within them
-any_within : {X : Type 0} (p : X → Bool) (xs : List X) → list_any p xs ≡ nat_lt (position_or_len p xs) (length xs)
+-- a name is among others if its place is within them
+any_within : {X : Type 0} (p : X → Bool) (xs : List X)
+    → list_any p xs ≡ nat_lt (position_or_len p xs) (length xs)
 any_within p [] = refl
-any_within p (x ∷ xs) = by_first (p x) (list_any p xs) (position_or_len p xs) (length xs) (any_within p xs)
+any_within p (x ∷ xs) =
+    by_first (p x) (list_any p xs) (position_or_len p xs) (length xs) (any_within p xs)
 
 some_at : (b : Bool) (at k : ℕ) → Some k ≡ cond b (Some at) None → (b ≡ true) × (k ≡ at)
 some_at true at k e = (refl, cc)
@@ -43,7 +47,8 @@ module _ (p : Problem) (name : List ℕ) where
   place_at k e = (some_at within (position_or_len is_name names) k e).1
 
   pub known : (k : ℕ) → Some k ≡ position is_name names → true ≡ has_material p name
-  known k e = sym (any_within is_name names ∙ (some_at within (position_or_len is_name names) k e).0)
+  known k e =
+      sym (any_within is_name names ∙ (some_at within (position_or_len is_name names) k e).0)
 
   pub unknown : None ≡ position is_name names → false ≡ has_material p name
   unknown e = sym (any_within is_name names ∙ none_at within (position_or_len is_name names) e)

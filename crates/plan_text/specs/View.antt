@@ -20,7 +20,7 @@ abbrev pub entry_of : Entry → rules.Entry
 entry_of Begins = rules.begins
 entry_of (Changes material change) = changes material.now change
 
--- what stands behind the word of a line: an entry, or a fault in the words of a script
+-- what the tokens after the word of a line stand for: an entry, or a fault in the words of a script
 abbrev pub ReadsFields : Result rules.Entry PlanKind → Result Entry (LineFault EditKind) → Type 0
 ReadsFields reading (Ok entry) = reading ≡ Ok (entry_of entry)
 ReadsFields reading (Err Memory) = Unit {0}

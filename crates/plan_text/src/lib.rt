@@ -1,7 +1,8 @@
-//! The reader of plans. `read_plan` gives the one plan for a problem that a text stands for, which is valid, or the text's first
-//! fault.
+//! A text gives its valid plan, or exactly its first fault.
 //!
-//! Modules: `line` (what one line says by itself), `reading` (what the lines so far stand for) and `text` (all of it).
+//! `read_plan` gives the one plan for a problem that a text stands for, or the text's first fault.
+//! Modules: `line` (what one line says alone), `reading` (what the lines so far stand for) and
+//! `text` (all of it).
 #![tactic(auto)]
 
 mod line;

@@ -1,4 +1,4 @@
-//! One line of a plan by itself.
+//! One line of a plan alone.
 ghost use Rattle.std.specs.Prelude.{◌≡◌};
 ghost use Rattle.text_lines.specs.View.{texts};
 ghost use Rattle.plan_rules.specs.Line.{kind_of, worded_read, line_read, word_named};
@@ -12,7 +12,7 @@ use text_lines::fault;
 use text_lines::token::tokens_of;
 use text_lines::words::looked_up;
 
-/// The fault of a line, or want of memory.
+/// The fault of a line, or out of memory.
 pub(crate) type LineFault = fault::LineFault<PlanKind>;
 
 /// What a line says.
@@ -20,11 +20,11 @@ pub(crate) type LineFault = fault::LineFault<PlanKind>;
 pub(crate) enum Entry<'a> {
     /// A period begins.
     Begins,
-    /// The material of this name changes in it.
+    /// The material of this name changes in the period.
     Changes(&'a str, Change),
 }
 
-/// What a material has anew, in millionths.
+/// What changes of a material, in millionths.
 #[derive(Clone, Copy)]
 pub(crate) enum Change {
     Price(i64),
@@ -44,7 +44,7 @@ fn word_named(text: &[u8]) -> Option<PlanWord>
     looked_up(&WORDS, text)
 }
 
-// What a plan calls a fault of a name or an amount that a script has too.
+// The kind in a plan of a fault of a name or an amount that a script has too.
 fn kind_of(kind: EditKind) -> PlanKind
     ensures { result ≡ kind_of kind }
 {
@@ -75,7 +75,7 @@ fn read_fields<'a>(word: Option<PlanWord>, fields: &[&'a [u8]]) -> Result<Entry<
     }
 }
 
-/// What a line that is not empty says, or what is wrong with it by itself.
+/// What a line that is not empty says, or what is wrong with it alone.
 pub(crate) fn read_line<'a>(alloc: Global, text: &'a [u8]) -> Result<Entry<'a>, LineFault>
     ensures { Reads entry_of (line_read text.now) result }
 {

@@ -1,5 +1,7 @@
 //! What the lines of a plan stand for, line by line.
-ghost use Rattle.std.specs.Prelude.{◌≡◌, ◌<◌, false, not, ℕ, Ok, OnOk, IfOk, IfErr, IfNone, length};
+ghost use Rattle.std.specs.Prelude.{◌≡◌, ◌<◌, false, not, ℕ, Ok, OnOk, IfOk, IfErr};
+ghost use Rattle.std.specs.Prelude.{IfNone};
+ghost use Rattle.std.specs.Prelude.{length};
 ghost use Rattle.plan_rules.specs.Line as rules;
 ghost use Rattle.plan_rules.specs.Line.{line_read};
 ghost use Rattle.plan_rules.specs.Meaning.{entry_fault, changed};
@@ -16,7 +18,8 @@ use std::alloc::{AllocError, Global};
 use std::mem;
 use text_lines::name_set::NameSet;
 
-/// The periods so far, the materials whose price and whose bounds the last of them changes, and the first fault of meaning.
+/// The periods so far, the materials whose price and whose bounds the last of them changes, and the
+/// first fault of meaning.
 #[derive(Drop)]
 pub(crate) struct Reading<'a> {
     pub(crate) periods: Vec<Period>,
@@ -26,9 +29,12 @@ pub(crate) struct Reading<'a> {
 }
 
 impl<'a> Reading<'a> {
-    // A period begins with the problem's own prices and bounds. Of periods that are too many already no more are kept.
+    // A period begins with the problem's own prices and bounds. If there are too many periods
+    // already, no more are kept.
     fn begin(&mut self, alloc: Global, problem: &Problem) -> Result<(), AllocError>
-        ensures { OnOk result ((number : ℕ) → HasTaken problem.now number (Ok rules.begins) self.old self.new) }
+        ensures { OnOk result
+            ((number : ℕ)
+            → HasTaken problem.now number (Ok rules.begins) self.old self.new) }
     {
         problem.is_valid();
         let _ = mem::replace(&mut self.priced, NameSet::new(alloc));
@@ -40,10 +46,16 @@ impl<'a> Reading<'a> {
         Ok(())
     }
 
-    // Adds a material to those of its kind that the present period changes, and tells whether it is new there.
+    // Adds a material to those of its kind that the present period changes, and says whether it is
+    // new there.
     fn note(&mut self, material: &'a str, change: Change) -> Result<bool, AllocError>
-        ensures new { IfOk result (λ is_new. is_new ≡ not (is_double (seen_of self.old) (changes material.now change))) }
-        ensures seen { OnOk result (is_double (seen_of self.old) (changes material.now change) ≡ false → seen_of self.new ≡ seen_after (seen_of self.old) (changes material.now change)) }
+        ensures new { IfOk result
+            (λ is_new. is_new
+            ≡ not (is_double (seen_of self.old) (changes material.now change))) }
+        ensures seen { OnOk result
+            (is_double (seen_of self.old) (changes material.now change) ≡ false
+            → seen_of self.new
+            ≡ seen_after (seen_of self.old) (changes material.now change)) }
         ensures periods { self.new.periods ≡ self.old.periods }
         ensures fault { self.new.fault ≡ self.old.fault }
     {
@@ -62,8 +74,11 @@ impl<'a> Reading<'a> {
         change: Change,
     ) -> Result<(), LineFault>
         requires { 0 < length self.old.periods.items }
-        ensures taken { OnOk result (HasTaken problem.now number (Ok (changes material.now change)) self.old self.new) }
-        ensures fault { IfErr result (TellsLine (placed (seen_of self.old) (Ok (changes material.now change)))) }
+        ensures taken { OnOk result
+            (HasTaken problem.now number (Ok (changes material.now change)) self.old
+            self.new) }
+        ensures fault { IfErr result
+            (TellsLine (placed (seen_of self.old) (Ok (changes material.now change)))) }
     {
         if !self.note(material, change)? {
             return Err(LineFault::Kind(PlanKind::DoubleLine));
@@ -76,7 +91,7 @@ impl<'a> Reading<'a> {
         Ok(())
     }
 
-    /// Takes a line of this number that is not empty, or tells its fault of form.
+    /// Takes a line of this number that is not empty, or gives its fault of form.
     pub(crate) fn take(
         &mut self,
         alloc: Global,
@@ -84,12 +99,14 @@ impl<'a> Reading<'a> {
         number: u32,
         text: &'a [u8],
     ) -> Result<(), LineFault>
-        ensures taken { OnOk result (HasTaken problem.now number (line_read text.now) self.old self.new) }
-        ensures fault { IfErr result (TellsLine (placed (seen_of self.old) (line_read text.now))) }
+        ensures taken { OnOk result
+            (HasTaken problem.now number (line_read text.now) self.old self.new) }
+        ensures fault { IfErr result
+            (TellsLine (placed (seen_of self.old) (line_read text.now))) }
     {
         match read_line(alloc, text) {
             Ok(Entry::Begins) => Ok(self.begin(alloc, problem)?),
-            // in front of the first period no other line is one of a plan, whatever its fault
+            // before the first period any other line is a bad line, whatever its fault
             Ok(Entry::Changes(_, _)) | Err(LineFault::Kind(_)) if self.periods.is_empty() => {
                 Err(LineFault::Kind(PlanKind::BadLine))
             }
@@ -99,11 +116,12 @@ impl<'a> Reading<'a> {
     }
 }
 
-// Changes a material of the period, or tells what is wrong with that for the problem.
+// Changes a material of the period, or says what is wrong with that for the problem.
 #[tactic(auto, using(crate::proofs::Places::place_at, crate::proofs::Places::known, crate::proofs::Places::unknown))]
 fn apply(problem: &Problem, period: &mut Period, material: &str, change: Change) -> Option<PlanKind>
     ensures fault { result ≡ entry_fault problem.now (changes material.now change) }
-    ensures changed { IfNone result (period.new ≡ changed problem.now period.old (changes material.now change)) }
+    ensures changed { IfNone result
+        (period.new ≡ changed problem.now period.old (changes material.now change)) }
 {
     let Some(number) = problem.material_named(material) else {
         return Some(PlanKind::UnknownName);

@@ -14,10 +14,10 @@ use text_lines::fault::TextFault;
 use text_lines::lines::{Drops, Lines};
 use text_lines::name_set::NameSet;
 
-/// The first fault of a plan, or want of memory.
+/// The first fault of a plan, or out of memory.
 pub type PlanFault = TextFault<PlanKind>;
 
-// The plan of the lines behind the first.
+// The plan of the lines after the first.
 fn read_rest(alloc: Global, problem: &Problem, mut lines: Lines<'_>) -> Result<Plan, PlanFault>
     ensures read { IfOk result (λ plan. rest_read problem.now lines.entry ≡ Ok plan) }
     ensures fault { IfErr result (Tells (rest_read problem.now lines.entry)) }
@@ -48,9 +48,10 @@ fn read_rest(alloc: Global, problem: &Problem, mut lines: Lines<'_>) -> Result<P
     }
 }
 
-/// The plan for the problem that the text stands for. `At` comes exactly where the text has a fault, with the first: a fault
-/// of form before each of meaning, then the least line, counted from 1, and of the faults there the one with the least
-/// number. `Memory` is want of memory, at any moment. Linear in the text and the plan.
+/// The plan for the problem that the text stands for. The answer is `At` exactly if the text has a
+/// fault, with the first: a fault of form before each of meaning, then that of the first line,
+/// counted from 1, and of the faults there the one with the least number. The answer `Memory` means
+/// out of memory, at any moment. The time is linear in the text and the plan.
 pub fn read_plan(alloc: Global, problem: &Problem, bytes: &[u8]) -> Result<Plan, PlanFault>
     requires { length bytes.now < 2 ^ 32 - 1 }
     ensures read { IfOk result (λ plan. read_plan problem.now bytes.now ≡ Ok plan) }

@@ -1,4 +1,4 @@
--- A name is looked for from the front: what is left of the names, and how many were passed.
+-- The search for a name from the front of a list: the names that remain, and how many were passed.
 use Rattle.std.proofs.Common.{◌≡◌, ◌+◌, ℕ, List}
 use Rattle.problem_rules.specs.Names.{is_among}
 use Rattle.edit_rules.specs.Place.{place_of}

@@ -1,4 +1,4 @@
--- The edits that undo one edit, as they are handed back.
+-- The edits that undo one edit, as they are returned.
 use Rattle.std.specs.Prelude.{List, [], ◌∷◌, Option, Some, None}
 use Rattle.edit_rules.specs.Edit as rules
 use Rattle.edit_scripts.specs.View.{edit_of}

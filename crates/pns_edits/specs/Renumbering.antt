@@ -1,4 +1,4 @@
--- The new numbers of items, after one was put in or taken out, as the rules have them.
+-- The new numbers of items, after one was inserted or removed, as the rules have them.
 use Rattle.std.specs.Prelude.{ℕ}
 use Rattle.edit_rules.specs.Numbering.{up, down}
 use Rattle.pns_edits.specs.declared.numbering.Renumbering.{Renumbering}

@@ -1,4 +1,4 @@
--- The numbers in a problem name its items, and are small enough to be numbered anew.
+-- The numbers in a problem are those of its items, and are small enough to be renumbered.
 use Rattle.std.specs.Prelude.{◌<◌, ◌≤◌, ℕ, List, length}
 use Rattle.problem_rules.specs.Problem.{Problem, Term, OperatingUnit, Exclusion}
 use Rattle.problem_rules.specs.Each.{Each}
@@ -26,7 +26,7 @@ pub record IsNumbered (p : Problem) : Type 0 where
   pub exclusions_known : Each (IsExclusionBelow (length p.units)) p.exclusions
   pub exclusions_small : Each (IsExclusionBelow 128) p.exclusions
 
--- the yearly costs of a unit, so that a hundred times them fits
+-- the yearly costs of a unit are so small that a hundred times them fits
 pub record AreYearlyInRange (u : OperatingUnit) : Type 0 where
   pub fix : IsInRange u.fix
   pub proportional : IsInRange u.proportional

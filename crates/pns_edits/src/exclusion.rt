@@ -17,11 +17,13 @@ use pns_problem::{Exclusion, Parts};
 use std::alloc::{AllocError, Global};
 use std::mem;
 
-/// The edit that puts the exclusion at place k back under its name.
+/// The edit that adds the exclusion at place k again under its name.
 fn excluded_back(alloc: Global, parts: &Parts, k: u32, name: &String) -> Result<Edit, AllocError>
     requires within { k < length parts.now.exclusions }
     requires known { AreNumbersBelow (length parts.now.units) (exclusion_at parts.now k).units }
-    ensures { IfOk result (λ e. edit_of e ≡ exclude k (string_bytes name.now) (member_names parts.now (exclusion_at parts.now k).units)) }
+    ensures { IfOk result
+        (λ e. edit_of e ≡ exclude k (string_bytes name.now)
+        (member_names parts.now (exclusion_at parts.now k).units)) }
 {
     let exclusion = &parts.exclusions[k as usize];
     Ok(Edit::Exclude {
@@ -31,7 +33,7 @@ fn excluded_back(alloc: Global, parts: &Parts, k: u32, name: &String) -> Result<
     })
 }
 
-/// Puts an exclusion of these units in at a place.
+/// Inserts an exclusion of these units at a place.
 pub(crate) fn add(
     alloc: Global,
     parts: &mut Parts,
@@ -40,7 +42,8 @@ pub(crate) fn add(
     units: &[String],
 ) -> Result<Inverse, LineFault>
     requires { IsNumbered parts.old }
-    ensures { Answers parts.old (exclude at (string_bytes name.now) (map string_bytes units.now)) parts.new result }
+    ensures { Answers parts.old (exclude at (string_bytes name.now) (map string_bytes units.now))
+        parts.new result }
 {
     let units = members(alloc, parts, units)?;
     refuse_if(exclusion_place(parts, name).is_ok(), EditKind::DoubleName)?;
@@ -57,7 +60,7 @@ pub(crate) fn add(
     Ok(inverse)
 }
 
-/// Takes an exclusion out.
+/// Removes an exclusion.
 pub(crate) fn remove(alloc: Global, parts: &mut Parts, name: &String) -> Result<Inverse, LineFault>
     requires { IsNumbered parts.old }
     ensures { Answers parts.old (unexclude (string_bytes name.now)) parts.new result }

@@ -4,7 +4,7 @@ ghost use Rattle.text_lines.specs.declared.fault.LineFault.TheVariants.{Kind};
 
 use edit_scripts::{EditKind, LineFault};
 
-/// Refuses an edit of which a test finds this fault.
+/// Refuses an edit if its test finds this fault.
 pub(crate) fn refuse_if(fails: bool, kind: EditKind) -> Result<(), LineFault>
     ensures clear { OnOk result (fails ≡ false) }
     ensures fault { IfErr result (λ fault. (fails ≡ true) × (fault ≡ Kind kind)) }

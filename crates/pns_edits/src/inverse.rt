@@ -6,7 +6,7 @@ ghost use Rattle.pns_edits.specs.Inverse.{edits_of};
 use edit_scripts::Edit;
 use std::alloc::AllocError;
 
-/// An edit and, where it adds a unit that had investment costs, the edit that gives them back.
+/// An edit and, if it adds a unit that had investment costs, the edit that gives them back.
 #[derive(Drop)]
 pub(crate) struct Inverse {
     pub edit: Edit,
@@ -26,7 +26,8 @@ impl Inverse {
 
 /// Puts the edits at the end of a list that will be read from its end.
 pub(crate) fn push_inverse(back: &mut Vec<Edit>, inverse: Inverse) -> Result<(), AllocError>
-    ensures { OnOk result (map edit_of back.new.items ≡ map edit_of back.old.items ++ reverse (edits_of inverse)) }
+    ensures { OnOk result
+        (map edit_of back.new.items ≡ map edit_of back.old.items ++ reverse (edits_of inverse)) }
 {
     let Inverse { edit, investment } = inverse;
     if let Some(investment) = investment {

@@ -1,13 +1,15 @@
-//! Edits of a synthesis problem: applied one after another, undone, and made.
+//! A script is applied exactly, with its undo, or its first fault is named.
 //!
-//! [`apply`] gives the problem after a script and the script that leads back, or the first fault of meaning at the line of its
-//! edit; [`migrate`] gives the script that turns yearly costs into investment costs. Contracts see problems, edits and scripts
-//! as the records of `problem_rules` and `edit_rules`, and say what comes of them in the words of `edit_rules`: `applied`,
-//! `undoing`, `CanApply`, `IsFirstFault`, `migration`.
+//! [`apply`] gives the problem after a script and the script that leads back, or the first fault of
+//! meaning at the line of its edit. [`migrate`] gives the script that turns yearly costs into
+//! investment costs. Contracts see problems, edits and scripts as the records of `problem_rules`
+//! and `edit_rules`, and state the result in the words of `edit_rules`: `applied`, `undoing`,
+//! `CanApply`, `IsFirstFault`, `migration`.
 //!
-//! A script changes one copy of the parts in place, line by line, and the problem is built once behind its last line. Modules:
-//! `material`, `unit` and `exclusion` (the edits of each, with what undoes them), `place` (names), `numbering` (places moved),
-//! `terms` and `members` (names to numbers and back), `fault`, `inverse`, `script`, `migration`.
+//! A script changes one copy of the parts in place, line by line, and the problem is built once
+//! after the last line. Modules: `material`, `unit` and `exclusion` (the edits of each, with what
+//! undoes them), `place` (names), `numbering` (places that move), `terms` and `members` (names to
+//! numbers and back), `fault`, `inverse`, `script`, `migration`.
 #![tactic(auto)]
 
 mod exclusion;

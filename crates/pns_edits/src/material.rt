@@ -3,7 +3,8 @@ ghost use Rattle.std.specs.Prelude.{◌≡◌, ◌<◌, ◌≤◌, OnOk, IfOk, l
 ghost use Rattle.problem_rules.specs.Each.{Each};
 ghost use Rattle.problem_rules.specs.Problem.{material_at};
 ghost use Rattle.problem_rules.specs.Validity.{has_product};
-ghost use Rattle.edit_rules.specs.Edit.{price, bounds, kind, rename_material, add_material, remove_material};
+ghost use Rattle.edit_rules.specs.Edit.{price, bounds, kind, rename_material, add_material};
+ghost use Rattle.edit_rules.specs.Edit.{remove_material};
 ghost use Rattle.pns_problem.specs.Kind.{kind_of};
 ghost use Rattle.edit_rules.specs.Effect.{material_put_in, material_taken_out};
 ghost use Rattle.edit_scripts.specs.View.{edit_of};
@@ -46,10 +47,12 @@ fn take_out(parts: &mut Parts, k: u32)
     renumber_units(&mut parts.units, Renumbering::TakenOut(k));
 }
 
-/// The edit that puts the material at place k back under its name.
+/// The edit that adds the material at place k again under its name.
 fn added_back(parts: &Parts, k: u32, name: &String) -> Result<Edit, AllocError>
     requires { k < length parts.now.materials }
-    ensures { let m = material_at parts.now k in IfOk result (λ e. edit_of e ≡ add_material k (string_bytes name.now) m.kind m.price m.lower m.upper) }
+    ensures { let m = material_at parts.now k in
+        IfOk result
+        (λ e. edit_of e ≡ add_material k (string_bytes name.now) m.kind m.price m.lower m.upper) }
 {
     let material = &parts.materials[k as usize];
     Ok(Edit::AddMaterial {
@@ -98,7 +101,7 @@ pub(crate) fn set_bounds(
     }))
 }
 
-/// Sets the kind of a material, where a product is left.
+/// Sets the kind of a material, if a product is left.
 pub(crate) fn set_kind(parts: &mut Parts, name: &String, new: Kind) -> Result<Inverse, LineFault>
     ensures { Answers parts.old (kind (string_bytes name.now) (kind_of new)) parts.new result }
 {
@@ -115,7 +118,8 @@ pub(crate) fn set_kind(parts: &mut Parts, name: &String, new: Kind) -> Result<In
 
 /// Gives a material another name.
 pub(crate) fn rename(parts: &mut Parts, old: &String, new: &String) -> Result<Inverse, LineFault>
-    ensures { Answers parts.old (rename_material (string_bytes old.now) (string_bytes new.now)) parts.new result }
+    ensures { Answers parts.old (rename_material (string_bytes old.now) (string_bytes new.now))
+        parts.new result }
 {
     let k = material_place(parts, old)?;
     refuse_if(material_place(parts, new).is_ok(), EditKind::DoubleName)?;
@@ -129,7 +133,7 @@ pub(crate) fn rename(parts: &mut Parts, old: &String, new: &String) -> Result<In
     Ok(inverse)
 }
 
-/// Puts a material in at a place.
+/// Inserts a material at a place.
 pub(crate) fn add(
     parts: &mut Parts,
     at: u32,
@@ -140,7 +144,9 @@ pub(crate) fn add(
     upper: i64,
 ) -> Result<Inverse, LineFault>
     requires { IsNumbered parts.old }
-    ensures { Answers parts.old (add_material at (string_bytes name.now) (kind_of kind) price lower upper) parts.new result }
+    ensures { Answers parts.old
+        (add_material at (string_bytes name.now) (kind_of kind) price lower upper) parts.new
+        result }
 {
     refuse_if(material_place(parts, name).is_ok(), EditKind::DoubleName)?;
     refuse_if(parts.materials.len() < at as usize, EditKind::BadPlace)?;
@@ -160,7 +166,7 @@ pub(crate) fn add(
     Ok(inverse)
 }
 
-/// Takes a material out that no unit has, where a product is left.
+/// Removes a material that no unit has, if a product is left.
 pub(crate) fn remove(parts: &mut Parts, name: &String) -> Result<Inverse, LineFault>
     requires { IsNumbered parts.old }
     ensures { Answers parts.old (remove_material (string_bytes name.now)) parts.new result }

@@ -1,12 +1,15 @@
 //! The script that turns yearly costs into investment costs.
-ghost use Rattle.std.specs.Prelude.{◌≡◌, ◌≤◌, ◌*ℤ◌, ◌++◌, not, false, None, OnOk, IfOk, IfErr, length, map, pos};
+ghost use Rattle.std.specs.Prelude.{◌≡◌, ◌≤◌, ◌*ℤ◌, ◌++◌, not, false, None, OnOk, IfOk, IfErr};
+ghost use Rattle.std.specs.Prelude.{length, map, pos};
 ghost use Rattle.std.specs.List.{list_any, position_from};
 ghost use Rattle.problem_rules.specs.Problem.{OperatingUnit};
 ghost use Rattle.problem_rules.specs.WellFormed.{IsInRange};
 ghost use Rattle.edit_rules.specs.Edit.{investment};
 ghost use Rattle.edit_rules.specs.Formed.{script_of};
 ghost use Rattle.edit_rules.specs.Inverse.{costs_no_investment};
-ghost use Rattle.edit_rules.specs.Migration.{has_payout, costs_nothing_yearly, migrates_out_of_range, out_of_range_at, unit_migration, migration};
+ghost use Rattle.edit_rules.specs.Migration.{has_payout, costs_nothing_yearly};
+ghost use Rattle.edit_rules.specs.Migration.{migrates_out_of_range, out_of_range_at};
+ghost use Rattle.edit_rules.specs.Migration.{unit_migration, migration};
 ghost use Rattle.edit_rules.specs.Script.{applied, CanApply};
 ghost use Rattle.edit_scripts.specs.View.{edit_of};
 ghost use Rattle.edit_laws.specs.MigrationLaws.{IsMigrated};
@@ -24,9 +27,10 @@ use std::alloc::{AllocError, Global};
 pub enum MigrateFault {
     /// The payout period is not 1, or an investment cost is not 0.
     HasPayout,
-    /// Years times a cost of this unit, the first of which that is so, is beyond 10^15 millionths.
+    /// Years times a cost of this unit is above 10^15 millionths in absolute value; it is the first
+    /// such unit.
     OutOfRange { unit: u32 },
-    /// Want of memory, at any moment.
+    /// Out of memory, at any moment.
     Memory,
 }
 
@@ -96,7 +100,9 @@ fn costs_nothing_yearly(unit: &OperatingUnit) -> bool
 fn invested(years: u32, unit: &OperatingUnit) -> Result<Edit, AllocError>
     requires years { years ≤ 100 }
     requires costs { AreYearlyInRange unit.now }
-    ensures { let u = unit.now in IfOk result (λ e. edit_of e ≡ investment u.name (pos years *ℤ u.fix) (pos years *ℤ u.proportional)) }
+    ensures { let u = unit.now in
+        IfOk result
+        (λ e. edit_of e ≡ investment u.name (pos years *ℤ u.fix) (pos years *ℤ u.proportional)) }
 {
     Ok(Edit::Investment {
         unit: unit.name.clone()?,
@@ -105,11 +111,13 @@ fn invested(years: u32, unit: &OperatingUnit) -> Result<Edit, AllocError>
     })
 }
 
-/// Puts the edits of a unit, none where it costs nothing yearly, at the end of a list.
+/// Puts the edits of a unit at the end of a list; there are none if it costs nothing yearly.
 fn push_unit(edits: &mut Vec<Edit>, years: u32, unit: &OperatingUnit) -> Result<(), AllocError>
     requires years { years ≤ 100 }
     requires costs { AreYearlyInRange unit.now }
-    ensures { OnOk result (map edit_of edits.new.items ≡ map edit_of edits.old.items ++ unit_migration (pos years) unit.now) }
+    ensures { OnOk result
+        (map edit_of edits.new.items ≡ map edit_of edits.old.items
+        ++ unit_migration (pos years) unit.now) }
 {
     if costs_nothing_yearly(unit) {
         return Ok(());
@@ -142,17 +150,21 @@ fn migration_edits(alloc: Global, problem: &Problem, years: u32) -> Result<Vec<E
     Ok(edits)
 }
 
-/// The script, at lines 2, 3 and so on, that sets the payout period to so many years and turns the yearly costs of each unit
-/// that has some into investment costs of years times them. The problem takes it, and has the same flows after it, at years
-/// times the cost numerators. A refusal tells a payout period or an investment cost first, and then the first unit whose
-/// cost would be out of range. Linear in the problem.
+/// The script, at lines 2, 3 and so on, that sets the payout period to so many years. It also turns
+/// the yearly costs of each unit that has some into investment costs of years times them. The
+/// problem takes it, and has the same flows after it, with cost numerators that are years times the
+/// old ones. A refusal names a payout period or an investment cost first, and then the first unit
+/// whose cost would be out of range. The time is linear in the problem.
 pub fn migrate(alloc: Global, problem: &Problem, years: u32) -> Result<Script, MigrateFault>
     requires { (1 ≤ years) × (years ≤ 100) }
-    ensures script { IfOk result (λ script. script ≡ script_of (migration (pos years) problem.now)) }
+    ensures script { IfOk result
+        (λ script. script ≡ script_of (migration (pos years) problem.now)) }
     ensures once { OnOk result (has_payout problem.now ≡ false) }
     ensures in_range { OnOk result (out_of_range_at (pos years) problem.now ≡ None) }
     ensures taken { OnOk result (CanApply problem.now (migration (pos years) problem.now)) }
-    ensures same_flows { OnOk result (IsMigrated (pos years) problem.now (applied problem.now (migration (pos years) problem.now))) }
+    ensures same_flows { OnOk result
+        (IsMigrated (pos years) problem.now
+        (applied problem.now (migration (pos years) problem.now))) }
     ensures fault { IfErr result (TellsMigration years problem.now) }
 {
     migrations_are_formed();

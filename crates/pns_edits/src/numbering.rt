@@ -1,15 +1,18 @@
-//! Numbers of materials and units after one was put in or taken out.
+//! Numbers of materials and units after one was inserted or removed.
 ghost use Rattle.std.specs.Prelude.{◌≡◌, ◌<◌, map};
 ghost use Rattle.number_sets.specs.Sets.{has};
 ghost use Rattle.problem_rules.specs.Each.{Each};
 ghost use Rattle.problem_rules.specs.Problem.{terms_have};
-ghost use Rattle.edit_rules.specs.Numbering.{in_term, in_unit, in_exclusion, any_unit_has, any_excludes};
+ghost use Rattle.edit_rules.specs.Numbering.{in_term, in_unit, in_exclusion, any_unit_has};
+ghost use Rattle.edit_rules.specs.Numbering.{any_excludes};
 ghost use Rattle.pns_edits.specs.Renumbering.{new_number};
-ghost use Rattle.pns_edits.specs.Terms.{AreTermsBelow, IsUnitBelow, AreNumbersBelow, IsExclusionBelow};
+ghost use Rattle.pns_edits.specs.Terms.{AreTermsBelow, IsUnitBelow, AreNumbersBelow};
+ghost use Rattle.pns_edits.specs.Terms.{IsExclusionBelow};
 
 use pns_problem::{Exclusion, OperatingUnit, Term};
 
-/// The place at which an item was put in, or from which it was taken out: those behind it have new numbers.
+/// The place at which an item was inserted, or from which it was removed. The items after it have
+/// new numbers.
 #[derive(Clone, Copy)]
 pub(crate) enum Renumbering {
     PutIn(u32),
@@ -35,7 +38,7 @@ fn renumber_terms(terms: &mut [Term], by: Renumbering)
     }
 }
 
-/// The units by the new numbers of materials.
+/// Gives the units the new numbers of materials.
 pub(crate) fn renumber_units(units: &mut [OperatingUnit], by: Renumbering)
     requires { Each (IsUnitBelow 256) units.old }
     ensures { units.new ≡ map (in_unit (new_number by)) units.old }
@@ -55,7 +58,7 @@ fn renumber_members(members: &mut [u32], by: Renumbering)
     }
 }
 
-/// The exclusions by the new numbers of units.
+/// Gives the exclusions the new numbers of units.
 pub(crate) fn renumber_exclusions(exclusions: &mut [Exclusion], by: Renumbering)
     requires { Each (IsExclusionBelow 128) exclusions.old }
     ensures { exclusions.new ≡ map (in_exclusion (new_number by)) exclusions.old }

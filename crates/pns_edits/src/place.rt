@@ -1,13 +1,15 @@
 //! The places of names among materials, operating units and exclusions, counted from 0.
 ghost use Rattle.std.specs.Prelude.{length, string_bytes};
-ghost use Rattle.edit_rules.specs.Place.{material_place, unit_place, exclusion_place, has_material, has_unit, has_exclusion};
+ghost use Rattle.edit_rules.specs.Place.{material_place, unit_place, exclusion_place, has_material};
+ghost use Rattle.edit_rules.specs.Place.{has_unit, has_exclusion};
 ghost use Rattle.pns_edits.specs.Answer.{Finds};
 
 use edit_scripts::{EditKind, LineFault};
 use pns_problem::Parts;
 
 pub(crate) fn material_place(parts: &Parts, name: &String) -> Result<usize, LineFault>
-    ensures { Finds (has_material parts.now (string_bytes name.now)) (material_place parts.now (string_bytes name.now)) (length parts.now.materials) result }
+    ensures { Finds (has_material parts.now (string_bytes name.now))
+        (material_place parts.now (string_bytes name.now)) (length parts.now.materials) result }
 {
     'looking: for (k, material) in parts.materials.iter().enumerate() {
         if material.name.as_str() == name.as_str() {
@@ -18,7 +20,8 @@ pub(crate) fn material_place(parts: &Parts, name: &String) -> Result<usize, Line
 }
 
 pub(crate) fn unit_place(parts: &Parts, name: &String) -> Result<usize, LineFault>
-    ensures { Finds (has_unit parts.now (string_bytes name.now)) (unit_place parts.now (string_bytes name.now)) (length parts.now.units) result }
+    ensures { Finds (has_unit parts.now (string_bytes name.now))
+        (unit_place parts.now (string_bytes name.now)) (length parts.now.units) result }
 {
     'looking: for (k, unit) in parts.units.iter().enumerate() {
         if unit.name.as_str() == name.as_str() {
@@ -29,7 +32,8 @@ pub(crate) fn unit_place(parts: &Parts, name: &String) -> Result<usize, LineFaul
 }
 
 pub(crate) fn exclusion_place(parts: &Parts, name: &String) -> Result<usize, LineFault>
-    ensures { Finds (has_exclusion parts.now (string_bytes name.now)) (exclusion_place parts.now (string_bytes name.now)) (length parts.now.exclusions) result }
+    ensures { Finds (has_exclusion parts.now (string_bytes name.now))
+        (exclusion_place parts.now (string_bytes name.now)) (length parts.now.exclusions) result }
 {
     'looking: for (k, exclusion) in parts.exclusions.iter().enumerate() {
         if exclusion.name.as_str() == name.as_str() {

@@ -14,7 +14,7 @@ use edit_scripts::{Edit, EditFault, LineFault, Script};
 use pns_problem::{Parts, Problem};
 use std::alloc::Global;
 
-/// Applies one edit, and answers the edits that undo it.
+/// Applies one edit, and gives the edits that undo it.
 fn apply_edit(alloc: Global, parts: &mut Parts, edit: &Edit) -> Result<Inverse, LineFault>
     requires { IsNumbered parts.old }
     ensures { Answers parts.old (edit_of edit.now) parts.new result }
@@ -71,7 +71,8 @@ fn apply_edits(alloc: Global, parts: &mut Parts, script: &Script) -> Result<Vec<
     requires valid { IsValid parts.old }
     requires few { length script.now.edits < 2147483647 }
     ensures done { OnOk result (parts.new ≡ applied parts.old script.now.edits) }
-    ensures back { IfOk result (λ back. map edit_of back.items ≡ undoing parts.old script.now.edits) }
+    ensures back { IfOk result
+        (λ back. map edit_of back.items ≡ undoing parts.old script.now.edits) }
     ensures few_back { IfOk result (λ back. length back.items < 4294967295) }
     ensures clear { OnOk result (CanApply parts.old script.now.edits) }
     ensures fault { IfErr result (TellsFirst parts.old script.now) }
@@ -96,10 +97,11 @@ fn apply_edits(alloc: Global, parts: &mut Parts, script: &Script) -> Result<Vec<
     Ok(back)
 }
 
-/// The problem after the edits of a script, each applied to what those before it left, and the script, at lines 2, 3 and so
-/// on, that leads from it back to the problem, the places of its items included. Or the first fault of meaning, at the line
-/// of the first edit that has one. The problem that is lent stays as it is. Apart from its first and last step, which are
-/// linear in the problem, an edit takes time linear in the problem at most.
+/// The problem after the edits of a script, each applied to what those before it left. With it
+/// comes the script, at lines 2, 3 and so on, that leads back to the problem, with its items at
+/// their old places. Or the first fault of meaning, at the line of the first edit that has one. The
+/// problem that is lent stays as it is. Each edit takes at most time linear in the problem, and so
+/// do the first and the last step.
 pub fn apply(
     alloc: Global,
     problem: &Problem,
@@ -107,7 +109,8 @@ pub fn apply(
 ) -> Result<(Problem, Script), EditFault>
     requires { length script.now.edits < 2147483647 }
     ensures applied { IfOk result (λ edited. edited.0 ≡ applied problem.now script.now.edits) }
-    ensures inverse { IfOk result (λ edited. edited.1 ≡ script_of (undoing problem.now script.now.edits)) }
+    ensures inverse { IfOk result
+        (λ edited. edited.1 ≡ script_of (undoing problem.now script.now.edits)) }
     ensures back { IfOk result (λ edited. LeadsTo edited.0 edited.1.edits problem.now) }
     ensures clear { OnOk result (CanApply problem.now script.now.edits) }
     ensures fault { IfErr result (TellsFirst problem.now script.now) }

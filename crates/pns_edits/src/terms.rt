@@ -10,7 +10,7 @@ use edit_scripts::{LineFault, NamedTerm};
 use pns_problem::{Parts, Term};
 use std::alloc::{AllocError, Global};
 
-/// The terms with their materials by number, where the parts have them all.
+/// The terms with their materials by number, if the parts have them all.
 pub(crate) fn numbered_terms(
     alloc: Global,
     parts: &Parts,
@@ -19,7 +19,8 @@ pub(crate) fn numbered_terms(
     requires { length parts.now.materials ≤ 256 }
     ensures ok { IfOk result (λ v. v.items ≡ numbered_terms parts.now terms.now) }
     ensures known { OnOk result (lacks_material parts.now terms.now ≡ false) }
-    ensures unknown { IfErr result (Tells (cond (lacks_material parts.now terms.now) (Some unknown_name) None)) }
+    ensures unknown { IfErr result
+        (Tells (cond (lacks_material parts.now terms.now) (Some unknown_name) None)) }
 {
     let mut numbered = Vec::new(alloc);
     'numbering: for term in terms {

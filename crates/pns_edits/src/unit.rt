@@ -2,7 +2,9 @@
 ghost use Rattle.std.specs.Prelude.{◌≡◌, ◌<◌, ◌≤◌, OnOk, IfOk, length, string_bytes};
 ghost use Rattle.problem_rules.specs.Each.{Each};
 ghost use Rattle.problem_rules.specs.Problem.{unit_at};
-ghost use Rattle.edit_rules.specs.Edit.{capacity, fix, proportional, rename_unit, add_unit, remove_unit, investment};
+ghost use Rattle.edit_rules.specs.Edit.{capacity, fix, proportional, rename_unit};
+ghost use Rattle.edit_rules.specs.Edit.{add_unit};
+ghost use Rattle.edit_rules.specs.Edit.{remove_unit, investment};
 ghost use Rattle.edit_rules.specs.Place.{named_terms};
 ghost use Rattle.edit_rules.specs.Effect.{unit_put_in, unit_taken_out};
 ghost use Rattle.edit_rules.specs.Inverse.{costs_no_investment, investment_of};
@@ -40,11 +42,13 @@ fn take_out(parts: &mut Parts, k: u32)
     renumber_exclusions(&mut parts.exclusions, Renumbering::TakenOut(k));
 }
 
-/// The edit that puts the unit at place k back under its name, less its investment costs.
+/// The edit that adds the unit at place k again under its name, without its investment costs.
 fn added_back(alloc: Global, parts: &Parts, k: u32, name: &String) -> Result<Edit, AllocError>
     requires within { k < length parts.now.units }
-    requires inputs { AreTermsBelow (length parts.now.materials) (unit_at parts.now k).inputs }
-    requires outputs { AreTermsBelow (length parts.now.materials) (unit_at parts.now k).outputs }
+    requires inputs { AreTermsBelow (length parts.now.materials)
+        (unit_at parts.now k).inputs }
+    requires outputs { AreTermsBelow (length parts.now.materials)
+        (unit_at parts.now k).outputs }
     ensures { let u = unit_at parts.now k in IfOk result (λ e. edit_of e ≡
         add_unit k (string_bytes name.now) u.lower u.upper u.fix u.proportional (named_terms parts.now u.inputs) (named_terms parts.now u.outputs)) }
 {
@@ -68,10 +72,11 @@ pub(crate) fn costs_no_investment(unit: &OperatingUnit) -> bool
     unit.investment_fix.unsigned_abs() == 0 && unit.investment_proportional.unsigned_abs() == 0
 }
 
-/// The edit that gives the unit at place k its investment costs back, where it has some.
+/// The edit that gives the unit at place k its investment costs back, if it has some.
 fn invested_back(parts: &Parts, k: u32, name: &String) -> Result<Option<Edit>, AllocError>
     requires { k < length parts.now.units }
-    ensures { IfOk result (λ e. listed_of e ≡ investment_of (unit_at parts.now k) (string_bytes name.now)) }
+    ensures { IfOk result
+        (λ e. listed_of e ≡ investment_of (unit_at parts.now k) (string_bytes name.now)) }
 {
     let unit = &parts.units[k as usize];
     if costs_no_investment(unit) {
@@ -91,7 +96,8 @@ pub(crate) fn set_capacity(
     lower: i64,
     upper: i64,
 ) -> Result<Inverse, LineFault>
-    ensures { Answers parts.old (capacity (string_bytes name.now) lower upper) parts.new result }
+    ensures { Answers parts.old (capacity (string_bytes name.now) lower upper) parts.new
+        result }
 {
     let k = unit_place(parts, name)?;
     refuse_if(upper < lower, EditKind::LowAboveHigh)?;
@@ -126,7 +132,8 @@ pub(crate) fn set_proportional(
     name: &String,
     value: i64,
 ) -> Result<Inverse, LineFault>
-    ensures { Answers parts.old (proportional (string_bytes name.now) value) parts.new result }
+    ensures { Answers parts.old (proportional (string_bytes name.now) value) parts.new
+        result }
 {
     let k = unit_place(parts, name)?;
     let name = name.clone()?;
@@ -145,7 +152,8 @@ pub(crate) fn set_investment(
     once: i64,
     rate: i64,
 ) -> Result<Inverse, LineFault>
-    ensures { Answers parts.old (investment (string_bytes name.now) once rate) parts.new result }
+    ensures { Answers parts.old (investment (string_bytes name.now) once rate) parts.new
+        result }
 {
     let k = unit_place(parts, name)?;
     let name = name.clone()?;
@@ -161,7 +169,9 @@ pub(crate) fn set_investment(
 
 /// Gives a unit another name.
 pub(crate) fn rename(parts: &mut Parts, old: &String, new: &String) -> Result<Inverse, LineFault>
-    ensures { Answers parts.old (rename_unit (string_bytes old.now) (string_bytes new.now)) parts.new result }
+    ensures { Answers parts.old
+        (rename_unit (string_bytes old.now) (string_bytes new.now))
+        parts.new result }
 {
     let k = unit_place(parts, old)?;
     refuse_if(unit_place(parts, new).is_ok(), EditKind::DoubleName)?;
@@ -175,8 +185,8 @@ pub(crate) fn rename(parts: &mut Parts, old: &String, new: &String) -> Result<In
     Ok(inverse)
 }
 
-/// Puts a unit of this capacity, lower and upper, and these yearly costs, fixed and proportional, in at a place. It costs
-/// nothing to build.
+/// Inserts a unit of this capacity, lower and upper, and these yearly costs, fixed and
+/// proportional, at a place. It costs nothing to build.
 pub(crate) fn add(
     alloc: Global,
     parts: &mut Parts,
@@ -188,7 +198,10 @@ pub(crate) fn add(
     outputs: &[NamedTerm],
 ) -> Result<Inverse, LineFault>
     requires { IsNumbered parts.old }
-    ensures { Answers parts.old (add_unit at (string_bytes name.now) capacity.0 capacity.1 costs.0 costs.1 inputs.now outputs.now) parts.new result }
+    ensures { Answers parts.old
+        (add_unit at (string_bytes name.now) capacity.0 capacity.1 costs.0 costs.1
+        inputs.now
+        outputs.now) parts.new result }
 {
     let (lower, upper) = capacity;
     let (fix, proportional) = costs;
@@ -216,7 +229,7 @@ pub(crate) fn add(
     Ok(inverse)
 }
 
-/// Takes a unit out that no exclusion has.
+/// Removes a unit that no exclusion has.
 pub(crate) fn remove(alloc: Global, parts: &mut Parts, name: &String) -> Result<Inverse, LineFault>
     requires { IsNumbered parts.old }
     ensures { Answers parts.old (remove_unit (string_bytes name.now)) parts.new result }

@@ -1,8 +1,9 @@
 -- A sink in memory.
-use Rattle.std.specs.Prelude.{◌≡◌, ◌==◌, ◌<◌, ◌+◌, ◌-◌, ◌⊎◌, ℕ, List, Option, Some, None, min, length, if◌then◌else◌}
+use Rattle.std.specs.Prelude.{◌≡◌, ◌==◌, ◌<◌, ◌+◌, ◌-◌, ◌⊎◌, ℕ, List, Option, Some, None, min}
+use Rattle.std.specs.Prelude.{length, if◌then◌else◌}
 
--- what it has taken, its room, the put that fails with the count of bytes that it takes, and how many puts there were and
--- how many of them failed
+-- what it has taken, its room, the put that fails with the count of bytes that it takes, and how
+-- many puts there were and how many of them failed
 pub record Sunk : Type 0 where
   pub bytes : List ℕ
   pub room : ℕ

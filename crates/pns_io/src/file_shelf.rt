@@ -14,7 +14,7 @@ const NAME_ROOM: usize = 4096;
 /// The name of the standard input. A file of this name is `./-`.
 const INPUT: &str = "-";
 
-/// A file that is open, its name, and the place behind what was read of it.
+/// A file that is open, its name, and the place after what was read of it.
 #[derive(Drop)]
 struct OpenFile<T: Drop> {
     file: T,
@@ -23,16 +23,18 @@ struct OpenFile<T: Drop> {
     at: u64,
 }
 
-/// An input that is read from its front alone, and how many bytes were read of it.
+/// An input that is read only from its start on, and how many bytes were read of it.
 #[derive(Drop)]
 struct Input<I: Drop> {
     input: I,
     at: u64,
 }
 
-/// The files of the system, by their paths, and an input by the name `-`. A file stays open while it is read from its front, piece by
-/// piece, so it may be a pipe. The input is read as it comes, and nothing is sought back. What the files hold is not told; contracts see the
-/// count of the reads that failed, which is the count of faults of every name and stays at 2^64 - 1.
+/// The files of the system, by their paths, and an input by the name `-`. A file stays open while
+/// it is read from its start, piece by piece, so it may be a pipe. The input is read as it comes,
+/// and is never read again from an earlier place. The state does not say what the files hold.
+/// Contracts see the number of reads that failed, which is the count of faults of every name and
+/// stays at 2^64 - 1.
 #[derive(Drop)]
 pub struct FileShelf<'a, R: Files, I: Read + Drop> {
     rt: &'a R,
@@ -50,7 +52,7 @@ impl<'a, R: Files, I: Read + Drop> Model for FileShelf<'a, R, I> {
 }
 
 impl<T: Read + Seek + Drop> OpenFile<T> {
-    /// The file with its name, from a place on. A pipe can be read from its front alone.
+    /// The file with its name, from a place on. A pipe can be read only from its start on.
     fn of(file: T, name: &[u8], at: u64) -> io::Result<OpenFile<T>> {
         if name.len() > NAME_ROOM {
             return Err(io::Error::from(ErrorKind::InvalidInput));
@@ -69,7 +71,7 @@ impl<T: Read + Seek + Drop> OpenFile<T> {
         })
     }
 
-    /// Whether the file has this name, and the place is behind what was read of it.
+    /// Whether the file has this name, and the place is the one after what was read of it.
     fn stands_at(&self, name: &[u8], at: u64) -> bool {
         self.at == at && self.name.get(..self.length) == Some(name)
     }
@@ -84,7 +86,7 @@ impl<T: Read + Seek + Drop> OpenFile<T> {
 }
 
 impl<I: Read + Drop> Input<I> {
-    /// Reads on, if the place is behind what was read.
+    /// Reads on, if the place is the one after what was read.
     fn read(&mut self, at: u64, into: &mut [u8]) -> io::Result<usize>
         ensures { IfOk result (λ k. k ≤ length into.new) }
     {
@@ -110,7 +112,8 @@ impl<'a, R: Files, I: Read + Drop> FileShelf<'a, R, I> {
         }
     }
 
-    /// Reads on in the input or in the file that is open, or opens another. After a failure none is open.
+    /// Reads on in the input or in the file that is open, or opens another file. After a failure
+    /// none is open.
     fn read_on(&mut self, name: &str, at: u64, into: &mut [u8]) -> io::Result<usize>
         ensures count { IfOk result (λ k. k ≤ length into.new) }
         ensures failed { self.new ≡ self.old }

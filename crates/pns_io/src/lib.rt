@@ -1,12 +1,15 @@
-//! What stands outside the program: shelves, which hold files by name, and sinks, which take bytes.
+//! A read gives the file, a counted fault or too long; a sink takes all or a front.
 //!
-//! A [`Shelf`] is read piece by piece and a [`Sink`] takes one piece after another. What a contract knows of one is its
-//! `state`: what it tells, and its count of faults. A read or a put fails only where the count rose, so a caller that meets
-//! a fault can say whose it was. [`read_all`] gives the whole of a file that is within a limit.
+//! Shelves hold files by name, and sinks take bytes: they are what the program uses of the world
+//! outside it. A [`Shelf`] is read piece by piece, and a [`Sink`] takes one piece after another.
+//! What a contract knows of one is its `state`: what it says, and its count of faults. A read or a
+//! put fails only if the count rose, so a caller that meets a fault can say whose it was.
+//! [`read_all`] gives the whole of a file that is within a limit.
 //!
-//! `MemShelf` and `MemSink` are exact and fail where they are told to; `PlainShelf` and `PlainSink` never fail;
-//! `FileShelf` is the files of the system and the standard input, and `OutSink` the standard output or the standard error. Nothing is
-//! told of them but their counts. [`Outputs`] is the two sinks of a call.
+//! `MemShelf` and `MemSink` are exact, and fail at the calls that are given to them. `PlainShelf`
+//! and `PlainSink` never fail. `FileShelf` has the files of the system and the standard input, and
+//! `OutSink` is the standard output or the standard error; their states say nothing but their
+//! counts. [`Outputs`] has the two sinks of a call.
 #![tactic(auto)]
 
 mod file_shelf;

@@ -6,8 +6,8 @@ ghost use Rattle.text_rules.specs.Outside.{HasRisen, AppendsFront, counted, last
 use crate::{Failed, Sink};
 use std::marker::Model;
 
-/// An output of the system: the standard output, or the standard error. What was written is not told; contracts see the
-/// count of the puts that failed, which stays at 2^64 - 1.
+/// An output of the system: the standard output, or the standard error. The state does not say what
+/// was written. Contracts see the number of puts that failed, which stays at 2^64 - 1.
 #[derive(Drop)]
 pub struct OutSink<'a, R> {
     rt: &'a R,

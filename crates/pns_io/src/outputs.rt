@@ -4,7 +4,7 @@ ghost use Rattle.std.specs.Prelude.{◌≡◌};
 use crate::Sink;
 use std::marker::Model;
 
-/// Where a call puts what it has to say: an answer on `out`, and on `err` why there is none.
+/// The outputs of a call: an answer is put on `out`, and the reason why there is none on `err`.
 #[derive(Drop)]
 pub struct Outputs<K: Sink, E: Sink> {
     pub out: K,

@@ -7,7 +7,8 @@ use crate::named_file::{copy_from, file_named};
 use crate::{Failed, Shelf};
 use std::marker::Model;
 
-/// Files in memory. No read fails, and a name that the shelf was not given holds no bytes.
+/// Files in memory. No read fails, and a name that the shelf was not given is that of an empty
+/// file.
 #[derive(Drop)]
 pub struct PlainShelf {
     files: Vec<(String, Vec<u8>)>,
@@ -32,13 +33,18 @@ impl PlainShelf {
 }
 
 impl Shelf for PlainShelf {
-    ghost state = { λ shelf. record { held = λ name. Some (Some (file_or_empty shelf name)); faults = λ _. 0 } };
+    ghost state = { λ shelf. record {
+      held =
+          λ name. Some (Some (file_or_empty shelf name));
+      faults = λ _. 0;
+    } };
 
     fn read(&mut self, name: &str, at: u64, into: &mut [u8]) -> Result<usize, Failed>
         ensures never_fails { IsOk result }
         ensures count { IfOk result (λ k. k ≤ length into.new) }
         ensures told { IfOk result (λ k. ReadsAt (file_or_empty self.old name.now) at into.new k) }
-        ensures whole { IfOk result (λ k. k ≡ min (length into.new) (length (file_or_empty self.old name.now) - at)) }
+        ensures whole { IfOk result
+            (λ k. k ≡ min (length into.new) (length (file_or_empty self.old name.now) - at)) }
         ensures keeps { self.new ≡ self.old }
     {
         match file_named(&self.files, name) {

@@ -3,7 +3,7 @@ ghost use Rattle.std.specs.Prelude.{None, IsOk};
 
 use crate::{Failed, Sink};
 
-/// Takes every piece and keeps no bytes. No put fails, and what was written is not told.
+/// Takes every piece and keeps no bytes. No put fails, and the state does not say what was written.
 #[derive(Clone, Copy, Debug)]
 pub struct PlainSink;
 

@@ -12,11 +12,13 @@ pub trait Sink {
     /// leaves it at 2^64 - 1 at most.
     ghost state: { Self → SinkState };
 
-    /// Takes the whole piece. `Failed` comes only where the count of faults rose, and then a front of the piece was
-    /// taken.
+    /// Takes the whole piece. `Failed` is the answer only if the count of faults rose, and then a
+    /// front of the piece was taken.
     fn put(&mut self, bytes: &[u8]) -> Result<(), Failed>
-        ensures ok { OnOk result (Appends (state self.old).written (state self.new).written bytes.now) }
-        ensures err { OnErr result (AppendsFront (state self.old).written (state self.new).written bytes.now) }
+        ensures ok { OnOk result
+            (Appends (state self.old).written (state self.new).written bytes.now) }
+        ensures err { OnErr result
+            (AppendsFront (state self.old).written (state self.new).written bytes.now) }
         ensures cause { OnErr result (HasRisen (state self.old).faults (state self.new).faults) }
         ensures later { (state self.old).faults ≤ (state self.new).faults }
         ensures few { (state self.new).faults ≤ last_count };

@@ -1,5 +1,6 @@
 //! The whole of a file.
-ghost use Rattle.std.specs.Prelude.{◌≡◌, ◌<◌, ◌≤◌, ◌^◌, ◌+◌, List, ℕ, length, vec_len, IfOk, IsErrOf};
+ghost use Rattle.std.specs.Prelude.{◌≡◌, ◌<◌, ◌≤◌, ◌^◌, ◌+◌, List, ℕ, length, vec_len, IfOk};
+ghost use Rattle.std.specs.Prelude.{IsErrOf};
 ghost use Rattle.text_rules.specs.Outside.{HasRisen, Continues, IfTold};
 
 use crate::Shelf;
@@ -12,19 +13,20 @@ pub enum ReadAllFault {
     /// A read failed.
     #[error("a read failed")]
     ReadFault,
-    /// The file holds more bytes than the limit.
+    /// The file has more bytes than the limit.
     #[error("the file is too long")]
     TooLong,
-    /// Memory was refused.
+    /// There was no memory.
     #[error("out of memory")]
     Memory,
 }
 
-// A shelf may open its file at each read, so few and large pieces are asked for.
+// A shelf may open its file at each read, so few and large pieces are read.
 const CHUNK: usize = 65_536;
 
-/// The whole of a file that holds at most `limit` bytes. `ReadFault` comes only where the count of faults of this name
-/// rose, and `TooLong` exactly where the file holds more than `limit` bytes; one byte past the limit is read to see it.
+/// The whole of a file of at most `limit` bytes. The answer is `ReadFault` only if the count of
+/// faults of this name rose, and `TooLong` exactly if the file has more than `limit` bytes. To see
+/// that, one byte more than the limit is read.
 pub fn read_all<F: Shelf>(
     alloc: Global,
     shelf: &mut F,
@@ -32,12 +34,17 @@ pub fn read_all<F: Shelf>(
     limit: u64,
 ) -> Result<Vec<u8>, ReadAllFault>
     requires { limit < 2 ^ 32 }
-    ensures whole { IfOk result (λ bytes. IfTold ((F.state shelf.old).held name.now) (λ file. bytes.items ≡ file)) }
+    ensures whole { IfOk result
+        (λ bytes. IfTold ((F.state shelf.old).held name.now) (λ file. bytes.items ≡ file)) }
     ensures within { IfOk result (λ bytes. vec_len bytes ≤ limit) }
-    ensures too_long { IsErrOf result ReadAllFault.TooLong → IfTold ((F.state shelf.old).held name.now) (λ file. limit < length file) }
-    ensures fault { IsErrOf result ReadAllFault.ReadFault → HasRisen ((F.state shelf.old).faults name.now) ((F.state shelf.new).faults name.now) }
-    ensures later { (other : List ℕ) → (F.state shelf.old).faults other ≤ (F.state shelf.new).faults other }
-    ensures keeps { (other : List ℕ) → (F.state shelf.new).held other ≡ (F.state shelf.old).held other }
+    ensures too_long { IsErrOf result ReadAllFault.TooLong
+        → IfTold ((F.state shelf.old).held name.now) (λ file. limit < length file) }
+    ensures fault { IsErrOf result ReadAllFault.ReadFault
+        → HasRisen ((F.state shelf.old).faults name.now) ((F.state shelf.new).faults name.now) }
+    ensures later { (other : List ℕ)
+        → (F.state shelf.old).faults other ≤ (F.state shelf.new).faults other }
+    ensures keeps { (other : List ℕ)
+        → (F.state shelf.new).held other ≡ (F.state shelf.old).held other }
 {
     let Ok(mut chunk) = vec![in alloc; 0u8; CHUNK] else {
         return Err(ReadAllFault::Memory);
@@ -55,12 +62,17 @@ fn read_through<F: Shelf>(
 ) -> Result<Vec<u8>, ReadAllFault>
     requires small { limit < 2 ^ 32 }
     requires room { 0 < length chunk.old }
-    ensures whole { IfOk result (λ bytes. IfTold ((F.state shelf.old).held name.now) (λ file. bytes.items ≡ file)) }
+    ensures whole { IfOk result
+        (λ bytes. IfTold ((F.state shelf.old).held name.now) (λ file. bytes.items ≡ file)) }
     ensures within { IfOk result (λ bytes. vec_len bytes ≤ limit) }
-    ensures too_long { IsErrOf result ReadAllFault.TooLong → IfTold ((F.state shelf.old).held name.now) (λ file. limit < length file) }
-    ensures fault { IsErrOf result ReadAllFault.ReadFault → HasRisen ((F.state shelf.old).faults name.now) ((F.state shelf.new).faults name.now) }
-    ensures later { (other : List ℕ) → (F.state shelf.old).faults other ≤ (F.state shelf.new).faults other }
-    ensures keeps { (other : List ℕ) → (F.state shelf.new).held other ≡ (F.state shelf.old).held other }
+    ensures too_long { IsErrOf result ReadAllFault.TooLong
+        → IfTold ((F.state shelf.old).held name.now) (λ file. limit < length file) }
+    ensures fault { IsErrOf result ReadAllFault.ReadFault
+        → HasRisen ((F.state shelf.old).faults name.now) ((F.state shelf.new).faults name.now) }
+    ensures later { (other : List ℕ)
+        → (F.state shelf.old).faults other ≤ (F.state shelf.new).faults other }
+    ensures keeps { (other : List ℕ)
+        → (F.state shelf.new).held other ≡ (F.state shelf.old).held other }
 {
     let most = limit as usize;
     let mut bytes: Vec<u8> = Vec::new(alloc);
@@ -75,7 +87,8 @@ fn read_through<F: Shelf>(
     Err(ReadAllFault::TooLong)
 }
 
-// Puts the next bytes of the file, as many as the shelf gives, behind those that are there, and gives how many.
+// Puts the next bytes of the file, as many as the shelf gives, after those that are there, and
+// gives how many.
 fn read_piece<F: Shelf>(
     shelf: &mut F,
     name: &str,
@@ -84,12 +97,18 @@ fn read_piece<F: Shelf>(
 ) -> Result<usize, ReadAllFault>
     requires small { vec_len bytes.old ≤ 2 ^ 32 }
     requires room { 0 < length piece.old }
-    ensures grows { IfOk result (λ k. (vec_len bytes.new ≡ vec_len bytes.old + k) × (k ≤ length piece.new)) }
-    ensures told { IfOk result (λ k. IfTold ((F.state shelf.old).held name.now) (λ file. Continues file bytes.old.items bytes.new.items k)) }
+    ensures grows { IfOk result
+        (λ k. (vec_len bytes.new ≡ vec_len bytes.old + k) × (k ≤ length piece.new)) }
+    ensures told { IfOk result
+        (λ k. IfTold ((F.state shelf.old).held name.now)
+        (λ file. Continues file bytes.old.items bytes.new.items k)) }
     ensures no_limit { IsErrOf result ReadAllFault.TooLong → ⊥ }
-    ensures fault { IsErrOf result ReadAllFault.ReadFault → HasRisen ((F.state shelf.old).faults name.now) ((F.state shelf.new).faults name.now) }
-    ensures later { (other : List ℕ) → (F.state shelf.old).faults other ≤ (F.state shelf.new).faults other }
-    ensures keeps { (other : List ℕ) → (F.state shelf.new).held other ≡ (F.state shelf.old).held other }
+    ensures fault { IsErrOf result ReadAllFault.ReadFault
+        → HasRisen ((F.state shelf.old).faults name.now) ((F.state shelf.new).faults name.now) }
+    ensures later { (other : List ℕ)
+        → (F.state shelf.old).faults other ≤ (F.state shelf.new).faults other }
+    ensures keeps { (other : List ℕ)
+        → (F.state shelf.new).held other ≡ (F.state shelf.old).held other }
 {
     let Ok(count) = shelf.read(name, bytes.len() as u64, piece) else {
         return Err(ReadAllFault::ReadFault);

@@ -1,18 +1,24 @@
--- How far the items are judged: the number of the next, the names so far, and the rest's fault, which is the whole's.
+-- How far the items are judged: the number of the next item, the names so far, and that the fault
+-- of the rest is that of all items.
 use Rattle.std.proofs.Common.{◌≡◌, ℕ, List, [], ◌++◌, drop}
-use Rattle.problem_rules.specs.Problem.{Material, OperatingUnit, Exclusion, material_names, unit_names}
+use Rattle.problem_rules.specs.Problem.{Material, OperatingUnit, Exclusion, material_names}
+use Rattle.problem_rules.specs.Problem.{unit_names}
 use Rattle.problem_rules.specs.Validity.{materials_fault, units_fault, exclusions_fault}
 
-pub record AreMaterialsJudged (materials : List Material) (k : ℕ) (before : List (List ℕ)) (at : ℕ) : Type 0 where
+pub record AreMaterialsJudged (materials : List Material) (k : ℕ) (before : List (List ℕ))
+    (at : ℕ) : Type 0 where
   pub at_is : at ≡ k
   pub names : before ++ material_names (drop k materials) ≡ material_names materials
   pub rest : materials_fault before at (drop k materials) ≡ materials_fault [] 0 materials
 
-pub record AreUnitsJudged (materials : ℕ) (units : List OperatingUnit) (k : ℕ) (before : List (List ℕ)) (at : ℕ) : Type 0 where
+pub record AreUnitsJudged (materials : ℕ) (units : List OperatingUnit) (k : ℕ)
+    (before : List (List ℕ)) (at : ℕ) : Type 0 where
   pub at_is : at ≡ k
   pub names : before ++ unit_names (drop k units) ≡ unit_names units
   pub rest : units_fault materials before at (drop k units) ≡ units_fault materials [] 0 units
 
-pub record AreExclusionsJudged (units : ℕ) (exclusions : List Exclusion) (k : ℕ) (before : List (List ℕ)) (at : ℕ) : Type 0 where
+pub record AreExclusionsJudged (units : ℕ) (exclusions : List Exclusion) (k : ℕ)
+    (before : List (List ℕ)) (at : ℕ) : Type 0 where
   pub at_is : at ≡ k
-  pub rest : exclusions_fault units before at (drop k exclusions) ≡ exclusions_fault units [] 0 exclusions
+  pub rest : exclusions_fault units before at (drop k exclusions)
+      ≡ exclusions_fault units [] 0 exclusions

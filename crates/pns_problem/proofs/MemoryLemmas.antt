@@ -1,11 +1,18 @@
--- A refusal of parts that have no fault is want of memory.
+-- A refusal of parts that have no fault is out of memory.
 use Rattle.std.proofs.Common.{◌≡◌, true, Option, None, refl, ◌∙◌}
 use Rattle.problem_rules.specs.Validity.{Refusal}
 use Rattle.pns_problem.specs.Fault.{Tells, is_memory}
 use Rattle.pns_problem.specs.declared.fault.BuildFault.{BuildFault}
-use Rattle.pns_problem.specs.declared.fault.BuildFault.TheVariants.{TooManyMaterials, TooManyUnits, BadName, DoubleName, OutOfRange, LowAboveHigh, Sign, NoMaterial, DoubleTerm, BothSides, EmptySide, NoProduct, TooManyExclusions, BadExclusion, BadPayout, Memory}
+use Rattle.pns_problem.specs.declared.fault.BuildFault.TheVariants.{TooManyMaterials, TooManyUnits}
+use Rattle.pns_problem.specs.declared.fault.BuildFault.TheVariants.{BadName, DoubleName, OutOfRange}
+use Rattle.pns_problem.specs.declared.fault.BuildFault.TheVariants.{LowAboveHigh, Sign, NoMaterial}
+use Rattle.pns_problem.specs.declared.fault.BuildFault.TheVariants.{DoubleTerm, BothSides}
+use Rattle.pns_problem.specs.declared.fault.BuildFault.TheVariants.{EmptySide, NoProduct}
+use Rattle.pns_problem.specs.declared.fault.BuildFault.TheVariants.{TooManyExclusions, BadExclusion}
+use Rattle.pns_problem.specs.declared.fault.BuildFault.TheVariants.{BadPayout, Memory}
 
-pub only_memory : (fault : BuildFault) (first : Option Refusal) → Tells first fault → first ≡ None → is_memory fault ≡ true
+pub only_memory : (fault : BuildFault) (first : Option Refusal) → Tells first fault → first ≡ None
+    → is_memory fault ≡ true
 only_memory Memory first h none = refl
 only_memory (TooManyMaterials at) first h none = let e = h ∙ none in cc
 only_memory (TooManyUnits at) first h none = let e = h ∙ none in cc

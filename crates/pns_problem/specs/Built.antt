@@ -1,4 +1,5 @@
--- What holds of a problem that was built: its parts are valid, and its tables list the names in order.
+-- What is true of a problem that was built: its parts are valid, and its tables list the names in
+-- order.
 use Rattle.std.specs.Prelude.{◌≡◌, ℕ, List}
 use Rattle.problem_rules.specs.Problem.{Problem, material_names, unit_names}
 use Rattle.problem_rules.specs.Validity.{IsValid}

@@ -1,10 +1,19 @@
--- The refusals of parts, as the rules name them, and what an answer tells of the first fault.
+-- The refusals of parts, as the rules name them, and what an answer says of the first fault.
 use Rattle.std.specs.Prelude.{◌≡◌, Bool, true, false, Option, Some, None, Result, Ok, Err}
-use Rattle.problem_rules.specs.Validity.{Refusal, too_many_materials, too_many_units, bad_name, double_name, out_of_range, low_above_high, sign, no_material, double_term, both_sides, empty_side, no_product, too_many_exclusions, bad_exclusion, bad_payout}
+use Rattle.problem_rules.specs.Validity.{Refusal, too_many_materials, too_many_units, bad_name}
+use Rattle.problem_rules.specs.Validity.{double_name, out_of_range, low_above_high, sign}
+use Rattle.problem_rules.specs.Validity.{no_material, double_term, both_sides, empty_side}
+use Rattle.problem_rules.specs.Validity.{no_product, too_many_exclusions, bad_exclusion, bad_payout}
 use Rattle.pns_problem.specs.declared.fault.BuildFault.{BuildFault}
-use Rattle.pns_problem.specs.declared.fault.BuildFault.TheVariants.{TooManyMaterials, TooManyUnits, BadName, DoubleName, OutOfRange, LowAboveHigh, Sign, NoMaterial, DoubleTerm, BothSides, EmptySide, NoProduct, TooManyExclusions, BadExclusion, BadPayout, Memory}
+use Rattle.pns_problem.specs.declared.fault.BuildFault.TheVariants.{TooManyMaterials, TooManyUnits}
+use Rattle.pns_problem.specs.declared.fault.BuildFault.TheVariants.{BadName, DoubleName, OutOfRange}
+use Rattle.pns_problem.specs.declared.fault.BuildFault.TheVariants.{LowAboveHigh, Sign, NoMaterial}
+use Rattle.pns_problem.specs.declared.fault.BuildFault.TheVariants.{DoubleTerm, BothSides}
+use Rattle.pns_problem.specs.declared.fault.BuildFault.TheVariants.{EmptySide, NoProduct}
+use Rattle.pns_problem.specs.declared.fault.BuildFault.TheVariants.{TooManyExclusions, BadExclusion}
+use Rattle.pns_problem.specs.declared.fault.BuildFault.TheVariants.{BadPayout, Memory}
 
--- the refusal that an answer stands for; want of memory is none
+-- the refusal that an answer stands for; out of memory stands for none
 abbrev pub refusal_of : BuildFault → Option Refusal
 refusal_of (TooManyMaterials at) = Some (record { kind = too_many_materials; at = at })
 refusal_of (TooManyUnits at) = Some (record { kind = too_many_units; at = at })
@@ -41,12 +50,12 @@ is_memory (TooManyExclusions at) = false
 is_memory (BadExclusion at) = false
 is_memory (BadPayout at) = false
 
--- the answer is want of memory, or just this refusal
+-- the answer is out of memory, or exactly this refusal
 abbrev pub Tells : Option Refusal → BuildFault → Type 0
 Tells refusal Memory = Unit {0}
 Tells refusal fault = refusal_of fault ≡ refusal
 
--- a judgement that takes no memory: Ok where there is no fault, else the fault
+-- a judgement that takes no memory: `Ok` if there is no fault, else the fault
 abbrev pub Judges : {X : Type 0} → Result X BuildFault → Option Refusal → Type 0
 Judges (Ok x) refusal = refusal ≡ None
 Judges (Err fault) refusal = refusal_of fault ≡ refusal

@@ -1,4 +1,4 @@
--- A mark for each material that stands among terms.
+-- A mark for each material that is among the terms.
 use Rattle.std.specs.Prelude.{◌≡◌, ◌<◌, ℕ, Bool, false, List, slice_index_or}
 use Rattle.problem_rules.specs.Problem.{Term, terms_have}
 

@@ -5,7 +5,7 @@ ghost use Rattle.text_rules.specs.Printed.{digits, places, amount_bytes};
 
 use std::alloc::{AllocError, Global};
 
-/// Whether the amount is beyond 10^9 on either side of 0.
+/// Whether the absolute value of the amount is above 10^9.
 pub(crate) fn is_out_of_range(value: i64) -> bool
     ensures { result ≡ is_out_of_range value }
 {
@@ -37,7 +37,8 @@ fn push_places(text: &mut String, count: u32, number: u64) -> Result<(), AllocEr
     }
 }
 
-/// Appends an amount: a `-` where it is negative, the whole part, and the places up to the last that is not 0.
+/// Appends an amount: a `-` if it is negative, the whole part, and the places up to the last that
+/// is not 0.
 pub(crate) fn push_amount(text: &mut String, value: i64) -> Result<(), AllocError>
     ensures { OnOk result (string_bytes text.new ≡ string_bytes text.old ++ amount_bytes value) }
 {

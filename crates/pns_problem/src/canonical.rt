@@ -1,11 +1,27 @@
 //! The canonical text of a problem, appended line by line.
-ghost use Rattle.std.specs.Prelude.{◌≡◌, ◌<◌, ◌++◌, OnOk, false, [], length, string_bytes, map};
+ghost use Rattle.std.specs.Prelude.{◌≡◌, ◌<◌, ◌++◌, OnOk, false, [], length};
+ghost use Rattle.std.specs.Prelude.{string_bytes};
+ghost use Rattle.std.specs.Prelude.{map};
 ghost use Rattle.problem_rules.specs.Problem.{material_names, unit_names};
 ghost use Rattle.problem_rules.specs.Validity.{names_no_material, is_empty, IsValid};
 ghost use Rattle.text_rules.specs.Printed.{amount_bytes};
-ghost use Rattle.text_rules.specs.Canonical.{joined, spaced, field, field_unless_zero, kind_word, material_items, unit_items, item_line, name_at, token_text, side_tokens, rates_tokens, named, payout_lines, exclusion_section, canonical};
+ghost use Rattle.text_rules.specs.Canonical.{joined, spaced, field, field_unless_zero};
+ghost use Rattle.text_rules.specs.Canonical.{kind_word};
+ghost use Rattle.text_rules.specs.Canonical.{material_items, unit_items, item_line};
+ghost use Rattle.text_rules.specs.Canonical.{name_at};
+ghost use Rattle.text_rules.specs.Canonical.{token_text, side_tokens, rates_tokens};
+ghost use Rattle.text_rules.specs.Canonical.{named};
+ghost use Rattle.text_rules.specs.Canonical.{payout_lines, exclusion_section, canonical};
 ghost use Rattle.pns_problem.specs.Kind.{kind_of};
-ghost use Rattle.pns_problem.specs.Printing.{printed, further, further_items, rate_text, term_text, further_terms, material_amounts, unit_amounts, unit_investment_fix, unit_investment_proportional, material_line, unit_line, rates_line, exclusion_line, IsPrintable, AreKnown, HasKnownMembers};
+ghost use Rattle.pns_problem.specs.Printing.{printed, further, further_items, rate_text};
+ghost use Rattle.pns_problem.specs.Printing.{term_text};
+ghost use Rattle.pns_problem.specs.Printing.{further_terms, material_amounts};
+ghost use Rattle.pns_problem.specs.Printing.{unit_amounts};
+ghost use Rattle.pns_problem.specs.Printing.{unit_investment_fix};
+ghost use Rattle.pns_problem.specs.Printing.{unit_investment_proportional};
+ghost use Rattle.pns_problem.specs.Printing.{material_line, unit_line, rates_line};
+ghost use Rattle.pns_problem.specs.Printing.{exclusion_line};
+ghost use Rattle.pns_problem.specs.Printing.{IsPrintable, AreKnown, HasKnownMembers};
 ghost use Rattle.problem_rules.specs.Each.{Each};
 
 use crate::amount::push_amount;
@@ -18,7 +34,9 @@ use std::alloc::AllocError;
 
 /// `key=V`
 fn push_field(text: &mut String, key: &str, value: i64) -> Result<(), AllocError>
-    ensures { OnOk result (string_bytes text.new ≡ string_bytes text.old ++ field key.now (amount_bytes value)) }
+    ensures { OnOk result
+        (string_bytes text.new ≡ string_bytes text.old
+        ++ field key.now (amount_bytes value)) }
 {
     text.push_str(key)?;
     text.push('=')?;
@@ -28,7 +46,9 @@ fn push_field(text: &mut String, key: &str, value: i64) -> Result<(), AllocError
 
 /// `, key=V`
 fn push_further(text: &mut String, key: &str, value: i64) -> Result<(), AllocError>
-    ensures { OnOk result (string_bytes text.new ≡ string_bytes text.old ++ further (field key.now (amount_bytes value))) }
+    ensures { OnOk result
+        (string_bytes text.new ≡ string_bytes text.old
+        ++ further (field key.now (amount_bytes value))) }
 {
     text.push_str(", ")?;
     push_field(text, key, value)?;
@@ -36,7 +56,9 @@ fn push_further(text: &mut String, key: &str, value: i64) -> Result<(), AllocErr
 }
 
 fn push_further_unless_zero(text: &mut String, key: &str, value: i64) -> Result<(), AllocError>
-    ensures { OnOk result (string_bytes text.new ≡ string_bytes text.old ++ further_items (field_unless_zero key.now value)) }
+    ensures { OnOk result
+        (string_bytes text.new ≡ string_bytes text.old
+        ++ further_items (field_unless_zero key.now value)) }
 {
     if value.unsigned_abs() == 0 {
         return Ok(());
@@ -46,7 +68,8 @@ fn push_further_unless_zero(text: &mut String, key: &str, value: i64) -> Result<
 }
 
 fn push_kind(text: &mut String, kind: Kind) -> Result<(), AllocError>
-    ensures { OnOk result (string_bytes text.new ≡ string_bytes text.old ++ kind_word (kind_of kind)) }
+    ensures { OnOk result
+        (string_bytes text.new ≡ string_bytes text.old ++ kind_word (kind_of kind)) }
 {
     match kind {
         Kind::RawMaterial => text.push_str("raw_material")?,
@@ -58,7 +81,8 @@ fn push_kind(text: &mut String, kind: Kind) -> Result<(), AllocError>
 
 /// `NAME: `
 fn push_name(text: &mut String, name: &str) -> Result<(), AllocError>
-    ensures { OnOk result (string_bytes text.new ≡ string_bytes text.old ++ named name.now []) }
+    ensures { OnOk result
+        (string_bytes text.new ≡ string_bytes text.old ++ named name.now []) }
 {
     text.push_str(name)?;
     text.push_str(": ")?;
@@ -66,7 +90,10 @@ fn push_name(text: &mut String, name: &str) -> Result<(), AllocError>
 }
 
 fn push_material_amounts(text: &mut String, material: &Material) -> Result<(), AllocError>
-    ensures { let m = material.now in OnOk result (string_bytes text.new ≡ string_bytes text.old ++ further_items (material_amounts m)) }
+    ensures { let m = material.now in
+        OnOk result
+        (string_bytes text.new ≡ string_bytes text.old
+        ++ further_items (material_amounts m)) }
 {
     push_further(text, "price", material.price)?;
     push_further(text, "flow_rate_lower_bound", material.lower)?;
@@ -75,7 +102,10 @@ fn push_material_amounts(text: &mut String, material: &Material) -> Result<(), A
 }
 
 fn push_material(text: &mut String, material: &Material) -> Result<(), AllocError>
-    ensures { let m = material.now in OnOk result (string_bytes text.new ≡ string_bytes text.old ++ item_line m.name (material_items m)) }
+    ensures { let m = material.now in
+        OnOk result
+        (string_bytes text.new ≡ string_bytes text.old
+        ++ item_line m.name (material_items m)) }
 {
     push_name(text, &material.name)?;
     push_kind(text, material.kind)?;
@@ -84,7 +114,9 @@ fn push_material(text: &mut String, material: &Material) -> Result<(), AllocErro
 }
 
 fn push_unit_amounts(text: &mut String, unit: &OperatingUnit) -> Result<(), AllocError>
-    ensures { let u = unit.now in OnOk result (string_bytes text.new ≡ string_bytes text.old ++ further_items (unit_amounts u)) }
+    ensures { let u = unit.now in
+        OnOk result
+        (string_bytes text.new ≡ string_bytes text.old ++ further_items (unit_amounts u)) }
 {
     push_further(text, "capacity_upper_bound", unit.upper)?;
     push_further(text, "fix_cost", unit.fix)?;
@@ -93,7 +125,11 @@ fn push_unit_amounts(text: &mut String, unit: &OperatingUnit) -> Result<(), Allo
 }
 
 fn push_investments(text: &mut String, unit: &OperatingUnit) -> Result<(), AllocError>
-    ensures { let u = unit.now in OnOk result (string_bytes text.new ≡ string_bytes text.old ++ (further_items (unit_investment_fix u) ++ further_items (unit_investment_proportional u))) }
+    ensures { let u = unit.now in
+        OnOk result
+        (string_bytes text.new ≡ string_bytes text.old
+        ++ (further_items (unit_investment_fix u)
+        ++ further_items (unit_investment_proportional u))) }
 {
     push_further_unless_zero(text, "investment_fix_cost", unit.investment_fix)?;
     push_further_unless_zero(
@@ -105,7 +141,9 @@ fn push_investments(text: &mut String, unit: &OperatingUnit) -> Result<(), Alloc
 }
 
 fn push_unit(text: &mut String, unit: &OperatingUnit) -> Result<(), AllocError>
-    ensures { let u = unit.now in OnOk result (string_bytes text.new ≡ string_bytes text.old ++ item_line u.name (unit_items u)) }
+    ensures { let u = unit.now in
+        OnOk result
+        (string_bytes text.new ≡ string_bytes text.old ++ item_line u.name (unit_items u)) }
 {
     push_name(text, &unit.name)?;
     push_field(text, "capacity_lower_bound", unit.lower)?;
@@ -114,9 +152,10 @@ fn push_unit(text: &mut String, unit: &OperatingUnit) -> Result<(), AllocError>
     Ok(())
 }
 
-/// A rate with a space, where it is not 1.
+/// A rate with a space, if it is not 1.
 fn push_rate(text: &mut String, rate: i64) -> Result<(), AllocError>
-    ensures { OnOk result (string_bytes text.new ≡ string_bytes text.old ++ rate_text rate) }
+    ensures { OnOk result
+        (string_bytes text.new ≡ string_bytes text.old ++ rate_text rate) }
 {
     if rate.unsigned_abs() == 1_000_000 {
         return Ok(());
@@ -144,7 +183,9 @@ fn unit_name(units: &[OperatingUnit], number: u32) -> &str
 
 fn push_term(text: &mut String, materials: &[Material], term: &Term) -> Result<(), AllocError>
     requires { term.now.material < length materials.now }
-    ensures { OnOk result (string_bytes text.new ≡ string_bytes text.old ++ term_text (material_names materials.now) term.now) }
+    ensures { OnOk result
+        (string_bytes text.new ≡ string_bytes text.old
+        ++ term_text (material_names materials.now) term.now) }
 {
     push_rate(text, term.rate)?;
     let name = material_name(materials, term.material);
@@ -152,14 +193,16 @@ fn push_term(text: &mut String, materials: &[Material], term: &Term) -> Result<(
     Ok(())
 }
 
-/// The terms behind the first of a side.
+/// The terms after the first of a side.
 fn push_further_terms(
     text: &mut String,
     materials: &[Material],
     terms: &[Term],
 ) -> Result<(), AllocError>
     requires { names_no_material (length materials.now) terms.now ≡ false }
-    ensures { OnOk result (string_bytes text.new ≡ string_bytes text.old ++ further_terms (material_names materials.now) terms.now) }
+    ensures { OnOk result
+        (string_bytes text.new ≡ string_bytes text.old
+        ++ further_terms (material_names materials.now) terms.now) }
 {
     'printing: for term in terms {
         text.push_str(" + ")?;
@@ -171,7 +214,9 @@ fn push_further_terms(
 fn push_side(text: &mut String, materials: &[Material], terms: &[Term]) -> Result<(), AllocError>
     requires some { is_empty terms.now ≡ false }
     requires known { names_no_material (length materials.now) terms.now ≡ false }
-    ensures { OnOk result (string_bytes text.new ≡ string_bytes text.old ++ token_text (side_tokens (material_names materials.now) terms.now)) }
+    ensures { OnOk result
+        (string_bytes text.new ≡ string_bytes text.old
+        ++ token_text (side_tokens (material_names materials.now) terms.now)) }
 {
     push_term(text, materials, &terms[0])?;
     push_further_terms(text, materials, &terms[1..])?;
@@ -201,7 +246,9 @@ fn push_further_members(
     members: &[u32],
 ) -> Result<(), AllocError>
     requires { AreKnown (length units.now) members.now }
-    ensures { OnOk result (string_bytes text.new ≡ string_bytes text.old ++ further_items (map (name_at (unit_names units.now)) members.now)) }
+    ensures { OnOk result
+        (string_bytes text.new ≡ string_bytes text.old
+        ++ further_items (map (name_at (unit_names units.now)) members.now)) }
 {
     'printing: for member in members {
         text.push_str(", ")?;
@@ -218,7 +265,9 @@ fn push_members(
 ) -> Result<(), AllocError>
     requires some { 0 < length members.now }
     requires known { AreKnown (length units.now) members.now }
-    ensures { OnOk result (string_bytes text.new ≡ string_bytes text.old ++ joined 44 (spaced (map (name_at (unit_names units.now)) members.now))) }
+    ensures { OnOk result
+        (string_bytes text.new ≡ string_bytes text.old
+        ++ joined 44 (spaced (map (name_at (unit_names units.now)) members.now))) }
 {
     let first = unit_name(units, members[0]);
     text.push_str(first)?;
@@ -232,7 +281,10 @@ fn push_exclusion(
     exclusion: &Exclusion,
 ) -> Result<(), AllocError>
     requires { HasKnownMembers (length units.now) exclusion.now }
-    ensures { let e = exclusion.now in OnOk result (string_bytes text.new ≡ string_bytes text.old ++ item_line e.name (map (name_at (unit_names units.now)) e.units)) }
+    ensures { let e = exclusion.now in
+        OnOk result
+        (string_bytes text.new ≡ string_bytes text.old
+        ++ item_line e.name (map (name_at (unit_names units.now)) e.units)) }
 {
     push_name(text, &exclusion.name)?;
     push_members(text, units, &exclusion.units)?;
@@ -240,7 +292,9 @@ fn push_exclusion(
 }
 
 fn push_material_lines(text: &mut String, materials: &[Material]) -> Result<(), AllocError>
-    ensures { OnOk result (string_bytes text.new ≡ string_bytes text.old ++ printed (map material_line materials.now)) }
+    ensures { OnOk result
+        (string_bytes text.new ≡ string_bytes text.old
+        ++ printed (map material_line materials.now)) }
 {
     'printing: for material in materials {
         push_material(text, material)?;
@@ -250,7 +304,9 @@ fn push_material_lines(text: &mut String, materials: &[Material]) -> Result<(), 
 }
 
 fn push_unit_lines(text: &mut String, units: &[OperatingUnit]) -> Result<(), AllocError>
-    ensures { OnOk result (string_bytes text.new ≡ string_bytes text.old ++ printed (map unit_line units.now)) }
+    ensures { OnOk result
+        (string_bytes text.new ≡ string_bytes text.old
+        ++ printed (map unit_line units.now)) }
 {
     'printing: for unit in units {
         push_unit(text, unit)?;
@@ -265,7 +321,9 @@ fn push_rates_lines(
     units: &[OperatingUnit],
 ) -> Result<(), AllocError>
     requires { Each (IsPrintable (length materials.now)) units.now }
-    ensures { OnOk result (string_bytes text.new ≡ string_bytes text.old ++ printed (map (rates_line (material_names materials.now)) units.now)) }
+    ensures { OnOk result
+        (string_bytes text.new ≡ string_bytes text.old
+        ++ printed (map (rates_line (material_names materials.now)) units.now)) }
 {
     'printing: for unit in units {
         push_rates(text, materials, unit)?;
@@ -280,7 +338,9 @@ fn push_exclusion_lines(
     exclusions: &[Exclusion],
 ) -> Result<(), AllocError>
     requires { Each (HasKnownMembers (length units.now)) exclusions.now }
-    ensures { OnOk result (string_bytes text.new ≡ string_bytes text.old ++ printed (map (exclusion_line (unit_names units.now)) exclusions.now)) }
+    ensures { OnOk result
+        (string_bytes text.new ≡ string_bytes text.old
+        ++ printed (map (exclusion_line (unit_names units.now)) exclusions.now)) }
 {
     'printing: for exclusion in exclusions {
         push_exclusion(text, units, exclusion)?;
@@ -289,9 +349,10 @@ fn push_exclusion_lines(
     Ok(())
 }
 
-/// The section of the defaults, where the payout period is not 1.
+/// The section of the defaults, if the payout period is not 1.
 fn push_payout(text: &mut String, payout: i64) -> Result<(), AllocError>
-    ensures { OnOk result (string_bytes text.new ≡ string_bytes text.old ++ printed (payout_lines payout)) }
+    ensures { OnOk result
+        (string_bytes text.new ≡ string_bytes text.old ++ printed (payout_lines payout)) }
 {
     let years = payout.unsigned_abs();
     if years == 1 {
@@ -303,14 +364,16 @@ fn push_payout(text: &mut String, payout: i64) -> Result<(), AllocError>
     Ok(())
 }
 
-/// The section of the exclusions, where there are any.
+/// The section of the exclusions, if there are any.
 fn push_exclusion_section(
     text: &mut String,
     units: &[OperatingUnit],
     exclusions: &[Exclusion],
 ) -> Result<(), AllocError>
     requires { Each (HasKnownMembers (length units.now)) exclusions.now }
-    ensures { OnOk result (string_bytes text.new ≡ string_bytes text.old ++ printed (exclusion_section (map (exclusion_line (unit_names units.now)) exclusions.now))) }
+    ensures { OnOk result
+        (string_bytes text.new ≡ string_bytes text.old
+        ++ printed (exclusion_section (map (exclusion_line (unit_names units.now)) exclusions.now))) }
 {
     if exclusions.is_empty() {
         return Ok(());
@@ -323,7 +386,8 @@ fn push_exclusion_section(
 /// Appends the canonical text of a valid problem.
 pub(crate) fn push_problem(text: &mut String, parts: &Parts) -> Result<(), AllocError>
     requires { IsValid parts.now }
-    ensures { OnOk result (string_bytes text.new ≡ string_bytes text.old ++ canonical parts.now) }
+    ensures { OnOk result
+        (string_bytes text.new ≡ string_bytes text.old ++ canonical parts.now) }
 {
     text.push_str("file_type=PNS_problem_v1\n")?;
     push_payout(text, parts.payout)?;

@@ -1,7 +1,10 @@
 //! The first fault of the parts of a problem, in one pass over them.
 ghost use Rattle.std.specs.Prelude.{◌≡◌, ◌≤◌, IfOk, IfErr, OnOk, None, [], length};
 ghost use Rattle.problem_rules.specs.Problem.{material_names, unit_names};
-ghost use Rattle.problem_rules.specs.Validity.{material_fault, materials_fault, unit_fault, units_fault, exclusion_fault, exclusions_fault, counts_fault, whole_fault, fault_of, is_bad_payout, IsValid};
+ghost use Rattle.problem_rules.specs.Validity.{material_fault, materials_fault, unit_fault};
+ghost use Rattle.problem_rules.specs.Validity.{units_fault, exclusion_fault, exclusions_fault};
+ghost use Rattle.problem_rules.specs.Validity.{counts_fault, whole_fault, fault_of, is_bad_payout};
+ghost use Rattle.problem_rules.specs.Validity.{IsValid};
 ghost use Rattle.pns_problem.specs.Fault.{Tells, Judges};
 
 use crate::exclusion::Exclusion;

@@ -1,14 +1,15 @@
 //! Materials, and the tests by which they are judged.
 ghost use Rattle.std.specs.Prelude.{◌≡◌, IfOk, int_lt};
-ghost use Rattle.problem_rules.specs.Validity.{material_out_of_range, material_negative, has_product};
+ghost use Rattle.problem_rules.specs.Validity.{material_out_of_range, material_negative};
+ghost use Rattle.problem_rules.specs.Validity.{has_product};
 ghost use Rattle.problem_rules.specs.Problem.{is_product};
 
 use crate::amount::is_out_of_range;
 use std::alloc::{AllocError, Global};
 use std::marker::Model;
 
-/// What a network does with a material: it buys a raw material, makes what it uses of an intermediate, and has to make
-/// each product.
+/// What a network does with a material: it buys a raw material, makes what it uses of an
+/// intermediate, and has to make each product.
 #[derive(Clone, Copy, Debug, PartialEq, Eq)]
 pub enum Kind {
     RawMaterial,
@@ -16,8 +17,8 @@ pub enum Kind {
     Product,
 }
 
-/// A material. Price and bounds are in millionths; the bounds limit how much of it a network makes, or uses where it is
-/// a raw material.
+/// A material. Price and bounds are in millionths. The bounds limit how much of it a network makes
+/// or, of a raw material, how much it uses.
 #[derive(Drop)]
 pub struct Material {
     pub name: String,
@@ -34,7 +35,14 @@ impl Model for Material {
 
     ghost Value = { rules.Material };
 
-    ghost view = { λ m. record { name = string_bytes m.name; kind = kind_of m.kind; price = m.price; lower = m.lower; upper = m.upper } };
+    ghost view = { λ m. record {
+      name = string_bytes m.name;
+      kind = kind_of m.kind;
+      price =
+          m.price;
+      lower = m.lower;
+      upper = m.upper;
+    } };
 }
 
 impl Material {

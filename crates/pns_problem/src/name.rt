@@ -30,8 +30,8 @@ fn is_name_bytes(text: &[u8]) -> bool
     begins_name(text[0]) && all_continue(text)
 }
 
-/// Whether the text is a name: a letter or `_`, then letters, digits, `_`, `-` or `.`, all ASCII, at most 64 bytes.
-/// It takes no memory.
+/// Whether the text is a name: a letter or `_`, then letters, digits, `_`, `-` or `.`, all ASCII,
+/// at most 64 bytes. It takes no memory.
 pub fn is_name(text: &str) -> bool
     ensures { result ≡ is_name text.now }
 {

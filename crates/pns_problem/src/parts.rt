@@ -22,7 +22,13 @@ impl Model for Parts {
 
     ghost Value = { rules.Problem };
 
-    ghost view = { λ p. record { materials = p.materials.items; units = p.units.items; exclusions = p.exclusions.items; payout = p.payout } };
+    ghost view = { λ p. record {
+      materials = p.materials.items;
+      units = p.units.items;
+      exclusions =
+          p.exclusions.items;
+      payout = p.payout;
+    } };
 }
 
 impl Parts {
@@ -43,7 +49,10 @@ impl Parts {
     /// Writes the price of a material.
     pub(crate) fn set_price(&mut self, x: u32, price: i64)
         requires { x < length self.old.materials }
-        ensures { self.new ≡ record self.old { materials = slice_set self.old.materials x (record (material_at self.old x) { price = price }) } }
+        ensures { self.new ≡ record self.old {
+          materials =
+              slice_set self.old.materials x (record (material_at self.old x) { price = price });
+        } }
     {
         let material = &mut self.materials[x as usize];
         material.price = price;
@@ -52,7 +61,8 @@ impl Parts {
     /// Writes the yearly fixed cost of a unit.
     pub(crate) fn set_fix(&mut self, u: u32, fix: i64)
         requires { u < length self.old.units }
-        ensures { self.new ≡ record self.old { units = slice_set self.old.units u (record (unit_at self.old u) { fix = fix }) } }
+        ensures { self.new ≡ record self.old
+            { units = slice_set self.old.units u (record (unit_at self.old u) { fix = fix }) } }
     {
         let unit = &mut self.units[u as usize];
         unit.fix = fix;
@@ -61,7 +71,10 @@ impl Parts {
     /// Writes the yearly cost of a unit for each unit of size.
     pub(crate) fn set_proportional(&mut self, u: u32, proportional: i64)
         requires { u < length self.old.units }
-        ensures { self.new ≡ record self.old { units = slice_set self.old.units u (record (unit_at self.old u) { proportional = proportional }) } }
+        ensures { self.new ≡ record self.old {
+          units =
+              slice_set self.old.units u (record (unit_at self.old u) { proportional = proportional });
+        } }
     {
         let unit = &mut self.units[u as usize];
         unit.proportional = proportional;

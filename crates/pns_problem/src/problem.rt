@@ -2,7 +2,8 @@
 ghost use Rattle.std.specs.Prelude.{◌≡◌, ◌<◌, true, IfOk, IfErr, OnOk, length, slice_set};
 ghost use Rattle.std.specs.List.{position};
 ghost use Rattle.std.specs.Str.{bytes_eq};
-ghost use Rattle.problem_rules.specs.Problem.{material_at, unit_at, material_names, unit_names};
+ghost use Rattle.problem_rules.specs.Problem.{material_at, unit_at, material_names};
+ghost use Rattle.problem_rules.specs.Problem.{unit_names};
 ghost use Rattle.problem_rules.specs.Validity.{fault_of, IsValid};
 ghost use Rattle.pns_problem.specs.Fault.{Tells, is_memory};
 ghost use Rattle.problem_rules.specs.WellFormed.{IsWellFormed};
@@ -19,7 +20,8 @@ use crate::unit::OperatingUnit;
 use std::alloc::{AllocError, Global};
 use std::marker::Model;
 
-/// A valid problem. Contracts see its materials, units, exclusions and payout period, in file order.
+/// A valid problem. Contracts see its materials, units, exclusions and payout period, in file
+/// order.
 #[derive(Drop)]
 pub struct Problem {
     parts: Parts,
@@ -39,14 +41,16 @@ impl Model for Problem {
 }
 
 impl Problem {
-    /// The problem of these parts, or their first fault: the counts are judged first, then each material, each unit and
-    /// each exclusion in order, then whether there is a product, and the payout period last. Within one item the order is
-    /// that of the variants of `BuildFault`. Linear in the size of the parts, which are dropped with a refusal.
+    /// The problem of these parts, or their first fault. The counts are judged first, then each
+    /// material, each unit and each exclusion in order, then whether there is a product, and last
+    /// the payout period. Within one item the order is that of the variants of `BuildFault`. The
+    /// time is linear in the size of the parts. With a refusal they are dropped.
     pub fn build(alloc: Global, parts: Parts) -> Result<Problem, BuildFault>
         ensures built { IfOk result (λ p. p ≡ parts) }
         ensures valid { OnOk result (IsValid parts) }
         ensures fault { IfErr result (Tells (fault_of parts)) }
-        ensures valid_parts { IfErr result (λ fault. IsValid parts → is_memory fault ≡ true) }
+        ensures valid_parts { IfErr result
+            (λ fault. IsValid parts → is_memory fault ≡ true) }
     {
         match judge(alloc, &parts) {
             Err(fault) => Err(fault),
@@ -86,8 +90,8 @@ impl Problem {
         self.parts.payout
     }
 
-    /// None of the faults stands in a problem, so each of its items is well formed. A call tells a proof so, and does
-    /// nothing.
+    /// A problem has none of the faults, so each of its items is well formed. A call gives this to
+    /// a proof, and does nothing.
     pub fn is_valid(&self)
         ensures valid { IsValid self.now }
         ensures well_formed { IsWellFormed self.now }
@@ -95,7 +99,7 @@ impl Problem {
         let _payout = self.parts.payout;
     }
 
-    /// The name of a material by its number; of a number that no material has it is empty.
+    /// The name of a material by its number. It is empty if no material has the number.
     pub fn material_name(&self, x: u32) -> &str
         ensures { result.now ≡ (material_at self.now x).name }
     {
@@ -105,7 +109,7 @@ impl Problem {
         }
     }
 
-    /// The name of a unit by its number; of a number that no unit has it is empty.
+    /// The name of a unit by its number. It is empty if no unit has the number.
     pub fn unit_name(&self, u: u32) -> &str
         ensures { result.now ≡ (unit_at self.now u).name }
     {
@@ -115,51 +119,72 @@ impl Problem {
         }
     }
 
-    /// The number of the material of this name; none exactly where no material has it.
+    /// The number of the material of this name; `None` exactly if no material has it.
     pub fn material_named(&self, name: &str) -> Option<u32>
-        ensures { result ≡ position (λ word. bytes_eq word name.now) (material_names self.now.materials) }
+        ensures { result ≡ position (λ word. bytes_eq word name.now)
+            (material_names self.now.materials) }
     {
         self.materials.number_of(name)
     }
 
-    /// The number of the unit of this name; none exactly where no unit has it.
+    /// The number of the unit of this name; `None` exactly if no unit has it.
     pub fn unit_named(&self, name: &str) -> Option<u32>
-        ensures { result ≡ position (λ word. bytes_eq word name.now) (unit_names self.now.units) }
+        ensures { result ≡ position (λ word. bytes_eq word name.now)
+            (unit_names self.now.units) }
     {
         self.units.number_of(name)
     }
 
-    /// Sets the price of a material, in millionths of money a unit. The problem has to be valid with it; nothing else of it
-    /// changes, and no memory is taken.
+    /// Sets the price of a material, in millionths of money a unit. The problem has to be valid
+    /// with it. Nothing else changes, and no memory is taken.
     pub fn set_price(&mut self, x: u32, price: i64)
         requires known { x < length self.old.materials }
-        requires valid { IsValid (record self.old { materials = slice_set self.old.materials x (record (material_at self.old x) { price = price }) }) }
-        ensures { self.new ≡ record self.old { materials = slice_set self.old.materials x (record (material_at self.old x) { price = price }) } }
+        requires valid { IsValid
+            (record self.old {
+              materials =
+                  slice_set self.old.materials x (record (material_at self.old x) { price = price });
+            }) }
+        ensures { self.new ≡ record self.old {
+          materials =
+              slice_set self.old.materials x (record (material_at self.old x) { price = price });
+        } }
     {
         self.parts.set_price(x, price);
     }
 
-    /// Sets the fixed cost of a unit, in millionths of money a year. The problem has to be valid with it; nothing else of it
-    /// changes, and no memory is taken.
+    /// Sets the fixed cost of a unit, in millionths of money a year. The problem has to be valid
+    /// with it. Nothing else changes, and no memory is taken.
     pub fn set_fix(&mut self, u: u32, fix: i64)
         requires known { u < length self.old.units }
-        requires valid { IsValid (record self.old { units = slice_set self.old.units u (record (unit_at self.old u) { fix = fix }) }) }
-        ensures { self.new ≡ record self.old { units = slice_set self.old.units u (record (unit_at self.old u) { fix = fix }) } }
+        requires valid { IsValid
+            (record self.old {
+              units =
+                  slice_set self.old.units u (record (unit_at self.old u) { fix = fix });
+            }) }
+        ensures { self.new ≡ record self.old
+            { units = slice_set self.old.units u (record (unit_at self.old u) { fix = fix }) } }
     {
         self.parts.set_fix(u, fix);
     }
 
-    /// Sets the cost of a unit for each unit of size, in millionths of money a year. The problem has to be valid with it;
-    /// nothing else of it changes, and no memory is taken.
+    /// Sets the cost of a unit for each unit of size, in millionths of money a year. The problem
+    /// has to be valid with it. Nothing else changes, and no memory is taken.
     pub fn set_proportional(&mut self, u: u32, proportional: i64)
         requires known { u < length self.old.units }
-        requires valid { IsValid (record self.old { units = slice_set self.old.units u (record (unit_at self.old u) { proportional = proportional }) }) }
-        ensures { self.new ≡ record self.old { units = slice_set self.old.units u (record (unit_at self.old u) { proportional = proportional }) } }
+        requires valid { IsValid
+            (record self.old {
+              units =
+                  slice_set self.old.units u (record (unit_at self.old u) { proportional = proportional });
+            }) }
+        ensures { self.new ≡ record self.old {
+          units =
+              slice_set self.old.units u (record (unit_at self.old u) { proportional = proportional });
+        } }
     {
         self.parts.set_proportional(u, proportional);
     }
 
-    /// A copy of the parts, from which `build` makes an equal problem, want of memory aside.
+    /// A copy of the parts, from which `build` makes an equal problem unless it is out of memory.
     pub fn parts(&self, alloc: Global) -> Result<Parts, AllocError>
         ensures same { IfOk result (λ parts. parts ≡ self.now) }
         ensures valid { OnOk result (IsValid self.now) }
@@ -182,7 +207,7 @@ impl Problem {
         }
     }
 
-    /// The one canonical text of the problem, which reads back as it.
+    /// The one canonical text of the problem, which reads back as the problem.
     pub fn canonical_text(&self, alloc: Global) -> Result<Vec<u8>, AllocError>
         ensures { IfOk result (λ text. text.items ≡ canonical self.now) }
     {

@@ -2,13 +2,16 @@
 ghost use Rattle.std.specs.Prelude.{◌≡◌, ◌≤◌, false, IfOk, int_lt, pos};
 ghost use Rattle.problem_rules.specs.Problem.{rates_of};
 ghost use Rattle.pns_problem.specs.Marks.{AreMarks};
-ghost use Rattle.problem_rules.specs.Validity.{is_out_of_range, any_out_of_range, any_below_one, names_no_material, repeats_material, shares_material, is_empty};
+ghost use Rattle.problem_rules.specs.Validity.{is_out_of_range, any_out_of_range, any_below_one};
+ghost use Rattle.problem_rules.specs.Validity.{names_no_material, repeats_material};
+ghost use Rattle.problem_rules.specs.Validity.{shares_material, is_empty};
 
 use crate::amount::is_out_of_range;
 use std::alloc::AllocError;
 use std::marker::Model;
 
-/// A material, by its number, and the rate in millionths at which a unit of size 1 uses or makes it.
+/// A material, by its number, and the rate in millionths at which a unit of size 1 uses or makes
+/// it.
 #[derive(Clone, Copy)]
 pub struct Term {
     pub material: u32,
@@ -72,7 +75,7 @@ pub(crate) fn names_no_material(materials: u32, terms: &[Term]) -> bool
     false
 }
 
-/// Whether a material stands twice, in one pass over the terms.
+/// Whether a material is there twice, in one pass over the terms.
 pub(crate) fn repeats_material(materials: u32, terms: &[Term]) -> bool
     requires few { materials ≤ 256 }
     requires known { names_no_material materials terms.now ≡ false }
@@ -89,7 +92,7 @@ pub(crate) fn repeats_material(materials: u32, terms: &[Term]) -> bool
     false
 }
 
-/// A mark for each material that stands among the terms.
+/// A mark for each material that is among the terms.
 fn marks_of(materials: u32, terms: &[Term]) -> [bool; 256]
     requires few { materials ≤ 256 }
     requires known { names_no_material materials terms.now ≡ false }
@@ -102,7 +105,7 @@ fn marks_of(materials: u32, terms: &[Term]) -> [bool; 256]
     marked
 }
 
-/// Whether a material of the outputs stands among the inputs, in one pass over each.
+/// Whether a material of the outputs is among the inputs, in one pass over each.
 pub(crate) fn shares_material(materials: u32, inputs: &[Term], outputs: &[Term]) -> bool
     requires few { materials ≤ 256 }
     requires inputs_known { names_no_material materials inputs.now ≡ false }

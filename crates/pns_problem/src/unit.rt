@@ -1,6 +1,9 @@
 //! Operating units, and the tests by which they are judged.
 ghost use Rattle.std.specs.Prelude.{◌≡◌, ◌≤◌, ◌||◌, false, IfOk, int_lt};
-ghost use Rattle.problem_rules.specs.Validity.{bounds_out_of_range, costs_out_of_range, rates_out_of_range, unit_out_of_range, unit_negative, names_no_material, repeats_material, shares_material, is_empty};
+ghost use Rattle.problem_rules.specs.Validity.{bounds_out_of_range, costs_out_of_range};
+ghost use Rattle.problem_rules.specs.Validity.{rates_out_of_range, unit_out_of_range};
+ghost use Rattle.problem_rules.specs.Validity.{unit_negative, names_no_material, repeats_material};
+ghost use Rattle.problem_rules.specs.Validity.{shares_material, is_empty};
 
 use crate::amount::is_out_of_range;
 use crate::term::{
@@ -10,8 +13,9 @@ use crate::term::{
 use std::alloc::{AllocError, Global};
 use std::marker::Model;
 
-/// An operating unit. Bounds limit its size, costs are a fixed part and a part for each unit of size, once a year or,
-/// for the investment costs, once in the payout period; all are in millionths.
+/// An operating unit. Bounds limit its size. Costs have a fixed part and a part for each unit of
+/// size; they are paid once a year or, for the investment costs, once in the payout period. All are
+/// in millionths.
 #[derive(Drop)]
 pub struct OperatingUnit {
     pub name: String,
@@ -90,14 +94,17 @@ impl OperatingUnit {
     }
 
     pub(crate) fn names_no_material(&self, materials: u32) -> bool
-        ensures { result ≡ (names_no_material materials self.now.inputs || names_no_material materials self.now.outputs) }
+        ensures { result
+            ≡ (names_no_material materials self.now.inputs || names_no_material materials
+            self.now.outputs) }
     {
         names_no_material(materials, &self.inputs) || names_no_material(materials, &self.outputs)
     }
 
     pub(crate) fn repeats_material(&self, materials: u32) -> bool
         requires few { materials ≤ 256 }
-        requires known { (names_no_material materials self.now.inputs || names_no_material materials self.now.outputs) ≡ false }
+        requires known { (names_no_material materials self.now.inputs || names_no_material materials
+            self.now.outputs) ≡ false }
         ensures { result ≡ (repeats_material self.now.inputs || repeats_material self.now.outputs) }
     {
         repeats_material(materials, &self.inputs) || repeats_material(materials, &self.outputs)
@@ -105,7 +112,8 @@ impl OperatingUnit {
 
     pub(crate) fn shares_material(&self, materials: u32) -> bool
         requires few { materials ≤ 256 }
-        requires known { (names_no_material materials self.now.inputs || names_no_material materials self.now.outputs) ≡ false }
+        requires known { (names_no_material materials self.now.inputs || names_no_material materials
+            self.now.outputs) ≡ false }
         ensures { result ≡ shares_material self.now.inputs self.now.outputs }
     {
         shares_material(materials, &self.inputs, &self.outputs)

@@ -1,5 +1,6 @@
--- A problem with five units, as it is read from a file: U1 makes C of A, U2 makes C of B, U3 makes the product P of C, U4
--- makes P of E, which nothing makes, and U5 makes F of B, which nothing uses.
+-- A problem with five units, as it is read from a file: U1 makes C of A, U2 makes C of B, U3 makes
+-- the product P of C, U4 makes P of E, which nothing makes, and U5 makes F of B, which nothing
+-- uses.
 use Rattle.std.proofs.Common.{ℕ, pos, List, [], ◌∷◌, refl}
 use Rattle.problem_rules.specs.Problem.{Problem, Term, raw_material, intermediate, product}
 use Rattle.problem_rules.specs.Validity.{IsValid}
@@ -12,12 +13,55 @@ term_of x = record { material = x; rate = pos 1000000 } ∷ []
 
 abbrev pub example : Problem
 example = record {
-  materials = record { name = 65 ∷ []; kind = raw_material; price = pos 2000000; lower = pos 0; upper = pos 1000000000000000 }
-      ∷ record { name = 66 ∷ []; kind = raw_material; price = pos 3000000; lower = pos 0; upper = pos 1000000000000000 }
-      ∷ record { name = 67 ∷ []; kind = intermediate; price = pos 0; lower = pos 0; upper = pos 1000000000000000 }
-      ∷ record { name = 69 ∷ []; kind = intermediate; price = pos 0; lower = pos 0; upper = pos 1000000000000000 }
-      ∷ record { name = 70 ∷ []; kind = intermediate; price = pos 0; lower = pos 0; upper = pos 1000000000000000 }
-      ∷ record { name = 80 ∷ []; kind = product; price = pos 0; lower = pos 20000000; upper = pos 20000000 }
+  materials =
+      record {
+        name = 65 ∷ [];
+        kind = raw_material;
+        price = pos 2000000;
+        lower = pos 0;
+        upper =
+            pos 1000000000000000;
+      }
+      ∷ record {
+        name = 66 ∷ [];
+        kind = raw_material;
+        price = pos 3000000;
+        lower = pos 0;
+        upper =
+            pos 1000000000000000;
+      }
+      ∷ record {
+        name = 67 ∷ [];
+        kind = intermediate;
+        price = pos 0;
+        lower = pos 0;
+        upper =
+            pos 1000000000000000;
+      }
+      ∷ record {
+        name = 69 ∷ [];
+        kind = intermediate;
+        price = pos 0;
+        lower = pos 0;
+        upper =
+            pos 1000000000000000;
+      }
+      ∷ record {
+        name = 70 ∷ [];
+        kind = intermediate;
+        price = pos 0;
+        lower = pos 0;
+        upper =
+            pos 1000000000000000;
+      }
+      ∷ record {
+        name = 80 ∷ [];
+        kind = product;
+        price = pos 0;
+        lower = pos 20000000;
+        upper =
+            pos 20000000;
+      }
       ∷ [];
   units = record {
     name = 85 ∷ 49 ∷ [];

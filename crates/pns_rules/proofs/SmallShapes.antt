@@ -3,7 +3,8 @@ use Rattle.std.proofs.Common.{◌≡◌, ℕ, pos, Bool, true, false, List, [], 
 use Rattle.std.proofs.lemmas.Bool.{both_ways}
 use Rattle.number_sets.specs.Sets.{has}
 use Rattle.number_sets.proofs.SetLemmas.{has_below}
-use Rattle.problem_rules.specs.Problem.{Problem, Material, Term, OperatingUnit, Kind, raw_material, intermediate, product}
+use Rattle.problem_rules.specs.Problem.{Problem, Material, Term, OperatingUnit, Kind, raw_material}
+use Rattle.problem_rules.specs.Problem.{intermediate, product}
 use Rattle.problem_rules.specs.Validity.{IsValid}
 use Rattle.pns_rules.specs.Shape.{shape_of}
 use Rattle.pns_rules.specs.Structure.{HasPath, IsStructure}
@@ -14,7 +15,15 @@ use Rattle.pns_rules.proofs.StructureList.{structures_of, listing_is}
 
 -- items named by one letter, without costs and with wide bounds
 abbrev material : ℕ → Kind → Material
-material letter kind = record { name = letter ∷ []; kind = kind; price = pos 0; lower = pos 0; upper = pos 1000000000000000 }
+material letter kind =
+    record {
+      name = letter ∷ [];
+      kind = kind;
+      price = pos 0;
+      lower = pos 0;
+      upper =
+          pos 1000000000000000;
+    }
 
 abbrev terms : List ℕ → List Term
 terms [] = []
@@ -34,12 +43,14 @@ unit letter inputs outputs = record {
 }
 
 abbrev problem : List Material → List OperatingUnit → Problem
-problem materials units = record { materials = materials; units = units; exclusions = []; payout = pos 1 }
+problem materials units =
+    record { materials = materials; units = units; exclusions = []; payout = pos 1 }
 
 abbrev none_taken : ℕ → Bool
 none_taken u = false
 
--- ---- a cycle: X => Y, Y => X and Y => P have one structure, all three units, though no raw material feeds it
+-- ---- a cycle: X => Y, Y => X and Y => P have one structure, all three units, though no raw
+-- material feeds it
 
 abbrev cycle : Problem
 cycle =
@@ -53,13 +64,15 @@ cycle_structures : structures_of (shape_of cycle) ≡ ((0 ∷ 1 ∷ 2 ∷ []) �
 cycle_structures = refl
 
 cycle_listing : IsListing (shape_of cycle) None ((0 ∷ 1 ∷ 2 ∷ []) ∷ [])
-cycle_listing = listing_is (shape_of cycle) (proper_if_valid cycle cycle_is_valid) _ cycle_structures (tt, tt)
+cycle_listing =
+    listing_is (shape_of cycle) (proper_if_valid cycle cycle_is_valid) _ cycle_structures (tt, tt)
 
--- ---- a detached cycle: beside A => P the units X => Y and Y => X have no path to a product
+-- ---- a detached cycle: besides A => P there are X => Y and Y => X, without a path to a product
 
 abbrev detached : Problem
 detached =
-    problem (material 65 raw_material ∷ material 80 product ∷ material 88 intermediate ∷ material 89 intermediate ∷ [])
+    problem (material 65 raw_material ∷ material 80 product ∷ material 88 intermediate
+    ∷ material 89 intermediate ∷ [])
     (unit 97 (0 ∷ []) (1 ∷ []) ∷ unit 98 (2 ∷ []) (3 ∷ []) ∷ unit 99 (3 ∷ []) (2 ∷ []) ∷ [])
 
 detached_is_valid : IsValid detached
@@ -72,7 +85,8 @@ detached_structures = refl
 detached_has_no_path : HasPath (shape_of detached) (has (0 ∷ 1 ∷ 2 ∷ [])) 1 → ⊥
 detached_has_no_path p =
     both_ways false refl
-    (path_found (shape_of detached) (has (0 ∷ 1 ∷ 2 ∷ [])) (proper_if_valid detached detached_is_valid)
+    (path_found (shape_of detached) (has (0 ∷ 1 ∷ 2 ∷ []))
+    (proper_if_valid detached detached_is_valid)
     (λ u e. has_below 3 (0 ∷ 1 ∷ 2 ∷ []) u (omega arith, (omega arith, (omega arith, tt))) e) 1 p)
 
 -- ---- a raw by-product: A => P, and A => P + B with B raw
@@ -95,7 +109,8 @@ raw_is_made h = both_ways true ((h.s2 1 refl).1 refl) refl
 -- ---- an input that nothing makes: E => P
 
 abbrev starved : Problem
-starved = problem (material 69 intermediate ∷ material 80 product ∷ []) (unit 97 (0 ∷ []) (1 ∷ []) ∷ [])
+starved =
+    problem (material 69 intermediate ∷ material 80 product ∷ []) (unit 97 (0 ∷ []) (1 ∷ []) ∷ [])
 
 starved_is_valid : IsValid starved
 starved_is_valid = refl
@@ -104,4 +119,5 @@ starved_structures : structures_of (shape_of starved) ≡ []
 starved_structures = refl
 
 starved_listing : IsListing (shape_of starved) None []
-starved_listing = listing_is (shape_of starved) (proper_if_valid starved starved_is_valid) _ starved_structures tt
+starved_listing =
+    listing_is (shape_of starved) (proper_if_valid starved starved_is_valid) _ starved_structures tt

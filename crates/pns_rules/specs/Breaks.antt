@@ -1,4 +1,5 @@
--- Where a unit set breaks an axiom (Friedler, Tarjan, Huang and Fan 1992), the graph being that of the set and its materials.
+-- The places at which a unit set breaks an axiom (Friedler, Tarjan, Huang and Fan 1992). The graph
+-- is that of the set and its materials.
 use Rattle.std.specs.Prelude.{◌≡◌, ℕ, Bool, true, false, ◌↔◌}
 use Rattle.pns_rules.specs.Shape.{Shape}
 use Rattle.pns_rules.specs.Structure.{is_made, mats, HasPath}
@@ -7,7 +8,7 @@ use Rattle.pns_rules.specs.Structure.{is_made, mats, HasPath}
 abbrev pub BreaksS1 : Shape → (ℕ → Bool) → ℕ → Type 0
 BreaksS1 g o x = (g.product x ≡ true) × (mats g o x ≡ false)
 
--- S2: a material of the set of which it is not so that it has no maker if and only if it is raw
+-- S2: a material of the set that is both raw and made in the set, or neither
 abbrev pub BreaksS2 : Shape → (ℕ → Bool) → ℕ → Type 0
 BreaksS2 g o x = (mats g o x ≡ true) × (((is_made g o x ≡ false) ↔ (g.raw x ≡ true)) → ⊥)
 

@@ -1,11 +1,14 @@
--- Which step comes next, and where the extension of a node ends.
-use Rattle.std.specs.Prelude.{◌≡◌, ℕ, ◌<◌, Bool, true, false, not, ◌&&◌, List, [], ◌∷◌, nat_lt, ◌↔◌, ◌⊎◌}
+-- Which step comes next, and how the extension of a node ends.
+use Rattle.std.specs.Prelude.{◌≡◌, ℕ, ◌<◌, Bool, true, false, not, ◌&&◌, List, [], ◌∷◌, nat_lt, ◌↔◌}
+use Rattle.std.specs.Prelude.{◌⊎◌}
 use Rattle.number_sets.specs.Sets.{has, Avoids}
 use Rattle.pns_rules.specs.Shape.{Shape}
 use Rattle.pns_rules.specs.Structure.{is_needed, HasPath, Clashes, IsStructure, IsAllowed}
-use Rattle.pns_rules.specs.Nodes.{Node, Step, raw, rival, starve, loose, sole, IsPossible, after, is_free}
+use Rattle.pns_rules.specs.Nodes.{Node, Step, raw, rival, starve, loose, sole, IsPossible, after}
+use Rattle.pns_rules.specs.Nodes.{is_free}
 
--- I and E are disjoint, no unit of I makes a raw material, and each has a path to a product through units of I
+-- the units of I are known and not in E, none makes a raw material, and each has a path to a
+-- product through units of I
 pub record IsSound (g : Shape) (n : Node) : Type 0 where
   pub known : (u : ℕ) → n.inside u ≡ true → u < g.units
   pub apart : Avoids n.inside n.outside
@@ -21,7 +24,7 @@ pub record IsDead (g : Shape) (n : Node) (x : ℕ) : Type 0 where
 abbrev pub remaining : Shape → Node → ℕ → Bool
 remaining g n u = nat_lt u g.units && not (n.outside u)
 
--- outside E without a path to a product through units outside E
+-- a unit outside E without a path to a product through units outside E
 pub record IsPathless (g : Shape) (n : Node) (u : ℕ) : Type 0 where
   pub remains : remaining g n u ≡ true
   pub no_path : HasPath g (remaining g n) u → ⊥
@@ -31,7 +34,7 @@ pub record IsUndecided (g : Shape) (n : Node) (x : ℕ) : Type 0 where
   pub needed : is_needed g n.inside x ≡ true
   pub some : (u : ℕ) × (u < g.units) × (g.makes u x ≡ true) × (is_free g n u ≡ true)
 
--- the least number of which P holds, and none
+-- x is the least number for which P holds; P holds for no number
 abbrev pub IsFirst : (ℕ → Type 0) → ℕ → Type 0
 IsFirst P x = P x × ((y : ℕ) → y < x → P y → ⊥)
 
@@ -56,9 +59,10 @@ number_of (sole x u) = x
 
 -- the step s comes before t
 abbrev pub IsEarlier : Step → Step → Type 0
-IsEarlier s t = (kind_order s < kind_order t) ⊎ ((kind_order s ≡ kind_order t) × (number_of s < number_of t))
+IsEarlier s t = (kind_order s < kind_order t)
+    ⊎ ((kind_order s ≡ kind_order t) × (number_of s < number_of t))
 
--- a set of `loose` is that of all units that it can have
+-- the set of a `loose` step has all units that it can have
 abbrev pub IsWhole : Shape → Node → Step → Type 0
 IsWhole g n (raw u) = Unit {0}
 IsWhole g n (rival u) = Unit {0}
@@ -71,19 +75,19 @@ pub record IsLive (g : Shape) (n : Node) : Type 0 where
   pub no_dead : IsNever (IsDead g n)
   pub no_clash : IsNever (Clashes g n.inside)
 
--- the step that comes at the node
+-- s is the next step at n: n is live, and s with its whole set is the first of the possible steps
 pub record IsNextStep (g : Shape) (n : Node) (s : Step) : Type 0 where
   pub live : IsLive g n
   pub possible : IsPossible g n s
   pub whole : IsWhole g n s
   pub first : (t : Step) → IsPossible g n t → IsEarlier t s → ⊥
 
--- the steps, each next in turn, lead from the one node to the other
+-- the steps lead from n to m, each being the next step at its node
 abbrev pub Leads : Shape → Node → List Step → Node → Type 0
 Leads g n [] m = n ≡ m
 Leads g n (s ∷ ss) m = IsNextStep g n s × Leads g (after g n s) ss m
 
--- a node that no step changes any more, and which has a family as far as the rules can tell
+-- a live node at which no step is possible
 pub record IsReduced (g : Shape) (n : Node) : Type 0 where
   pub live : IsLive g n
   pub no_step : (s : Step) → IsPossible g n s → ⊥
@@ -101,7 +105,7 @@ pub record IsDecided (g : Shape) (n : Node) : Type 0 where
   pub allowed : IsAllowed g n.inside
   pub none_free : (u : ℕ) → u < g.units → is_free g n u ≡ false
 
--- what an end says of the node
+-- what each end of the extension says of the node
 abbrev pub EndsAt : Shape → Node → Stop → Type 0
 EndsAt g n decided = IsDecided g n
 EndsAt g n (dead x) = IsFirst (IsDead g n) x

@@ -1,5 +1,5 @@
--- Nodes of the search, the five steps that lose no structure, and the options of a material (neutral extension and decision
--- of Friedler, Tarjan, Huang and Fan 1996).
+-- Nodes of the search, the five steps that lose no structure, and the options of a material. These
+-- are the neutral extension and the decision of Friedler, Tarjan, Huang and Fan 1996.
 use Rattle.std.specs.Prelude.{◌≡◌, ℕ, ◌<◌, Bool, true, false, not, ◌&&◌, ◌||◌, ◌==◌, List}
 use Rattle.number_sets.specs.Sets.{has, listed, IsWithin, IsRising}
 use Rattle.number_sets.specs.Options.{all_options}
@@ -24,8 +24,11 @@ is_free g n u = not (n.inside u) && not (n.outside u)
 
 -- the condition of each step
 abbrev pub IsPossible : Shape → Node → Step → Type 0
-IsPossible g n (raw u) = (u < g.units) × (is_free g n u ≡ true) × ((x : ℕ) × (g.makes u x ≡ true) × (g.raw x ≡ true))
-IsPossible g n (rival u) = (u < g.units) × (is_free g n u ≡ true) × ((k v : ℕ) × (k < g.exclusions) × (n.inside v ≡ true) × (g.excludes k u ≡ true) × (g.excludes k v ≡ true))
+IsPossible g n (raw u) = (u < g.units) × (is_free g n u ≡ true)
+    × ((x : ℕ) × (g.makes u x ≡ true) × (g.raw x ≡ true))
+IsPossible g n (rival u) = (u < g.units) × (is_free g n u ≡ true)
+    × ((k v : ℕ) × (k < g.exclusions) × (n.inside v ≡ true) × (g.excludes k u ≡ true)
+    × (g.excludes k v ≡ true))
 IsPossible g n (starve x) =
     (g.raw x ≡ false)
     × ((u : ℕ) → u < g.units → g.makes u x ≡ true → n.outside u ≡ true)
@@ -35,7 +38,8 @@ IsPossible g n (loose w) =
     ((u : ℕ) × (has w u ≡ true))
     × ((u : ℕ) → has w u ≡ true → (u < g.units) × (is_free g n u ≡ true))
     × ((u x : ℕ) → has w u ≡ true → g.makes u x ≡ true
-    → (g.product x ≡ false) × ((v : ℕ) → v < g.units → n.outside v ≡ false → has w v ≡ false → g.uses v x ≡ false))
+    → (g.product x ≡ false)
+    × ((v : ℕ) → v < g.units → n.outside v ≡ false → has w v ≡ false → g.uses v x ≡ false))
 IsPossible g n (sole x u) =
     (is_needed g n.inside x ≡ true)
     × (u < g.units) × (g.makes u x ≡ true) × (n.outside u ≡ false) × (n.inside u ≡ false)
@@ -71,5 +75,6 @@ child g n x t = record {
 pub record IsOption (g : Shape) (n : Node) (x : ℕ) (t : List ℕ) : Type 0 where
   pub rising : IsRising t
   pub has_base : IsWithin (makers g n.inside x) (has t)
-  pub made_by : (u : ℕ) → has t u ≡ true → (u < g.units) × (g.makes u x ≡ true) × (n.outside u ≡ false)
+  pub made_by : (u : ℕ) → has t u ≡ true → (u < g.units) × (g.makes u x ≡ true)
+      × (n.outside u ≡ false)
   pub some : (u : ℕ) × (has t u ≡ true)

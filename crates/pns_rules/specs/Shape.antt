@@ -1,9 +1,10 @@
--- What the axioms read of a problem, as tests: how many materials, operating units and exclusions there are, which
--- materials are raw and which are products, what each unit uses and makes, and which exclusion names which unit.
--- It is the P-graph of the problem, less its rates.
+-- What the axioms read of a problem, as numbers and tests: how many materials, operating units and
+-- exclusions there are; which materials are raw, and which are products; what each unit uses and
+-- makes; which exclusion names which unit. It is the P-graph of the problem without its rates.
 use Rattle.std.specs.Prelude.{◌≡◌, ◌<◌, ℕ, Bool, true, length}
 use Rattle.number_sets.specs.Sets.{has}
-use Rattle.problem_rules.specs.Problem.{Problem, material_at, unit_at, exclusion_at, is_raw_material, is_product, terms_have}
+use Rattle.problem_rules.specs.Problem.{Problem, material_at, unit_at, exclusion_at}
+use Rattle.problem_rules.specs.Problem.{is_raw_material, is_product, terms_have}
 
 pub record Shape : Type 0 where
   pub materials : ℕ
@@ -27,8 +28,8 @@ shape_of p = record {
   excludes = λ k u. has (exclusion_at p k).units u;
 }
 
--- what holds of the shape of each valid problem: products, inputs, outputs and excluded units are known, no raw material
--- is a product, and no unit uses what it makes
+-- what holds of the shape of each valid problem: products, inputs, outputs and excluded units are
+-- known, no raw material is a product, and no unit uses what it makes
 pub record IsProper (g : Shape) : Type 0 where
   pub product_known : (x : ℕ) → g.product x ≡ true → x < g.materials
   pub input_known : (u x : ℕ) → g.uses u x ≡ true → x < g.materials

@@ -1,5 +1,5 @@
--- Graphs of materials and units, the five axioms, the solution structures and their union (Friedler, Tarjan, Huang and
--- Fan 1992: the axioms; 1993: the maximal structure).
+-- Graphs of materials and units, the five axioms, the solution structures and their union
+-- (Friedler, Tarjan, Huang and Fan 1992: the axioms; 1993: the maximal structure).
 use Rattle.std.specs.Prelude.{◌≡◌, ℕ, ◌<◌, Bool, true, false, not, ◌&&◌, ◌||◌, List, [], ◌∷◌, ◌↔◌}
 use Rattle.number_sets.specs.Sets.{any_below, IsWithin, Avoids}
 use Rattle.pns_rules.specs.Shape.{Shape}
@@ -20,22 +20,24 @@ mats g o x = is_used g o x || is_made g o x
 abbrev pub makers : Shape → (ℕ → Bool) → ℕ → ℕ → Bool
 makers g o x u = o u && g.makes u x
 
--- A path to a product: the unit u, a material, a unit, a material and so on. Each unit is in o, each material is an
--- output of the unit before it and an input of the unit after it, and the last material is a product.
+-- A path to a product: the unit u, a material, a unit, a material and so on. Each unit is in o,
+-- each material is an output of the unit before it and an input of the unit after it, and the last
+-- material is a product.
 abbrev pub IsPath : Shape → (ℕ → Bool) → ℕ → List ℕ → Type 0
 IsPath g o u [] = ⊥
 IsPath g o u (x ∷ []) = (o u ≡ true) × (g.makes u x ≡ true) × (g.product x ≡ true)
-IsPath g o u (x ∷ v ∷ rest) = (o u ≡ true) × (g.makes u x ≡ true) × (g.uses v x ≡ true) × IsPath g o v rest
+IsPath g o u (x ∷ v ∷ rest) = (o u ≡ true) × (g.makes u x ≡ true) × (g.uses v x ≡ true)
+    × IsPath g o v rest
 
 -- there is such a path
 pub record HasPath (g : Shape) (o : ℕ → Bool) (u : ℕ) : Type 0 where
   pub path : List ℕ
   pub leads : IsPath g o u path
 
--- The graph (m, o) of materials m and units o, which has the materials of its units, meets the axioms:
--- S1, each product is in m; S2, a material of m has no maker in o if and only if it is a raw material; S3, each unit of
--- o is a unit of the problem; S4, each unit of o has a path to a product; S5, each material of m is an input or an output
--- of some unit of o.
+-- The graph (m, o) of materials m and units o has the materials of its units and meets the axioms.
+-- S1: each product is in m. S2: a material of m has no maker in o if and only if it is raw. S3:
+-- each unit of o is a unit of the problem. S4: each unit of o has a path to a product. S5: each
+-- material of m is an input or an output of some unit of o.
 pub record Meets (g : Shape) (m o : ℕ → Bool) : Type 0 where
   pub graph : IsWithin (mats g o) m
   pub s1 : IsWithin g.product m
@@ -48,7 +50,7 @@ pub record Meets (g : Shape) (m o : ℕ → Bool) : Type 0 where
 abbrev pub IsStructure : Shape → (ℕ → Bool) → Type 0
 IsStructure g o = Meets g (mats g o) o
 
--- a solution structure, allowed or not, that contains `inside` and avoids `outside`
+-- a solution structure, clash-free or not, that contains `inside` and avoids `outside`
 pub record IsBetween (g : Shape) (inside outside o : ℕ → Bool) : Type 0 where
   pub meets : IsStructure g o
   pub contains : IsWithin inside o
@@ -63,20 +65,24 @@ pub record Clashes (g : Shape) (o : ℕ → Bool) (k : ℕ) : Type 0 where
   pub has_one : (o one ≡ true) × (g.excludes k one ≡ true)
   pub has_other : (o other ≡ true) × (g.excludes k other ≡ true)
 
--- a set of units is allowed where no exclusion has two of them
+-- a set of units is clash-free if no exclusion has two of them
 abbrev pub IsAllowed : Shape → (ℕ → Bool) → Type 0
 IsAllowed g o = (k : ℕ) → Clashes g o k → ⊥
 
--- the family of a node: the allowed solution structures that contain `inside` and avoid `outside`
+-- the family of a node: the clash-free solution structures that contain `inside` and avoid
+-- `outside`
 pub record InFamily (g : Shape) (inside outside o : ℕ → Bool) : Type 0 where
   pub between : IsBetween g inside outside o
   pub allowed : IsAllowed g o
 
--- The unit set s is the union of all solution structures that avoid `without`: a unit is in s, and a material is a
--- material of s, exactly where some graph that meets the axioms and avoids `without` has it.
+-- The unit set s is the union of all solution structures that avoid `without`. A unit is in s
+-- exactly if it is in some graph that meets the axioms and avoids `without`. So is a material a
+-- material of s exactly if it is in such a graph.
 pub record IsUnion (g : Shape) (without s : ℕ → Bool) : Type 0 where
-  pub unit_in : (u : ℕ) → (s u ≡ true) ↔ ((m o : ℕ → Bool) × Meets g m o × Avoids o without × (o u ≡ true))
-  pub material_in : (x : ℕ) → (mats g s x ≡ true) ↔ ((m o : ℕ → Bool) × Meets g m o × Avoids o without × (m x ≡ true))
+  pub unit_in : (u : ℕ) → (s u ≡ true)
+      ↔ ((m o : ℕ → Bool) × Meets g m o × Avoids o without × (o u ≡ true))
+  pub material_in : (x : ℕ) → (mats g s x ≡ true)
+      ↔ ((m o : ℕ → Bool) × Meets g m o × Avoids o without × (m x ≡ true))
 
 -- what o needs: the products, and the inputs of its units that are not raw
 abbrev pub is_needed : Shape → (ℕ → Bool) → ℕ → Bool

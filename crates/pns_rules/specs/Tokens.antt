@@ -1,5 +1,7 @@
--- The token of a set of units: its number, in which unit u counts 2 ^ u, as 32 hexadecimal digits of 0123456789abcdef.
-use Rattle.std.specs.Prelude.{◌≡◌, ℕ, zero, suc, ◌+◌, ◌/◌, ◌%◌, ◌<◌, nat_lt, cond, List, [], ◌∷◌, ◌++◌, length}
+-- The token of a set of units: its number, in which unit u counts 2 ^ u, as 32 hexadecimal digits
+-- of 0123456789abcdef.
+use Rattle.std.specs.Prelude.{◌≡◌, ℕ, zero, suc, ◌+◌, ◌/◌, ◌%◌, ◌<◌, nat_lt, cond, List, [], ◌∷◌}
+use Rattle.std.specs.Prelude.{◌++◌, length}
 use Rattle.number_sets.specs.Sets.{mask_of}
 
 -- the byte of a digit below 16

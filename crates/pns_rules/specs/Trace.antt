@@ -1,5 +1,7 @@
--- Traces, which make the decision mapping of solution structure generation a function of the structure, and their order.
-use Rattle.std.specs.Prelude.{◌≡◌, ℕ, zero, suc, ◌<◌, Bool, false, not, ◌&&◌, ◌||◌, cond, ◌==◌, List, [], ◌∷◌, ◌⊎◌, Option, Some, None}
+-- Traces and their order. A trace makes the decision mapping of solution structure generation a
+-- function of the structure.
+use Rattle.std.specs.Prelude.{◌≡◌, ℕ, zero, suc, ◌<◌, Bool, false, not, ◌&&◌, ◌||◌, cond, ◌==◌}
+use Rattle.std.specs.Prelude.{List, [], ◌∷◌, ◌⊎◌, Option, Some, None}
 use Rattle.number_sets.specs.Sets.{has, listed, mask_of}
 use Rattle.pns_rules.specs.Shape.{Shape}
 use Rattle.pns_rules.specs.Structure.{is_needed, makers}
@@ -19,7 +21,7 @@ abbrev pub units_of : List Pair → ℕ → Bool
 units_of [] u = false
 units_of (p ∷ ps) u = has p.chosen u || units_of ps u
 
--- the first, or where there is none the second
+-- the first if there is one, else the second
 abbrev pub or_later : Option ℕ → Option ℕ → Option ℕ
 or_later (Some x) later = Some x
 or_later None later = later
@@ -31,25 +33,30 @@ least_below (suc n) test = or_later (least_below n test) (cond (test n) (Some n)
 
 -- the least needed material of the units in the pairs that is in no pair
 abbrev pub next_material : Shape → List Pair → Option ℕ
-next_material g done = least_below g.materials (λ x. is_needed g (units_of done) x && not (is_done done x))
+next_material g done =
+    least_below g.materials (λ x. is_needed g (units_of done) x && not (is_done done x))
 
--- the list continues `done` by that rule, to its end
+-- The list continues `done`: each pair has the next material and its makers in s, and after the
+-- last no material is next.
 abbrev pub Continues : Shape → (ℕ → Bool) → List Pair → List Pair → Type 0
 Continues g s done [] = next_material g done ≡ None
 Continues g s done (p ∷ ps) =
-    (next_material g done ≡ Some p.material) × (p.chosen ≡ listed g.units (makers g s p.material)) × Continues g s (p ∷ done) ps
+    (next_material g done ≡ Some p.material) × (p.chosen ≡ listed g.units (makers g s p.material))
+    × Continues g s (p ∷ done) ps
 
 -- the trace of s
 abbrev pub IsTrace : Shape → (ℕ → Bool) → List Pair → Type 0
 IsTrace g s t = Continues g s [] t
 
--- at the first place at which they differ the material is the same, and the number of the first's makers is the less
+-- At the first pair in which the traces differ, the material is the same, and the number of the
+-- makers is smaller in the first trace.
 abbrev pub IsLess : List Pair → List Pair → Type 0
 IsLess [] ts = ⊥
 IsLess (p ∷ ps) [] = ⊥
-IsLess (p ∷ ps) (q ∷ qs) = (p.material ≡ q.material) × ((mask_of p.chosen < mask_of q.chosen) ⊎ ((p.chosen ≡ q.chosen) × IsLess ps qs))
+IsLess (p ∷ ps) (q ∷ qs) = (p.material ≡ q.material)
+    × ((mask_of p.chosen < mask_of q.chosen) ⊎ ((p.chosen ≡ q.chosen) × IsLess ps qs))
 
--- s stands before t
+-- s comes before t
 pub record IsBefore (g : Shape) (s t : ℕ → Bool) : Type 0 where
   pub trace_of_s : List Pair
   pub trace_of_t : List Pair
@@ -59,7 +66,7 @@ pub record IsBefore (g : Shape) (s t : ℕ → Bool) : Type 0 where
 
 -- ---- traces that begin with the pairs of a list, the last pair first
 
--- the pairs of the trace put before those that are done
+-- the pairs of the trace, in reverse, in front of those that are done
 abbrev pub onto : List Pair → List Pair → List Pair
 onto [] done = done
 onto (p ∷ ps) done = onto ps (p ∷ done)

@@ -1,4 +1,5 @@
--- The verdict on a unit set: it meets the axioms, or the first that it breaks and the least place where it does.
+-- The verdict on a unit set: it meets the axioms, or it breaks one. Then the first such axiom is
+-- named, with the least place at which it breaks.
 use Rattle.std.specs.Prelude.{ℕ, Bool}
 use Rattle.pns_rules.specs.Shape.{Shape}
 use Rattle.pns_rules.specs.Structure.{IsStructure}
@@ -9,7 +10,7 @@ use Rattle.pns_rules.specs.declared.verdict.Axiom.TheVariants.{S1, S2, S3, S4, S
 use Rattle.pns_rules.specs.declared.verdict.Verdict.{Verdict}
 use Rattle.pns_rules.specs.declared.verdict.Verdict.TheVariants.{Meets, Breaks}
 
--- S3 and S5 hold of every set of units of the problem
+-- S3 and S5 hold for every set of units of the problem
 abbrev pub BreaksFirst : Shape → (ℕ → Bool) → Axiom → ℕ → Type 0
 BreaksFirst g o S1 x = IsFirst (BreaksS1 g o) x
 BreaksFirst g o S2 x = IsNever (BreaksS1 g o) × IsFirst (BreaksS2 g o) x

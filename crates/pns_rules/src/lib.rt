@@ -1,9 +1,13 @@
-//! What a P-graph, its axioms, a solution structure, a trace, the listing, a node, a step and an option are, and the laws
-//! that tie them.
+//! P-graphs, structures and nodes: structures unite, steps keep families, children split them.
 //!
-//! The definitions stand in `specs/`, over the tests of a `Shape`, the graph of a problem less its rates. `Breaks` and `Verdict` say
-//! where a set of units breaks an axiom, and `Tokens` what stands for such a set in words and files. Each law is the contract of a
-//! function without a body, which a proof elsewhere calls to have it.
+//! The definitions are in `specs/`. They read a `Shape`, which is the graph of a problem without
+//! its rates. `Shape` and `Structure` have the axioms, `Trace` and `Listing` the order of
+//! structures, `Nodes` and `Ends` the steps and the options of a node. `Breaks` and `Verdict` say
+//! at which place a set of units breaks an axiom. `Tokens` says how words and files write such a
+//! set.
+//!
+//! Each law is the contract of a function without a body. A proof elsewhere calls the function to
+//! use the law.
 #![tactic(auto)]
 
 mod families;

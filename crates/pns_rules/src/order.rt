@@ -1,4 +1,5 @@
-ghost use Rattle.pns_rules.specs.Laws.{OrderIsStrict, OrderIsTransitive, OrderIsTotal, TracesBranch};
+ghost use Rattle.pns_rules.specs.Laws.{OrderIsStrict, OrderIsTransitive, OrderIsTotal};
+ghost use Rattle.pns_rules.specs.Laws.{TracesBranch};
 
 /// The order of solution structures by their traces is strict, transitive and total.
 pub fn order_is_total()
@@ -7,7 +8,8 @@ pub fn order_is_total()
     ensures total { OrderIsTotal }
 {}
 
-/// The greatest maker in which two sets differ at the first material at which they differ puts the one without it first.
+/// Take the first material at which the traces of two sets differ, and the greatest maker of it
+/// that only one set has. The set without that maker comes first.
 pub fn traces_branch()
     ensures { TracesBranch }
 {}

@@ -39,8 +39,11 @@ fn with_unit(made: i128, rate: i64, size: i128) -> i128
 /// are in range if they were when its flows were judged.
 pub fn flow_of(problem: &Problem, network: &Network, j: u32) -> i128
     requires known { (u : ℕ) → has network.now.units u ≡ true → u < length problem.now.units }
-    requires steps { AreInRange (balance_steps (net_of problem.now) (size_in network.now) j (units_at (net_of problem.now) (has network.now.units) j) (pos 0)) }
-    ensures value { result ≡ balance (net_of problem.now) (has network.now.units) (size_in network.now) j }
+    requires steps { AreInRange
+        (balance_steps (net_of problem.now) (size_in network.now) j
+        (units_at (net_of problem.now) (has network.now.units) j) (pos 0)) }
+    ensures value { result ≡ balance (net_of problem.now) (has network.now.units)
+        (size_in network.now) j }
     ensures in_range { InRange result }
 {
     let mut made = 0;

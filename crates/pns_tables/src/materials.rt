@@ -53,9 +53,12 @@ fn push_material(
 ) -> Result<(), AllocError>
     requires known { (u : ℕ) → has network.now.units u ≡ true → u < length problem.now.units }
     requires material { j < length problem.now.materials }
-    requires steps { AreInRange (balance_steps (net_of problem.now) (size_in network.now) j (units_at (net_of problem.now) (has network.now.units) j) (pos 0)) }
+    requires steps { AreInRange
+        (balance_steps (net_of problem.now) (size_in network.now) j
+        (units_at (net_of problem.now) (has network.now.units) j) (pos 0)) }
     ensures { (bytes : List ℕ) → HasWritten (λ v. Some v.items) writer.old bytes
-        → OnOk result ((row : List (List ℕ)) × IsMaterialRow problem.now network.now j row × HasWritten (λ v. Some v.items) writer.new (bytes ++ row_text default_writer row)) }
+        → OnOk result ((row : List (List ℕ)) × IsMaterialRow problem.now network.now j row
+        × HasWritten (λ v. Some v.items) writer.new (bytes ++ row_text default_writer row)) }
 {
     let material = &problem.materials()[j as usize];
     let kind = kind_word(material.kind);
@@ -77,7 +80,9 @@ pub fn material_table(
     network: &Network,
 ) -> Result<Vec<u8>, AllocError>
     requires known { AreUnits site.now network.now.units }
-    requires steps { AreInRange (feasible_steps (net_of site.now) (has network.now.units) (size_in network.now) network.now.d) }
+    requires steps { AreInRange
+        (feasible_steps (net_of site.now) (has network.now.units) (size_in network.now)
+        network.now.d) }
     ensures { IfOk result (λ bytes. IsMaterialTable site.now network.now bytes.items) }
 {
     let mut writer = headed(alloc, b"material", b"kind", b"flow_e12")?;

@@ -13,7 +13,10 @@ pub(crate) fn push_row<'a>(
     second: &'a [u8],
     third: &'a [u8],
 ) -> Result<(), AllocError>
-    ensures { (bytes : List ℕ) → HasWritten (λ v. Some v.items) writer.old bytes → OnOk result (HasWritten (λ v. Some v.items) writer.new (bytes ++ row_text default_writer (first.now ∷ second.now ∷ third.now ∷ []))) }
+    ensures { (bytes : List ℕ) → HasWritten (λ v. Some v.items) writer.old bytes
+        → OnOk result
+        (HasWritten (λ v. Some v.items) writer.new
+        (bytes ++ row_text default_writer (first.now ∷ second.now ∷ third.now ∷ []))) }
 {
     match writer.write_fields(&[first, second, third]) {
         Ok(()) => Ok(()),
@@ -28,7 +31,9 @@ pub(crate) fn headed<'a>(
     second: &'a [u8],
     third: &'a [u8],
 ) -> Result<Writer<Vec<u8>>, AllocError>
-    ensures { IfOk result (λ writer. HasWritten (λ v. Some v.items) writer (row_text default_writer (first.now ∷ second.now ∷ third.now ∷ []))) }
+    ensures { IfOk result
+        (λ writer. HasWritten (λ v. Some v.items) writer
+        (row_text default_writer (first.now ∷ second.now ∷ third.now ∷ []))) }
 {
     let mut writer = Writer::from_writer(Vec::new(alloc));
     push_row(&mut writer, first, second, third)?;
@@ -37,7 +42,8 @@ pub(crate) fn headed<'a>(
 
 /// What was written.
 pub(crate) fn written(writer: Writer<Vec<u8>>) -> Result<Vec<u8>, AllocError>
-    ensures { (bytes : List ℕ) → HasWritten (λ v. Some v.items) writer bytes → IfOk result (λ v. v.items ≡ bytes) }
+    ensures { (bytes : List ℕ) → HasWritten (λ v. Some v.items) writer bytes
+        → IfOk result (λ v. v.items ≡ bytes) }
 {
     match writer.into_inner() {
         Ok(bytes) => Ok(bytes),

@@ -1,5 +1,6 @@
 //! The table of a network's units.
-ghost use Rattle.std.specs.Prelude.{◌≡◌, ◌<◌, ◌++◌, ℕ, List, Some, IfOk, OnOk, length, string_bytes};
+ghost use Rattle.std.specs.Prelude.{◌≡◌, ◌<◌, ◌++◌, ℕ, List, Some, IfOk, OnOk, length};
+ghost use Rattle.std.specs.Prelude.{string_bytes};
 ghost use Rattle.csv.specs.Writing.{default_writer, row_text};
 ghost use Rattle.tree_rules.specs.Known.{AreUnits};
 ghost use Rattle.report_rules.specs.Table.{IsUnitRow, IsUnitTable};
@@ -22,7 +23,8 @@ fn push_unit(
 ) -> Result<(), AllocError>
     requires { u < length problem.now.units }
     ensures { (bytes : List ℕ) → HasWritten (λ v. Some v.items) writer.old bytes
-        → OnOk result ((row : List (List ℕ)) × IsUnitRow problem.now network.now u row × HasWritten (λ v. Some v.items) writer.new (bytes ++ row_text default_writer row)) }
+        → OnOk result ((row : List (List ℕ)) × IsUnitRow problem.now network.now u row
+        × HasWritten (λ v. Some v.items) writer.new (bytes ++ row_text default_writer row)) }
 {
     let unit = &problem.units()[u as usize];
     let size = quotient(alloc, size_at(network, u), network)?;

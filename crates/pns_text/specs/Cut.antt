@@ -1,9 +1,10 @@
--- Lines that a walk keeps, each cut once: what was cut of a line is what the grammar takes it apart into.
+-- Lines that a walk keeps, each split once: the parts of a line are those that the grammar gives.
 use Rattle.std.specs.Prelude.{◌≡◌, ℕ, true, false, List, Option, Some, None, Result, Ok, Err}
 use Rattle.problem_rules.specs.Names.{is_name, has_double}
 use Rattle.text_rules.specs.declared.TextKind.{TextKind}
 use Rattle.text_rules.specs.declared.Section.{Section}
-use Rattle.text_rules.specs.declared.Section.TheVariants.{Defaults, Materials, OperatingUnits, Rates, Exclusions}
+use Rattle.text_rules.specs.declared.Section.TheVariants.{Defaults, Materials, OperatingUnits}
+use Rattle.text_rules.specs.declared.Section.TheVariants.{Rates, Exclusions}
 use Rattle.text_rules.specs.Line.{Placed, head_of, matters}
 use Rattle.text_rules.specs.Field.{items_of}
 use Rattle.text_rules.specs.Term.{pairs_at}
@@ -13,7 +14,8 @@ use Rattle.text_lines.specs.Terms.{sides_view}
 use Rattle.text_lines.specs.declared.fault.TextFault.{TextFault}
 use Rattle.pns_text.specs.Fault.{TellsKind}
 use Rattle.pns_text.specs.declared.cut.Cut.{Cut}
-use Rattle.pns_text.specs.declared.cut.Cut.TheVariants.{Default, Material, OperatingUnit, Flows, Exclusion}
+use Rattle.pns_text.specs.declared.cut.Cut.TheVariants.{Default, Material, OperatingUnit, Flows}
+use Rattle.pns_text.specs.declared.cut.Cut.TheVariants.{Exclusion}
 
 abbrev pub section_of : Cut → Section
 section_of Default = Defaults
@@ -22,13 +24,14 @@ section_of (OperatingUnit items) = OperatingUnits
 section_of (Flows sides) = Rates
 section_of (Exclusion members) = Exclusions
 
--- what was cut of the text; no member of an exclusion comes twice
+-- the parts are those of the text; no member of an exclusion is there twice
 abbrev pub IsCutOf : List ℕ → Cut → Type 0
 IsCutOf text Default = Unit {0}
 IsCutOf text (Material items) = items.items ≡ items_of text
 IsCutOf text (OperatingUnit items) = items.items ≡ items_of text
 IsCutOf text (Flows sides) = sides_view sides ≡ pairs_at text
-IsCutOf text (Exclusion members) = (texts members.items ≡ items_of text) × (has_double (items_of text) ≡ false)
+IsCutOf text (Exclusion members) = (texts members.items ≡ items_of text)
+    × (has_double (items_of text) ≡ false)
 
 -- all but a default begin with a name
 abbrev pub IsNamed : List ℕ → Cut → Type 0
@@ -42,9 +45,10 @@ pub record IsKept (text : List ℕ) (name : List ℕ) (cut : Cut) : Type 0 where
 
 -- the line of this number and text
 abbrev pub line_cut : ℕ → List ℕ → Cut → Placed
-line_cut number text cut = record { number = number; section = section_of cut; header = false; text = text }
+line_cut number text cut =
+    record { number = number; section = section_of cut; header = false; text = text }
 
--- what is kept of a line: it was cut where it matters
+-- the parts of a line that matters
 pub record IsCutAt (line : Placed) (cut : Cut) : Type 0 where
   pub section : section_of cut ≡ line.section
   pub header : line.header ≡ false
@@ -55,13 +59,13 @@ abbrev pub Keeps : Placed → Option Cut → Type 0
 Keeps line None = matters line ≡ false
 Keeps line (Some cut) = IsCutAt line cut
 
--- a line was taken that has no fault, and what was cut of it
+-- a line without a fault was taken, and its parts
 pub record IsTaken (old : Seen) (line : Placed) (new : Seen) (cut : Option Cut) : Type 0 where
   pub none : line_fault old line ≡ None
   pub seen : new ≡ seen_after old line
   pub kept : Keeps line cut
 
--- or it is told why not
+-- or the reason why not is reported
 abbrev pub Takes : Seen → Placed → Seen → Result (Option Cut) (TextFault TextKind) → Type 0
 Takes old line new (Ok cut) = IsTaken old line new cut
 Takes old line new (Err fault) = TellsKind line.number (line_fault old line) fault

@@ -1,4 +1,4 @@
--- Items of a line, each cut once.
+-- Items of a line, each split once.
 use Rattle.std.specs.Prelude.{◌≡◌, ℕ, ℤ, Bool, List, Result}
 use Rattle.problem_rules.specs.Names.{is_among}
 use Rattle.text_rules.specs.declared.TextKind.{TextKind}
@@ -6,8 +6,9 @@ use Rattle.text_rules.specs.Amount.{amount_of}
 use Rattle.text_rules.specs.Field.{has_key, key_of, kind_words}
 use Rattle.text_rules.specs.Fault.{field_value}
 
--- an item cut at its first equals sign, with the number that its value spells
-pub record IsCut (text : List ℕ) (has : Bool) (is_word : Bool) (front : List ℕ) (behind : List ℕ) (number : Result ℤ TextKind) : Type 0 where
+-- an item split at its first equals sign, with the number that its value spells
+pub record IsCut (text : List ℕ) (has : Bool) (is_word : Bool) (front : List ℕ) (behind : List ℕ)
+    (number : Result ℤ TextKind) : Type 0 where
   pub has_key : has ≡ has_key text
   pub kind_word : is_word ≡ is_among kind_words text
   pub key : front ≡ key_of text

@@ -8,7 +8,8 @@ use Rattle.pns_text.specs.declared.seen.Seen.{Seen}
 use Rattle.pns_text.specs.declared.walk.Walk.{Walk}
 
 abbrev pub placed_view : Placed → line.Placed
-placed_view p = record { number = p.number; section = p.section; header = p.header; text = p.text.now }
+placed_view p =
+    record { number = p.number; section = p.section; header = p.header; text = p.text.now }
 
 abbrev pub seen_view : Seen → fault.Seen
 seen_view s = record {

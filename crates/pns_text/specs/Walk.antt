@@ -1,9 +1,13 @@
--- The reading of a text that goes on: what was seen and kept of the lines so far, and the lines that are to come.
-use Rattle.std.specs.Prelude.{◌≡◌, ◌≤◌, ◌+◌, ◌++◌, ℕ, List, [], ◌∷◌, length, filter, None, Result, if◌then◌else◌}
+-- The reading of a text that continues: what was seen and kept of the lines so far, and the lines
+-- that remain.
+use Rattle.std.specs.Prelude.{◌≡◌, ◌≤◌, ◌+◌, ◌++◌, ℕ, List, [], ◌∷◌, length, filter, None, Result}
+use Rattle.std.specs.Prelude.{if◌then◌else◌}
 use Rattle.problem_rules.specs.Problem.{Problem}
 use Rattle.text_rules.specs.declared.Section.{Section}
-use Rattle.text_rules.specs.declared.Section.TheVariants.{Preamble, Materials, OperatingUnits, Rates}
-use Rattle.text_rules.specs.Line.{Placed, section_after, is_header, placed_from, standing, matters, heads_at}
+use Rattle.text_rules.specs.declared.Section.TheVariants.{Preamble, Materials, OperatingUnits}
+use Rattle.text_rules.specs.declared.Section.TheVariants.{Rates}
+use Rattle.text_rules.specs.Line.{Placed, section_after, is_header, placed_from, standing, matters}
+use Rattle.text_rules.specs.Line.{heads_at}
 use Rattle.text_rules.specs.Fault.{Fault, Seen, seen_none, seen_after, line_fault, first_fault}
 use Rattle.text_rules.specs.Value.{meaning_at, or_first}
 
@@ -17,29 +21,40 @@ abbrev pub walk_start : Walk
 walk_start = record { seen = seen_none; kept = []; section = Preamble }
 
 abbrev pub placed_at : ℕ → Section → List ℕ → Placed
-placed_at number section text = record { number = number; section = section_after section text; header = is_header text; text = text }
+placed_at number section text =
+    record {
+      number = number;
+      section = section_after section text;
+      header = is_header text;
+      text =
+          text;
+    }
 
 abbrev pub kept_after : List Placed → Placed → List Placed
 kept_after kept line = if matters line then kept ++ line ∷ [] else kept
 
--- past a line
+-- the walk after a line
 abbrev pub walk_past : Walk → Placed → Walk
-walk_past w line = record { seen = seen_after w.seen line; kept = kept_after w.kept line; section = line.section }
+walk_past w line =
+    record { seen = seen_after w.seen line; kept = kept_after w.kept line; section = line.section }
 
--- past a line that has no fault
+-- a line without a fault was taken
 pub record IsPast (old : Walk) (line : Placed) (new : Walk) : Type 0 where
   pub none : line_fault old.seen line ≡ None
   pub past : new ≡ walk_past old line
 
--- the lines to come that are not empty, the first of which has the number
+-- the lines that remain and are not empty, the first of which has the number
 abbrev pub to_come : Walk → ℕ → List (List ℕ) → List Placed
 to_come w number texts = standing (placed_from number w.section texts)
 
--- what the text stands for, with these lines to come
+-- what the text stands for if these lines remain
 abbrev pub read_on : Walk → ℕ → List (List ℕ) → Result Problem Fault
-read_on w number texts = or_first (first_fault w.seen (to_come w number texts)) (meaning_at (w.kept ++ filter matters (to_come w number texts)) (number + length texts))
+read_on w number texts =
+    or_first (first_fault w.seen (to_come w number texts))
+    (meaning_at (w.kept ++ filter matters (to_come w number texts)) (number + length texts))
 
--- what was seen are the names of the lines that were kept, of which there are no more than lines before the next
+-- The names that were seen are those of the lines that were kept. There are fewer kept lines than
+-- lines before the next.
 pub record HasNames (w : Walk) (number : ℕ) : Type 0 where
   pub materials : w.seen.materials ≡ heads_at Materials w.kept
   pub units : w.seen.units ≡ heads_at OperatingUnits w.kept

@@ -1,13 +1,13 @@
-//! Lines that a walk keeps, each cut once.
+//! Lines that a walk keeps, each split once.
 use crate::item::Item;
 use std::marker::Model;
 use text_lines::term::Sides;
 use text_rules::Section;
 
-/// What stands in a line without a fault of form, behind its name.
+/// What follows the name in a line without a fault of form.
 #[derive(Drop)]
 pub enum Cut<'a> {
-    /// In a line of defaults nothing is cut.
+    /// A line of defaults, which is not split.
     Default,
     /// The items of a material.
     Material(Vec<Item<'a>>),
@@ -19,7 +19,8 @@ pub enum Cut<'a> {
     Exclusion(Vec<&'a [u8]>),
 }
 
-/// A line that a walk keeps: it has a meaning, and no fault of form. Contracts see it as the placed line that it was cut of.
+/// A line that a walk keeps: it has a meaning, and no fault of form. Contracts see it as the placed
+/// line from which it was made.
 #[derive(Drop)]
 pub struct Kept<'a> {
     pub(crate) number: u32,
@@ -69,14 +70,14 @@ impl<'a> Kept<'a> {
         self.text
     }
 
-    /// The name in front of the colon.
+    /// The name before the colon.
     pub(crate) fn head(&self) -> &'a [u8]
         ensures { result.now ≡ head_of self.now.text }
     {
         self.head
     }
 
-    /// The items, where it is a line of materials.
+    /// The items, if it is a line of materials.
     pub(crate) fn material_items(&self) -> Option<&[Item<'a>]>
         ensures some { IfSome result (λ items. items.now ≡ items_of self.now.text) }
         ensures named { IfSome result (λ _. is_name (head_of self.now.text) ≡ true) }
@@ -88,7 +89,7 @@ impl<'a> Kept<'a> {
         }
     }
 
-    /// The items, where it is a line of operating units.
+    /// The items, if it is a line of operating units.
     pub(crate) fn unit_items(&self) -> Option<&[Item<'a>]>
         ensures some { IfSome result (λ items. items.now ≡ items_of self.now.text) }
         ensures named { IfSome result (λ _. is_name (head_of self.now.text) ≡ true) }
@@ -100,7 +101,7 @@ impl<'a> Kept<'a> {
         }
     }
 
-    /// The sides, where it is a line of rates.
+    /// The sides, if it is a line of rates.
     pub(crate) fn sides(&self) -> Option<&Sides<'a>>
         ensures some { IfSome result (λ sides. sides_view sides.now ≡ pairs_at self.now.text) }
         ensures named { IfSome result (λ _. is_name (head_of self.now.text) ≡ true) }
@@ -112,7 +113,7 @@ impl<'a> Kept<'a> {
         }
     }
 
-    /// The members, each once, where it is an exclusion.
+    /// The members, each once, if it is an exclusion.
     pub(crate) fn members(&self) -> Option<&[&'a [u8]]>
         ensures some { IfSome result (λ members. texts members.now ≡ items_of self.now.text) }
         ensures once { IfSome result (λ members. has_double (texts members.now) ≡ false) }

@@ -2,8 +2,10 @@
 ghost use Rattle.std.specs.Prelude.{◌≡◌, ◌&&◌, find, not};
 ghost use Rattle.std.specs.Str.{bytes_eq};
 ghost use Rattle.problem_rules.specs.Names.{is_among};
-ghost use Rattle.text_rules.specs.Field.{key_of, value_of, kind_words, material_type, payout_period};
-ghost use Rattle.text_rules.specs.Fault.{is_payout, millionths, default_fault, default_number_stands};
+ghost use Rattle.text_rules.specs.Field.{key_of, value_of, kind_words, material_type};
+ghost use Rattle.text_rules.specs.Field.{payout_period};
+ghost use Rattle.text_rules.specs.Fault.{is_payout, millionths, default_fault};
+ghost use Rattle.text_rules.specs.Fault.{default_number_stands};
 ghost use Rattle.text_lines.specs.View.{texts};
 
 use crate::item::{NUMBER_KINDS, value_stands};
@@ -33,7 +35,7 @@ fn number_stands(kind: TextKind, text: &[u8]) -> bool
     key_of(text) != b"material_type".as_slice() && value_stands(kind, key_of(text), amount)
 }
 
-// The first of the kinds that stands at the value, where it is a number.
+// The first of the kinds of fault that the value has, if it is a number.
 fn first_at_number(kinds: &[TextKind], text: &[u8]) -> Option<TextKind>
     ensures { result ≡ find (λ kind. default_number_stands kind text.now) kinds.now }
 {
@@ -44,7 +46,9 @@ fn first_at_number(kinds: &[TextKind], text: &[u8]) -> Option<TextKind>
 }
 
 fn is_unknown_kind(text: &[u8]) -> bool
-    ensures { result ≡ (bytes_eq (key_of text.now) material_type && not (is_among kind_words (value_of text.now))) }
+    ensures { result
+        ≡ (bytes_eq (key_of text.now) material_type && not
+        (is_among kind_words (value_of text.now))) }
 {
     key_of(text) == b"material_type".as_slice() && !is_kind_word(value_of(text))
 }
@@ -58,12 +62,14 @@ fn is_payout(text: &[u8]) -> bool
 }
 
 fn is_bad_payout(text: &[u8]) -> bool
-    ensures { result ≡ (bytes_eq (key_of text.now) payout_period && not (is_payout (millionths (value_of text.now)))) }
+    ensures { result
+        ≡ (bytes_eq (key_of text.now) payout_period && not
+        (is_payout (millionths (value_of text.now)))) }
 {
     key_of(text) == b"payout_period".as_slice() && !is_payout(value_of(text))
 }
 
-/// The kind of form at a line of defaults, behind lines of these keys.
+/// The fault of form of a line of defaults, after lines of these keys.
 pub(crate) fn default_fault(keys: &[&[u8]], text: &[u8]) -> Option<TextKind>
     ensures { result ≡ default_fault (texts keys.now) text.now }
 {

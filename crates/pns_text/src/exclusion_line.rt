@@ -33,7 +33,7 @@ fn some_bad_name(items: &[&[u8]]) -> bool
     false
 }
 
-/// The kind of form at the line of this name and these items, behind lines of these names.
+/// The fault of form of the line of this name and these items, after lines of these names.
 pub(crate) fn exclusion_kind(
     alloc: Global,
     names: &NameSet<'_>,
@@ -41,7 +41,8 @@ pub(crate) fn exclusion_kind(
     name: &[u8],
     items: &[&[u8]],
 ) -> Result<Option<TextKind>, AllocError>
-    ensures { IfOk result (λ kind. kind ≡ exclusion_fault names.now text.now name.now (texts items.now)) }
+    ensures { IfOk result
+        (λ kind. kind ≡ exclusion_fault names.now text.now name.now (texts items.now)) }
 {
     if !has_colon(text) || some_empty(items) {
         return Ok(Some(TextKind::BadLine));

@@ -2,5 +2,5 @@
 use text_lines::fault;
 use text_rules::TextKind;
 
-/// The first fault of a text, or want of memory and nothing else.
+/// The first fault of a text, or out of memory.
 pub type TextFault = fault::TextFault<TextKind>;

@@ -1,9 +1,11 @@
-//! The items of a line, each cut once, and what stands at them.
+//! The items of a line, each split once, and their faults.
 ghost use Rattle.std.specs.Prelude.{◌≡◌, ◌==◌, ◌<◌, ◌+◌, IfOk, drop, find, length, option_map};
 ghost use Rattle.std.specs.List.{list_any};
 ghost use Rattle.problem_rules.specs.Names.{is_among, has_double};
 ghost use Rattle.text_rules.specs.Field.{has_key, key_of, value_of, is_keyed, kind_words, items_of};
-ghost use Rattle.text_rules.specs.Fault.{millionths, field_key, field_value, has_number, number_stands, value_stands, item_stands, has_unknown_key, keys_in, fields_fault};
+ghost use Rattle.text_rules.specs.Fault.{millionths, field_key, field_value, has_number};
+ghost use Rattle.text_rules.specs.Fault.{number_stands, value_stands, item_stands, has_unknown_key};
+ghost use Rattle.text_rules.specs.Fault.{keys_in, fields_fault};
 ghost use Rattle.text_rules.specs.Value.{value_at, item_fields};
 ghost use Rattle.text_lines.specs.View.{texts};
 
@@ -15,7 +17,8 @@ use text_lines::line::{has_colon, place_of, tail_of, trim};
 use text_lines::name::{is_among, is_name};
 use text_rules::TextKind;
 
-/// An item of a line, cut at its first equals sign, with the number that its value spells. Contracts see its text.
+/// An item of a line, split at its first equals sign, with the number that its value spells.
+/// Contracts see its text.
 #[derive(Drop)]
 pub struct Item<'a> {
     text: &'a [u8],
@@ -34,10 +37,11 @@ impl<'a> Model for Item<'a> {
 
     ghost view = { λ item. item.text.now };
 
-    ghost invariant = { λ item. IsCut item.text.now item.has_key item.is_kind_word item.key.now item.value.now item.amount };
+    ghost invariant = { λ item. IsCut item.text.now item.has_key item.is_kind_word item.key.now
+        item.value.now item.amount };
 }
 
-// Whether a text has an equals sign, and what stands before and behind the first.
+// Whether a text has an equals sign, and the texts before and after the first.
 #[tactic(auto, using(crate::proofs::ItemLines::has_place, crate::proofs::ItemLines::no_place))]
 fn parted(text: &[u8]) -> (bool, &[u8], &[u8])
     ensures has { result.0 ≡ has_key text.now }
@@ -70,21 +74,21 @@ impl<'a> Item<'a> {
         }
     }
 
-    /// Whether nothing stands in the item.
+    /// Whether the item is empty.
     pub(crate) fn is_empty(&self) -> bool
         ensures { result ≡ (length self.now == 0) }
     {
         self.text.is_empty()
     }
 
-    /// Whether the item has a key, that is an equals sign.
+    /// Whether the item has a key, that is, an equals sign.
     pub(crate) fn has_key(&self) -> bool
         ensures { result ≡ has_key self.now }
     {
         self.has_key
     }
 
-    /// What stands before the first equals sign.
+    /// The text before the first equals sign.
     pub(crate) fn key(&self) -> &'a [u8]
         ensures { result.now ≡ key_of self.now }
     {
@@ -105,7 +109,7 @@ impl<'a> Item<'a> {
         self.has_key() || self.is_kind_word()
     }
 
-    /// The key; that of a kind word is the key of the default that it stands for.
+    /// The key. The key of a kind word is that of the default that it stands for.
     pub(crate) fn field_key(&self) -> &'a [u8]
         ensures { result.now ≡ field_key self.now }
     {
@@ -116,21 +120,21 @@ impl<'a> Item<'a> {
         }
     }
 
-    /// The value; that of a kind word is the word.
+    /// The value. The value of a kind word is the word.
     pub(crate) fn value(&self) -> &'a [u8]
         ensures { result.now ≡ field_value self.now }
     {
         self.value
     }
 
-    /// The number that the value spells, which is 0 where it spells none.
+    /// The number that the value spells, which is 0 if it spells none.
     pub(crate) fn number(&self) -> i64
         ensures { result ≡ millionths (field_value self.now) }
     {
         self.amount.unwrap_or(0)
     }
 
-    // An item whose value is a number.
+    // Whether the value is a number.
     fn has_number(&self) -> bool
         ensures { result ≡ has_number self.now }
     {
@@ -144,7 +148,7 @@ impl<'a> Item<'a> {
     }
 }
 
-// What stands behind the byte at this place.
+// The text after the byte at this place.
 fn behind(text: &[u8], at: usize) -> &[u8]
     requires { at < length text.now }
     ensures { result.now ≡ drop (at + 1) text.now }
@@ -152,7 +156,8 @@ fn behind(text: &[u8], at: usize) -> &[u8]
     &text[at + 1..]
 }
 
-/// What stands between the commas behind the colon; none where there is no colon. The line is cut in one pass.
+/// The texts between the commas after the colon; none if there is no colon. The line is split in
+/// one pass.
 pub(crate) fn items_of<'a>(alloc: Global, text: &'a [u8]) -> Result<Vec<Item<'a>>, AllocError>
     ensures { IfOk result (λ items. items.items ≡ items_of text.now) }
 {
@@ -173,7 +178,8 @@ pub(crate) fn items_of<'a>(alloc: Global, text: &'a [u8]) -> Result<Vec<Item<'a>
 
 /// The first item of this key.
 pub(crate) fn field_at<'b, 'a>(items: &'b [Item<'a>], key: &[u8]) -> Option<&'b Item<'a>>
-    ensures { option_map (λ item. field_value item.now) result ≡ value_at key.now (item_fields items.now) }
+    ensures { option_map (λ item. field_value item.now) result
+        ≡ value_at key.now (item_fields items.now) }
 {
     for item in items {
         if item.is_keyed() && item.field_key() == key {
@@ -183,7 +189,7 @@ pub(crate) fn field_at<'b, 'a>(items: &'b [Item<'a>], key: &[u8]) -> Option<&'b 
     None
 }
 
-/// The kinds that may stand at any number.
+/// The kinds of fault that any number may have.
 pub(crate) const NUMBER_KINDS: [TextKind; 4] = [
     TextKind::BadNumber,
     TextKind::TooFine,
@@ -191,7 +197,7 @@ pub(crate) const NUMBER_KINDS: [TextKind; 4] = [
     TextKind::Negative,
 ];
 
-/// Whether the kind stands at a number that was read so, whatever its key.
+/// Whether a number that was read so has this kind of fault, whatever its key.
 pub(crate) fn number_stands(kind: TextKind, amount: Result<i64, TextKind>) -> bool
     ensures { result ≡ number_stands kind amount }
 {
@@ -216,7 +222,7 @@ const MAY_BE_NEGATIVE: [&[u8]; 7] = [
     b"payout_period",
 ];
 
-/// Whether the kind stands at a number that was read so, by its key.
+/// Whether a number that was read so has this kind of fault, given its key.
 pub(crate) fn value_stands(kind: TextKind, key: &[u8], amount: Result<i64, TextKind>) -> bool
     ensures { result ≡ value_stands kind key.now amount }
 {
@@ -232,7 +238,7 @@ fn some_item_stands(kind: TextKind, items: &[Item<'_>]) -> bool
     items.iter().any(|item| item.item_stands(kind))
 }
 
-// The first of the kinds that stands at the value of an item.
+// The first of the kinds of fault that the value of an item has.
 fn first_at_items(kinds: &[TextKind], items: &[Item<'_>]) -> Option<TextKind>
     ensures { result ≡ find (λ kind. list_any (item_stands kind) items.now) kinds.now }
 {
@@ -249,8 +255,8 @@ pub(crate) fn some_empty(items: &[Item<'_>]) -> bool
     items.iter().any(|item| item.is_empty())
 }
 
-// Whether a key comes twice. It looks behind each item that has a key, of which a line without unknown keys has few
-// before the second of a pair.
+// Whether a key is there twice. For each item that has a key the items after it are searched. In a
+// line without unknown keys there are few before the second of a pair.
 fn some_double_key(items: &[Item<'_>]) -> bool
     ensures { result ≡ has_double (keys_in items.now) }
 {
@@ -282,7 +288,8 @@ fn some_unknown_key(keys: &[&[u8]], items: &[Item<'_>]) -> bool
         .any(|item| item.has_key() && !is_among(keys, item.key()))
 }
 
-/// The first kind that stands at the name or at the fields of a line of items, which may have these keys.
+/// The first kind of fault of the name or of the fields of a line of items, which may have these
+/// keys.
 pub(crate) fn fields_kind(keys: &[&[u8]], name: &[u8], items: &[Item<'_>]) -> Option<TextKind>
     ensures { result ≡ fields_fault (texts keys.now) name.now items.now }
 {

@@ -1,10 +1,13 @@
-//! The reader of a problem text. `read_problem` gives the problem that the text stands for, or the first fault with its
-//! line and kind; `read_amount` gives one number in millionths.
+//! A text gives its problem, or exactly its first fault.
 //!
-//! One pass goes over the bytes, judges the form of each line by what was seen before it (`walk`, `seen`, and a module for
-//! the lines of each section), and keeps the lines that have a meaning, each cut once (`cut`, `item`), borrowed from the
-//! text. The second pass judges the meaning of these, with defaults filled in (`meaning`), and makes the parts of the
-//! problem (`value`). A kept line is well formed by its type, so that the second pass has no fault of form to answer.
+//! `read_problem` gives the problem that a problem text stands for, or the first fault with its
+//! line and kind. `read_amount` gives one number in millionths.
+//!
+//! The first pass goes over the bytes (`walk`). It judges the form of each line by what was seen
+//! before it (`seen`, and a module for the lines of each section). It keeps the lines that have a
+//! meaning, each split once (`cut`, `item`) and borrowed from the text. The second pass judges the
+//! meaning of these lines, with defaults filled in (`meaning`), and makes the parts of the problem
+//! (`value`). A kept line is well formed by its type, so the second pass meets no fault of form.
 #![tactic(auto)]
 
 mod cut;

@@ -17,7 +17,7 @@ fn some_unknown_kind(items: &[Item<'_>]) -> bool
         .any(|item| !item.has_key() && !item.is_kind_word())
 }
 
-/// The kind of form at the line of this name and these items, behind lines of these names.
+/// The fault of form of the line of this name and these items, after lines of these names.
 pub(crate) fn material_kind(
     names: &NameSet<'_>,
     name: &[u8],

@@ -1,10 +1,11 @@
-//! The meaning of the lines that have one: what names they cite, and whether bounds are in order.
+//! The meaning of the lines that have one: which names they cite, and whether bounds are in order.
 ghost use Rattle.std.specs.Prelude.{◌≡◌, IfOk, not};
 ghost use Rattle.std.specs.List.{list_any};
 ghost use Rattle.problem_rules.specs.Names.{is_among};
 ghost use Rattle.text_rules.specs.Line.{heads_at};
 ghost use Rattle.text_rules.specs.Fault.{names_of};
-ghost use Rattle.text_rules.specs.Value.{item_fields, is_unit, unit_kind, has_unknown, rates_kind, exclusion_kind, line_meaning, first_meaning};
+ghost use Rattle.text_rules.specs.Value.{item_fields, is_unit, unit_kind, has_unknown, rates_kind};
+ghost use Rattle.text_rules.specs.Value.{exclusion_kind, line_meaning, first_meaning};
 ghost use Rattle.text_lines.specs.View.{texts};
 ghost use Rattle.text_lines.specs.Terms.{terms_view, sides_view};
 
@@ -31,7 +32,12 @@ impl<'a> Model for Names<'a> {
 
     ghost Value = { rules.Names };
 
-    ghost view = { λ names. record { materials = names.materials; units = names.units; rates = names.rates } };
+    ghost view = { λ names. record {
+      materials = names.materials;
+      units = names.units;
+      rates =
+          names.rates;
+    } };
 }
 
 /// The names of the lines of units, in order.
@@ -73,7 +79,8 @@ fn unit_meaning(
 }
 
 fn some_unknown(materials: &NameSet<'_>, terms: &[Term<'_>]) -> bool
-    ensures { result ≡ list_any (λ name. not (is_among materials.now name)) (names_of (terms_view terms.now)) }
+    ensures { result ≡ list_any (λ name. not (is_among materials.now name))
+        (names_of (terms_view terms.now)) }
 {
     for term in terms {
         if !materials.has(term.name) {
@@ -135,7 +142,7 @@ fn line_meaning(settings: &Settings, names: &Names<'_>, line: &Kept<'_>) -> Opti
     }
 }
 
-/// The first line at which a kind of meaning stands, with the kind.
+/// The first line that has a fault of meaning, with its kind.
 pub(crate) fn first_meaning(
     settings: &Settings,
     names: &Names<'_>,

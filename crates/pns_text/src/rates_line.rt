@@ -2,7 +2,8 @@
 ghost use Rattle.std.specs.Prelude.{◌≡◌, ◌++◌, Some, IfOk, find, not};
 ghost use Rattle.std.specs.List.{list_any};
 ghost use Rattle.problem_rules.specs.Names.{is_name, is_among};
-ghost use Rattle.text_rules.specs.Fault.{names_of, rate_stands, doubled, term_fault, whole_fault, sides_fault};
+ghost use Rattle.text_rules.specs.Fault.{names_of, rate_stands, doubled, term_fault, whole_fault};
+ghost use Rattle.text_rules.specs.Fault.{sides_fault};
 ghost use Rattle.text_lines.specs.View.{texts};
 ghost use Rattle.text_lines.specs.Terms.{terms_view, sides_view};
 ghost use Rattle.pns_text.specs.Fault.{is_faulty};
@@ -47,15 +48,20 @@ fn some_rate_stands(kind: TextKind, terms: &[Term<'_>]) -> bool
 }
 
 fn stands_at_rates(kind: TextKind, sides: &Sides<'_>) -> bool
-    ensures { result ≡ list_any (rate_stands kind) ((sides_view sides.now).0 ++ (sides_view sides.now).1) }
+    ensures { result ≡ list_any (rate_stands kind)
+        ((sides_view sides.now).0 ++ (sides_view sides.now).1) }
 {
     some_rate_stands(kind, &sides.inputs) || some_rate_stands(kind, &sides.outputs)
 }
 
-// The first of the kinds that stands at a rate. Only where some rate is faulty are they looked at by kind, so that a line
-// is read once.
+// The first of the kinds of fault that a rate has. The rates are searched kind by kind only if some
+// rate is faulty, so that a good line is read once.
 fn first_at_rates(kinds: &[TextKind], sides: &Sides<'_>) -> Option<TextKind>
-    ensures { result ≡ find (λ kind. list_any (rate_stands kind) ((sides_view sides.now).0 ++ (sides_view sides.now).1)) kinds.now }
+    ensures { result
+        ≡ find
+        (λ kind. list_any (rate_stands kind)
+        ((sides_view sides.now).0 ++ (sides_view sides.now).1))
+        kinds.now }
 {
     if !has_faulty(sides) {
         return None;
@@ -85,7 +91,8 @@ fn has_faulty(sides: &Sides<'_>) -> bool
 }
 
 fn has_bad_name(sides: &Sides<'_>) -> bool
-    ensures { result ≡ list_any (λ term. not (is_name term.1)) ((sides_view sides.now).0 ++ (sides_view sides.now).1) }
+    ensures { result ≡ list_any (λ term. not (is_name term.1))
+        ((sides_view sides.now).0 ++ (sides_view sides.now).1) }
 {
     some_bad_name(&sides.inputs) || some_bad_name(&sides.outputs)
 }
@@ -112,9 +119,10 @@ fn some_among(names: &NameSet<'_>, terms: &[Term<'_>]) -> bool
     false
 }
 
-// Where a material comes twice.
+// The fault of a material that is there twice.
 fn doubled<'a>(alloc: Global, sides: &Sides<'a>) -> Result<Option<TextKind>, AllocError>
-    ensures { IfOk result (λ kind. kind ≡ doubled (sides_view sides.now).0 (sides_view sides.now).1) }
+    ensures { IfOk result
+        (λ kind. kind ≡ doubled (sides_view sides.now).0 (sides_view sides.now).1) }
 {
     let inputs = names_of(alloc, &sides.inputs)?;
     if once(alloc, &inputs)?.is_none() {
@@ -127,7 +135,7 @@ fn doubled<'a>(alloc: Global, sides: &Sides<'a>) -> Result<Option<TextKind>, All
     }
 }
 
-// The kind that stands at the name or at the terms one by one.
+// The fault of the name or of a single term.
 fn term_kind(name: &[u8], sides: &Sides<'_>) -> Option<TextKind>
     ensures { result ≡ term_fault name.now (sides_view sides.now).0 (sides_view sides.now).1 }
 {
@@ -137,14 +145,15 @@ fn term_kind(name: &[u8], sides: &Sides<'_>) -> Option<TextKind>
     first_at_rates(&RATE_KINDS, sides)
 }
 
-// The kind that stands at the whole line, behind the terms.
+// The fault of the whole line, which follows those of the terms.
 fn whole_kind(
     names: &NameSet<'_>,
     seen: &NameSet<'_>,
     name: &[u8],
     sides: &Sides<'_>,
 ) -> Option<TextKind>
-    ensures { result ≡ whole_fault names.now seen.now name.now (sides_view sides.now).0 (sides_view sides.now).1 }
+    ensures { result ≡ whole_fault names.now seen.now name.now (sides_view sides.now).0
+        (sides_view sides.now).1 }
 {
     if sides.inputs.is_empty() || sides.outputs.is_empty() {
         return Some(TextKind::EmptySide);
@@ -158,8 +167,8 @@ fn whole_kind(
     None
 }
 
-/// The kind of form at the line of this name and these sides, behind lines of rates of these names; `seen` are all names of
-/// units.
+/// The fault of form of the line of this name and these sides, after lines of rates of these names;
+/// `seen` has all names of units.
 pub(crate) fn sides_kind<'a>(
     alloc: Global,
     names: &NameSet<'_>,
@@ -167,7 +176,8 @@ pub(crate) fn sides_kind<'a>(
     name: &[u8],
     sides: &Sides<'a>,
 ) -> Result<Option<TextKind>, AllocError>
-    ensures { IfOk result (λ kind. kind ≡ sides_fault names.now seen.now name.now (Some (sides_view sides.now))) }
+    ensures { IfOk result
+        (λ kind. kind ≡ sides_fault names.now seen.now name.now (Some (sides_view sides.now))) }
 {
     if let Some(kind) = term_kind(name, sides) {
         return Ok(Some(kind));

@@ -2,7 +2,8 @@
 ghost use Rattle.std.specs.Prelude.{◌≡◌, true, ◌<◌, ◌-◌, ◌^◌, Ok, IfOk, IfErr, length};
 ghost use Rattle.problem_rules.specs.Problem as rules;
 ghost use Rattle.problem_rules.specs.Validity.{IsValid};
-ghost use Rattle.text_rules.specs.Value.{has_product, with_product, names_all, meaning_at, read_text};
+ghost use Rattle.text_rules.specs.Value.{has_product, with_product, names_all, meaning_at};
+ghost use Rattle.text_rules.specs.Value.{read_text};
 ghost use Rattle.text_lines.specs.Tells.{Tells};
 
 use crate::cut::Kept;
@@ -24,7 +25,8 @@ fn has_product(materials: &[Material]) -> bool
         .any(|material| material.kind == Kind::Product)
 }
 
-// The problem of these parts, where they have a product. With one they are valid, so that only want of memory refuses them.
+// The problem of these parts, if they have a product. With one they are valid, so the only other
+// refusal is out of memory.
 fn with_product(alloc: Global, number: u32, parts: Parts) -> Result<Problem, TextFault>
     requires { has_product parts.materials ≡ true → IsValid parts }
     ensures ok { IfOk result (λ p. with_product number parts ≡ Ok p) }
@@ -47,7 +49,8 @@ fn with_product(alloc: Global, number: u32, parts: Parts) -> Result<Problem, Tex
     }
 }
 
-// The problem of these lines of these names, or their first fault of meaning; the line behind the last one has the number.
+// The problem of these lines of these names, or their first fault of meaning; the line after the
+// last has the number.
 fn read_meaning(
     alloc: Global,
     names: &Names<'_>,
@@ -70,10 +73,10 @@ fn read_meaning(
     }
 }
 
-/// The problem that the text stands for. `At` comes exactly where the text has a fault, with the line of its first fault,
-/// counted from 1, and the kind: faults of form in the whole text come before faults of meaning, and of each group the
-/// least line is told, and on one line the first kind. `Memory` comes for want of memory alone, at any moment. Linear in
-/// the text.
+/// The problem that the text stands for. The answer is `At` exactly if the text has a fault, with
+/// the line of its first fault, counted from 1, and the kind. Faults of form in the whole text come
+/// before faults of meaning; of each group the first line is reported, and on one line the first
+/// kind. The answer `Memory` means out of memory, at any moment. The time is linear in the text.
 pub fn read_problem(alloc: Global, bytes: &[u8]) -> Result<Problem, TextFault>
     requires { length bytes.now < 2 ^ 32 - 1 }
     ensures read { IfOk result (λ p. read_text bytes.now ≡ Ok p) }

@@ -1,4 +1,4 @@
-//! What was seen on the lines before a line, and the form of the line by it.
+//! What was seen on the lines before a line, and the form of the line given that.
 ghost use Rattle.std.specs.Prelude.{◌≡◌, IfOk, IfErr, None, OnOk, false};
 ghost use Rattle.text_rules.specs.Fault.{seen_none, header_fault, skipped_fault};
 ghost use Rattle.text_lines.specs.View.{texts};
@@ -24,7 +24,7 @@ use text_lines::section::section_named;
 use text_lines::term::sides_of;
 use text_rules::{Section, TextKind};
 
-/// A line, with the section that it stands in or begins, counted from 1.
+/// A line, counted from 1, with the section that it is in or begins.
 #[derive(Clone, Copy)]
 pub struct Placed<'a> {
     pub number: u32,
@@ -33,7 +33,8 @@ pub struct Placed<'a> {
     pub text: &'a [u8],
 }
 
-/// The names of headers, the keys of defaults and the names of entries so far; `unit_names` has each name of a unit once.
+/// The names of headers, the keys of defaults and the names of entries so far; `unit_names` has
+/// each name of a unit once.
 #[derive(Drop)]
 pub struct Seen<'a> {
     headers: Vec<&'a [u8]>,
@@ -43,7 +44,7 @@ pub struct Seen<'a> {
     unit_names: NameSet<'a>,
 }
 
-/// What was cut of a line, where it matters.
+/// What was split of a line, if the line matters.
 pub(crate) type Taken<'a> = Result<Option<Cut<'a>>, TextFault>;
 
 fn header_fault(headers: &[&[u8]], name: &[u8]) -> Option<TextKind>
@@ -58,7 +59,7 @@ fn header_fault(headers: &[&[u8]], name: &[u8]) -> Option<TextKind>
     None
 }
 
-// Takes a line that is read past.
+// Takes a line that is skipped.
 fn skip<'a>(number: u32, text: &[u8]) -> Taken<'a>
     ensures none { IfOk result (λ cut. cut ≡ None) }
     ensures ok { OnOk result (skipped_fault text.now ≡ None) }
@@ -92,7 +93,14 @@ impl<'a> Seen<'a> {
     }
 
     fn take_default(&mut self, number: u32, text: &'a [u8]) -> Taken<'a>
-        ensures { Takes (seen_view self.old) (record { number = number; section = Section.Defaults; header = false; text = text.now }) (seen_view self.new) result }
+        ensures { Takes (seen_view self.old)
+            (record {
+              number = number;
+              section = Section.Defaults;
+              header = false;
+              text =
+                  text.now;
+            }) (seen_view self.new) result }
     {
         if let Some(kind) = default_fault(&self.keys, text) {
             return Err(TextFault::At { line: number, kind });
@@ -103,7 +111,14 @@ impl<'a> Seen<'a> {
 
     #[tactic(auto, using(crate::proofs::NoFault::material_new))]
     fn take_material(&mut self, alloc: Global, number: u32, text: &'a [u8]) -> Taken<'a>
-        ensures { Takes (seen_view self.old) (record { number = number; section = Section.Materials; header = false; text = text.now }) (seen_view self.new) result }
+        ensures { Takes (seen_view self.old)
+            (record {
+              number = number;
+              section = Section.Materials;
+              header = false;
+              text =
+                  text.now;
+            }) (seen_view self.new) result }
     {
         let name = head_of(text);
         let items = items_of(alloc, text)?;
@@ -116,7 +131,14 @@ impl<'a> Seen<'a> {
 
     #[tactic(auto, using(crate::proofs::NoFault::unit_new))]
     fn take_unit(&mut self, alloc: Global, number: u32, text: &'a [u8]) -> Taken<'a>
-        ensures { Takes (seen_view self.old) (record { number = number; section = Section.OperatingUnits; header = false; text = text.now }) (seen_view self.new) result }
+        ensures { Takes (seen_view self.old)
+            (record {
+              number = number;
+              section = Section.OperatingUnits;
+              header = false;
+              text =
+                  text.now;
+            }) (seen_view self.new) result }
     {
         let name = head_of(text);
         let items = items_of(alloc, text)?;
@@ -130,7 +152,9 @@ impl<'a> Seen<'a> {
 
     #[tactic(auto, using(crate::proofs::CutLines::sides_cut, crate::proofs::NoFault::sides_new))]
     fn take_rates(&mut self, alloc: Global, number: u32, text: &'a [u8]) -> Taken<'a>
-        ensures { Takes (seen_view self.old) (record { number = number; section = Section.Rates; header = false; text = text.now }) (seen_view self.new) result }
+        ensures { Takes (seen_view self.old)
+            (record { number = number; section = Section.Rates; header = false; text = text.now })
+            (seen_view self.new) result }
     {
         let name = head_of(text);
         let Some(sides) = sides_of(alloc, text)? else {
@@ -150,7 +174,14 @@ impl<'a> Seen<'a> {
 
     #[tactic(auto, using(crate::proofs::NoFault::exclusion_new))]
     fn take_exclusion(&mut self, alloc: Global, number: u32, text: &'a [u8]) -> Taken<'a>
-        ensures { Takes (seen_view self.old) (record { number = number; section = Section.Exclusions; header = false; text = text.now }) (seen_view self.new) result }
+        ensures { Takes (seen_view self.old)
+            (record {
+              number = number;
+              section = Section.Exclusions;
+              header = false;
+              text =
+                  text.now;
+            }) (seen_view self.new) result }
     {
         let name = head_of(text);
         let members = field::items_of(alloc, text)?;
@@ -161,7 +192,7 @@ impl<'a> Seen<'a> {
         Ok(Some(Cut::Exclusion(members)))
     }
 
-    // Takes a line of the section. It gives what was cut of it, where it matters.
+    // Takes a line of the section. It gives what was split of it, if the line matters.
     fn take_entry(
         &mut self,
         alloc: Global,
@@ -169,7 +200,9 @@ impl<'a> Seen<'a> {
         number: u32,
         text: &'a [u8],
     ) -> Taken<'a>
-        ensures { Takes (seen_view self.old) (record { number = number; section = section; header = false; text = text.now }) (seen_view self.new) result }
+        ensures { Takes (seen_view self.old)
+            (record { number = number; section = section; header = false; text = text.now })
+            (seen_view self.new) result }
     {
         match section {
             Section::Preamble => skip(number, text),
@@ -182,7 +215,7 @@ impl<'a> Seen<'a> {
         }
     }
 
-    /// Takes a line. It gives what was cut of it, where the line matters, or the kind of form that stands at it.
+    /// Takes a line. It gives what was split of it, if the line matters, or its fault of form.
     pub(crate) fn take(&mut self, alloc: Global, line: &Placed<'a>) -> Taken<'a>
         ensures { Takes (seen_view self.old) (placed_view line.now) (seen_view self.new) result }
     {

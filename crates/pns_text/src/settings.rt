@@ -1,9 +1,11 @@
-//! The defaults, and the values of materials and units by them.
+//! The defaults, and the values of materials and units, given the defaults.
 ghost use Rattle.std.specs.Prelude.{◌≡◌, ◌/◌, codes, option_map, pos, unsigned_abs};
 ghost use Rattle.problem_rules.specs.Problem.{intermediate};
 ghost use Rattle.pns_problem.specs.Kind.{kind_of};
 ghost use Rattle.text_rules.specs.Value as value;
-ghost use Rattle.text_rules.specs.Value.{value_at, item_fields, default_fields, number_at, kind_or, settings_of, payout_from, is_material_turned, is_unit_turned};
+ghost use Rattle.text_rules.specs.Value.{value_at, item_fields, default_fields, number_at, kind_or};
+ghost use Rattle.text_rules.specs.Value.{settings_of, payout_from, is_material_turned};
+ghost use Rattle.text_rules.specs.Value.{is_unit_turned};
 
 use crate::cut::Kept;
 use crate::item::{Item, field_at};
@@ -12,7 +14,8 @@ use std::marker::Model;
 use text_lines::amount::millionths;
 use text_lines::field::{key_of, value_of};
 
-/// What holds of materials and units whose lines say nothing else. Prices, bounds and costs are in millionths.
+/// What applies to materials and units whose lines do not say otherwise. Prices, bounds and costs
+/// are in millionths.
 #[derive(Drop)]
 pub struct Settings {
     pub kind: Kind,
@@ -72,7 +75,7 @@ fn default_at<'a>(lines: &[Kept<'a>], key: &[u8]) -> Option<&'a [u8]>
     None
 }
 
-// The number of the default of this key, or else the table's own.
+// The number of the default of this key, or else the value that is built in.
 fn default_number(lines: &[Kept<'_>], key: &[u8], built_in: i64) -> i64
     ensures { result ≡ number_at key.now (default_fields lines.now) built_in }
 {
@@ -94,7 +97,8 @@ pub(crate) fn number_at(items: &[Item<'_>], key: &[u8], default: i64) -> i64
 
 /// The kind of a material by its items, or else the default.
 pub(crate) fn kind_at(items: &[Item<'_>], default: Kind) -> Kind
-    ensures { kind_of result ≡ kind_or (value_at (codes "material_type") (item_fields items.now)) (kind_of default) }
+    ensures { kind_of result ≡ kind_or (value_at (codes "material_type") (item_fields items.now))
+        (kind_of default) }
 {
     match field_at(items, b"material_type") {
         Some(item) => kind_named(item.value()),
@@ -104,7 +108,8 @@ pub(crate) fn kind_at(items: &[Item<'_>], default: Kind) -> Kind
 
 // The kind of materials whose lines have no kind word.
 fn default_kind(lines: &[Kept<'_>]) -> Kind
-    ensures { kind_of result ≡ kind_or (value_at (codes "material_type") (default_fields lines.now)) intermediate }
+    ensures { kind_of result ≡ kind_or (value_at (codes "material_type") (default_fields lines.now))
+        intermediate }
 {
     match default_at(lines, b"material_type") {
         Some(word) => kind_named(word),
@@ -112,7 +117,7 @@ fn default_kind(lines: &[Kept<'_>]) -> Kind
     }
 }
 
-// 10^9 in millionths: the upper bounds that hold where nothing else is said.
+// 10^9 in millionths: the upper bounds if nothing else is said.
 const MUCH: i64 = 1_000_000_000_000_000;
 
 /// The settings that the lines of defaults give.

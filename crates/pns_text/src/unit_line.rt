@@ -23,15 +23,15 @@ fn some_without_key(items: &[Item<'_>]) -> bool
     items.iter().any(|item| !item.has_key())
 }
 
-/// Whether the name is that of a unit beyond the greatest number of them, where these names of units were seen.
+/// Whether the name is a new one when these names of units were seen and there may be no more.
 pub(crate) fn is_beyond(seen: &NameSet<'_>, name: &[u8]) -> bool
     ensures { result ≡ is_beyond seen.now name.now }
 {
     !seen.has(name) && seen.len() >= 128
 }
 
-/// The kind of form at the line of this name and these items, behind lines of units of these names; `seen` are all names of
-/// units.
+/// The fault of form of the line of this name and these items, after lines of units of these names;
+/// `seen` has all names of units.
 pub(crate) fn unit_kind(
     names: &NameSet<'_>,
     seen: &NameSet<'_>,

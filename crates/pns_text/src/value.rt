@@ -1,10 +1,16 @@
 //! The parts of the problem that lines without a fault stand for.
-ghost use Rattle.std.specs.Prelude.{◌≡◌, ◌<◌, ◌^◌, length, ◌++◌, ◌&&◌, false, IfOk, OnOk, map, not, option_map, true, IfSome, is_some, find, string_bytes};
+ghost use Rattle.std.specs.Prelude.{◌≡◌, ◌<◌, ◌^◌, length, ◌++◌, ◌&&◌, false, IfOk, OnOk, map};
+ghost use Rattle.std.specs.Prelude.{not};
+ghost use Rattle.std.specs.Prelude.{option_map, true, IfSome, is_some, find, string_bytes};
 ghost use Rattle.problem_rules.specs.Names.{is_name, is_among, has_double};
 ghost use Rattle.std.specs.Str.{bytes_eq};
 ghost use Rattle.text_rules.specs.Line.{head_of, is_at, lines_at, heads_at};
 ghost use Rattle.text_rules.specs.Term.{pairs_at};
-ghost use Rattle.text_rules.specs.Value.{item_fields, settings_of, material_from, unit_from, materials_from, term_from, sides_named, listed_unit, bare_unit, bare_lines, units_from, unit_names_from, numbers_among, exclusion_named, exclusions_from, problem_from};
+ghost use Rattle.text_rules.specs.Value.{item_fields, settings_of, material_from, unit_from};
+ghost use Rattle.text_rules.specs.Value.{materials_from, term_from, sides_named, listed_unit};
+ghost use Rattle.text_rules.specs.Value.{bare_unit, bare_lines, units_from, unit_names_from};
+ghost use Rattle.text_rules.specs.Value.{numbers_among, exclusion_named, exclusions_from};
+ghost use Rattle.text_rules.specs.Value.{problem_from};
 ghost use Rattle.text_lines.specs.View.{texts};
 ghost use Rattle.text_lines.specs.Terms.{term_view, terms_view, sides_view};
 
@@ -68,7 +74,7 @@ fn materials(
     Ok(materials)
 }
 
-// The term, with the number of its material, which is 0 where the name is none of these.
+// The term, with the number of its material, which is 0 if the name is none of these.
 #[tactic(auto, using(crate::proofs::Counts::position_few))]
 fn term(names: &NameSet<'_>, term: &term::Term<'_>) -> Term
     requires { length names.now < 2 ^ 32 }
@@ -86,14 +92,17 @@ fn terms(
     terms: &[term::Term<'_>],
 ) -> Result<Vec<Term>, AllocError>
     requires { length names.now < 2 ^ 32 }
-    ensures { IfOk result (λ all. all.items ≡ map (λ one. term_from names.now (term_view one)) terms.now) }
+    ensures { IfOk result
+        (λ all. all.items ≡ map (λ one. term_from names.now (term_view one)) terms.now) }
 {
     terms.iter().map(|one| term(names, one)).collect(alloc)
 }
 
 // The sides of the line of rates of this name.
 fn rates_named<'b, 'a>(lines: &'b [Kept<'a>], name: &[u8]) -> Option<&'b term::Sides<'a>>
-    ensures { option_map (λ sides. sides_view sides.now) result ≡ option_map (λ line. pairs_at line.text) (find (λ line. bytes_eq (head_of line.text) name.now) (lines_at Section.Rates lines.now)) }
+    ensures { option_map (λ sides. sides_view sides.now) result
+        ≡ option_map (λ line. pairs_at line.text)
+        (find (λ line. bytes_eq (head_of line.text) name.now) (lines_at Section.Rates lines.now)) }
 {
     for line in lines {
         if let Some(sides) = line.sides() {
@@ -113,7 +122,8 @@ fn sides_named(
     name: &[u8],
 ) -> Result<(Vec<Term>, Vec<Term>), AllocError>
     requires { length names.now < 2 ^ 32 }
-    ensures { IfOk result (λ sides. (sides.0.items, sides.1.items) ≡ sides_named names.now lines.now name.now) }
+    ensures { IfOk result
+        (λ sides. (sides.0.items, sides.1.items) ≡ sides_named names.now lines.now name.now) }
 {
     let Some(sides) = rates_named(lines, name) else {
         return Ok((Vec::new(alloc), Vec::new(alloc)));
@@ -163,7 +173,10 @@ fn listed_units(
     lines: &[Kept<'_>],
 ) -> Result<Vec<OperatingUnit>, AllocError>
     requires { length names.now < 2 ^ 32 }
-    ensures { IfOk result (λ units. units.items ≡ map (λ line. listed_unit settings.now names.now lines.now line.text) (lines_at Section.OperatingUnits lines.now)) }
+    ensures { IfOk result
+        (λ units. units.items
+        ≡ map (λ line. listed_unit settings.now names.now lines.now line.text)
+        (lines_at Section.OperatingUnits lines.now)) }
 {
     let mut units = Vec::new(alloc);
     for line in lines {
@@ -174,11 +187,12 @@ fn listed_units(
     Ok(units)
 }
 
-// The name, where the line is one of rates, of a unit without a line of its own.
+// The name, if the line is one of rates, of a unit without a line of its own.
 fn bare_name<'a>(units: &NameSet<'_>, line: &Kept<'a>) -> Option<&'a [u8]>
     ensures some { IfSome result (λ name. name.now ≡ head_of line.now.text) }
     ensures named { IfSome result (λ name. is_name name.now ≡ true) }
-    ensures at { is_some result ≡ (is_at Section.Rates line.now && not (is_among units.now (head_of line.now.text))) }
+    ensures at { is_some result
+        ≡ (is_at Section.Rates line.now && not (is_among units.now (head_of line.now.text))) }
 {
     line.sides()?;
     let name = line.head();
@@ -197,7 +211,10 @@ fn push_bare_units(
     units: &mut Vec<OperatingUnit>,
 ) -> Result<(), AllocError>
     requires { length names.now.materials < 2 ^ 32 }
-    ensures { OnOk result (units.new.items ≡ units.old.items ++ map (λ line. bare_unit settings.now names.now.materials lines.now line.text) (bare_lines names.now.units lines.now)) }
+    ensures { OnOk result
+        (units.new.items ≡ units.old.items
+        ++ map (λ line. bare_unit settings.now names.now.materials lines.now line.text)
+        (bare_lines names.now.units lines.now)) }
 {
     for line in lines {
         if let Some(name) = bare_name(&names.units, line) {
@@ -215,7 +232,8 @@ fn units(
 ) -> Result<Vec<OperatingUnit>, AllocError>
     requires units { names.now.units ≡ heads_at Section.OperatingUnits lines.now }
     requires few { length names.now.materials < 2 ^ 32 }
-    ensures { IfOk result (λ units. units.items ≡ units_from settings.now names.now.materials lines.now) }
+    ensures { IfOk result
+        (λ units. units.items ≡ units_from settings.now names.now.materials lines.now) }
 {
     let mut units = listed_units(alloc, settings, &names.materials, lines)?;
     push_bare_units(alloc, settings, names, lines, &mut units)?;
@@ -223,7 +241,8 @@ fn units(
 }
 
 fn is_bare(units: &NameSet<'_>, line: &Kept<'_>) -> bool
-    ensures { result ≡ (is_at Section.Rates line.now && not (is_among units.now (head_of line.now.text))) }
+    ensures { result
+        ≡ (is_at Section.Rates line.now && not (is_among units.now (head_of line.now.text))) }
 {
     bare_name(units, line).is_some()
 }
@@ -234,7 +253,9 @@ fn push_bare_names<'a>(
     units: &NameSet<'_>,
     lines: &[Kept<'a>],
 ) -> Result<(), AllocError>
-    ensures { OnOk result (texts all.new.items ≡ texts all.old.items ++ map (λ line. head_of line.text) (bare_lines units.now lines.now)) }
+    ensures { OnOk result
+        (texts all.new.items ≡ texts all.old.items
+        ++ map (λ line. head_of line.text) (bare_lines units.now lines.now)) }
 {
     for line in lines {
         if is_bare(units, line) {
@@ -286,7 +307,8 @@ fn exclusion(
     requires named { is_name name.now ≡ true }
     requires once { has_double (texts members.now) ≡ false }
     requires few { length units.now < 2 ^ 32 }
-    ensures { IfOk result (λ x. x ≡ exclusion_named (texts units.now) name.now (texts members.now)) }
+    ensures { IfOk result
+        (λ x. x ≡ exclusion_named (texts units.now) name.now (texts members.now)) }
 {
     let Some(among) = once(alloc, members)? else {
         unreachable!()
@@ -302,7 +324,8 @@ fn exclusions(
     lines: &[Kept<'_>],
 ) -> Result<Vec<Exclusion>, AllocError>
     requires { length units.now < 2 ^ 32 }
-    ensures { IfOk result (λ exclusions. exclusions.items ≡ exclusions_from (texts units.now) lines.now) }
+    ensures { IfOk result
+        (λ exclusions. exclusions.items ≡ exclusions_from (texts units.now) lines.now) }
 {
     let mut exclusions = Vec::new(alloc);
     for line in lines {

@@ -22,10 +22,13 @@ pub from_positive : (z : ℤ) → int_lt (pos 0) z ≡ true → int_lt z (pos 1)
 from_positive (pos n) e = let h = ltb-true 0 n e in le-ltb n 1 (omega arith)
 from_positive (negsuc n) e = cc
 
-pub payout_limit : (z : ℤ) → int_lt (pos 0) z ≡ true → int_lt (pos 100) z ≡ false → unsigned_abs z ≤ 100
+pub payout_limit : (z : ℤ) → int_lt (pos 0) z ≡ true → int_lt (pos 100) z ≡ false
+    → unsigned_abs z ≤ 100
 payout_limit (pos n) e g = ltb-false 100 n g
 payout_limit (negsuc n) e g = cc
 
 pub good_payout : (z : ℤ) → int_lt (pos 0) z ≡ true → unsigned_abs z ≤ 100 → is_bad_payout z ≡ false
-good_payout (pos n) e h = or_from (int_lt (pos n) (pos 1)) (int_lt (pos 100) (pos n)) (from_positive (pos n) e) (le-ltb 100 n h)
+good_payout (pos n) e h =
+    or_from (int_lt (pos n) (pos 1)) (int_lt (pos 100) (pos n)) (from_positive (pos n) e)
+    (le-ltb 100 n h)
 good_payout (negsuc n) e h = cc

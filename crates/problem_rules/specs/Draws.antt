@@ -1,5 +1,5 @@
--- Numbers drawn one after another: a state goes on by a linear congruence, and what is drawn is the rest that the new state
--- leaves.
+-- Numbers drawn one after another. A linear congruence gives the next state, and a draw is the
+-- remainder of the new state by a limit.
 use Rattle.std.specs.Prelude.{ℕ, zero, suc, ◌+◌, ◌*◌, ◌%◌}
 
 -- the state before the first draw
@@ -14,6 +14,6 @@ abbrev pub state_after : ℕ → ℕ → ℕ
 state_after zero state = state
 state_after (suc draws) state = next_state (state_after draws state)
 
--- what is drawn after so many other draws, a number below `limit`
+-- the number below `limit` that is drawn after so many other draws
 abbrev pub drawn : ℕ → ℕ → ℕ → ℕ
 drawn draws state limit = next_state (state_after draws state) % limit

@@ -1,7 +1,9 @@
--- A synthesis problem: materials and operating units, numbered from 0 in file order, mutual exclusions and a payout
--- period in years. Prices, bounds, costs and rates are whole millionths. It is the triple of products, raw materials and
--- operating units of Friedler, Tarjan, Huang and Fan (1992), with quantities.
-use Rattle.std.specs.Prelude.{◌-ℤ◌, ℕ, ◌==◌, ℤ, pos, Bool, true, false, ◌||◌, List, [], ◌∷◌, map, slice_index_or}
+-- A synthesis problem: materials and operating units, numbered from 0 in file order, mutual
+-- exclusions, and a payout period in years. Prices, bounds, costs and rates are whole millionths.
+-- It is the triple of products, raw materials and operating units of Friedler, Tarjan, Huang and
+-- Fan (1992), with quantities.
+use Rattle.std.specs.Prelude.{◌-ℤ◌, ℕ, ◌==◌, ℤ, pos, Bool, true, false, ◌||◌, List, [], ◌∷◌, map}
+use Rattle.std.specs.Prelude.{slice_index_or}
 
 pub data Kind : Type 0 where
   raw_material intermediate product : Kind
@@ -13,7 +15,7 @@ pub record Material : Type 0 where
   pub lower : ℤ
   pub upper : ℤ
 
--- a material, by its number, with the rate at which a unit uses or makes it
+-- the number of a material, with the rate at which a unit uses or makes it
 pub record Term : Type 0 where
   pub material : ℕ
   pub rate : ℤ
@@ -29,7 +31,7 @@ pub record OperatingUnit : Type 0 where
   pub inputs : List Term
   pub outputs : List Term
 
--- units, by rising numbers, of which a network has at most one
+-- units, by their rising numbers, of which a network has at most one
 pub record Exclusion : Type 0 where
   pub name : List ℕ
   pub units : List ℕ
@@ -40,7 +42,7 @@ pub record Problem : Type 0 where
   pub exclusions : List Exclusion
   pub payout : ℤ
 
--- what stands for a material, a unit and an exclusion that the problem has not
+-- what is given for the number of a material, a unit or an exclusion that the problem does not have
 abbrev pub no_material : Material
 no_material = record { name = []; kind = intermediate; price = pos 0; lower = pos 0; upper = pos 0 }
 
@@ -89,23 +91,23 @@ unit_names units = map (λ (u : OperatingUnit). u.name) units
 abbrev pub exclusion_names : List Exclusion → List (List ℕ)
 exclusion_names exclusions = map (λ (e : Exclusion). e.name) exclusions
 
--- the material numbers of a list of terms, and its rates
+-- the material numbers of a list of terms, and their rates
 abbrev pub numbers_of : List Term → List ℕ
 numbers_of terms = map (λ (t : Term). t.material) terms
 
 abbrev pub rates_of : List Term → List ℤ
 rates_of terms = map (λ (t : Term). t.rate) terms
 
--- whether the material stands in the list of terms
+-- whether the list of terms has the material
 abbrev pub terms_have : List Term → ℕ → Bool
 terms_have [] x = false
 terms_have (t ∷ ts) x = (t.material == x) || terms_have ts x
 
--- its rate there, 0 where it does not stand
+-- its rate in the list, or 0 if it is not there
 abbrev pub rate_in : List Term → ℕ → ℤ
 rate_in [] x = pos 0
 rate_in (t ∷ ts) x = elim (t.material == x) [ true ↦ t.rate | false ↦ rate_in ts x ]
 
--- the rate at which unit u makes material x, less the rate at which it uses it
+-- the rate at which unit u makes material x, minus the rate at which it uses it
 abbrev pub rate_of : Problem → ℕ → ℕ → ℤ
 rate_of p x u = rate_in (unit_at p u).outputs x -ℤ rate_in (unit_at p u).inputs x

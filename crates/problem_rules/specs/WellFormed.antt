@@ -1,7 +1,10 @@
--- A problem is well formed where each of its materials, operating units and exclusions is, where their names are apart,
--- and where it has a product and a payout period of 1 to 100 years.
-use Rattle.std.specs.Prelude.{◌≡◌, ◌↔◌, ◌<◌, ◌≤◌, ℕ, ◌+◌, true, false, List, [], ◌∷◌, length, ℤ, pos, int_lt, unsigned_abs}
-use Rattle.problem_rules.specs.Problem.{Problem, Material, Term, OperatingUnit, Exclusion, material_names, unit_names, exclusion_names}
+-- A problem is well formed if each of its materials, operating units and exclusions is. No two of
+-- them of one sort have the same name. It has a product and a payout period of 1 to 100 years, and
+-- at most 256 materials, 128 units and 64 exclusions.
+use Rattle.std.specs.Prelude.{◌≡◌, ◌↔◌, ◌<◌, ◌≤◌, ℕ, ◌+◌, true, false, List, [], ◌∷◌, length, ℤ}
+use Rattle.std.specs.Prelude.{pos, int_lt, unsigned_abs}
+use Rattle.problem_rules.specs.Problem.{Problem, Material, Term, OperatingUnit, Exclusion}
+use Rattle.problem_rules.specs.Problem.{material_names, unit_names, exclusion_names}
 use Rattle.problem_rules.specs.Names.{is_name, has_double}
 use Rattle.problem_rules.specs.Each.{Each}
 use Rattle.problem_rules.specs.Validity.{repeats_material, shares_material, has_product, IsValid}
@@ -10,7 +13,7 @@ use Rattle.problem_rules.specs.Validity.{repeats_material, shares_material, has_
 abbrev pub IsInRange : ℤ → Type 0
 IsInRange z = unsigned_abs z ≤ 1000000000000000
 
--- such an amount that is not below 0
+-- an amount in range that is not below 0
 pub record IsBound (z : ℤ) : Type 0 where
   pub in_range : IsInRange z
   pub not_negative : int_lt z (pos 0) ≡ false
@@ -25,19 +28,19 @@ pub record IsWellFormedMaterial (m : Material) : Type 0 where
   pub price_in_range : IsInRange m.price
   pub bounds : AreBounds m.lower m.upper
 
--- a rate above 0 of one of so many materials
+-- a rate above 0, of one of so many materials
 pub record IsWellFormedTerm (materials : ℕ) (t : Term) : Type 0 where
   pub known : t.material < materials
   pub in_range : IsInRange t.rate
   pub positive : int_lt (pos 0) t.rate ≡ true
 
--- one side of a unit: terms, no material twice
+-- one side of a unit: at least one term, and no material twice
 pub record IsWellFormedSide (materials : ℕ) (terms : List Term) : Type 0 where
   pub some : 0 < length terms
   pub terms_formed : Each (IsWellFormedTerm materials) terms
   pub once : repeats_material terms ≡ false
 
--- no material stands on both sides
+-- in addition, no material is on both sides
 pub record IsWellFormedUnit (materials : ℕ) (u : OperatingUnit) : Type 0 where
   pub named : is_name u.name ≡ true
   pub bounds : AreBounds u.lower u.upper
@@ -73,6 +76,6 @@ pub record IsWellFormed (p : Problem) : Type 0 where
   pub payout_positive : int_lt (pos 0) p.payout ≡ true
   pub payout_limit : unsigned_abs p.payout ≤ 100
 
--- a problem is valid exactly where it is well formed
+-- a problem is valid exactly if it is well formed
 abbrev pub ValidIsWellFormed : Type 0
 ValidIsWellFormed = (p : Problem) → IsValid p ↔ IsWellFormed p

@@ -1,5 +1,6 @@
 -- What the walk and the marks say of a ranking.
-use Rattle.std.proofs.Common.{◌≡◌, ℕ, ◌+◌, true, false, List, [], ◌∷◌, length, Result, Ok, Err, OnOk, IfErr, sym, subst, arith}
+use Rattle.std.proofs.Common.{◌≡◌, ℕ, ◌+◌, true, false, List, [], ◌∷◌, length, Result, Ok, Err}
+use Rattle.std.proofs.Common.{OnOk, IfErr, sym, subst, arith}
 use Rattle.std.proofs.lemmas.List.{append-nil}
 use Rattle.problem_rules.specs.Problem.{Problem}
 use Rattle.pns_rules.specs.Shape.{shape_of}
@@ -19,7 +20,8 @@ use Rattle.rank_rules.specs.Marked.{Mark}
 use Rattle.rank_rules.specs.Text.{Text, ranking_of}
 use Rattle.rank_check.specs.Marks.{MarksPass, IsFirstMark, AllMarksPass, MarkIsFault}
 use Rattle.rank_check.specs.Refusals.{PlainPasses, OpenPass, OpenFails}
-use Rattle.rank_check.proofs.MarkLemmas.{marked_passes, marked_fault, mark_fault, pass_to, fault_to, all_before, IsFaultAt}
+use Rattle.rank_check.proofs.MarkLemmas.{marked_passes, marked_fault, mark_fault, pass_to, fault_to}
+use Rattle.rank_check.proofs.MarkLemmas.{all_before, IsFaultAt}
 
 module _ (p : Problem) (t : Text) where
   abbrev Passes : List OpenAt → Type 0
@@ -33,54 +35,89 @@ module _ (p : Problem) (t : Text) where
 
   abbrev Stops : ℕ → Why → Type 0
   Stops k cause =
-      IsFirstFault (shape_of p) (leaves.LeafPasses true p (to_undercut t.count t.networks)) (leaves.LeafFails true p (to_undercut t.count t.networks)) (first_node ∷ []) t.tree k cause
+      IsFirstFault (shape_of p) (leaves.LeafPasses true p (to_undercut t.count t.networks))
+      (leaves.LeafFails true p (to_undercut t.count t.networks)) (first_node ∷ []) t.tree k
+      cause
 
-  pub ranked : (found : List OpenAt) → ArePassing p [] t.networks → PlainPasses p t → found ≡ all_open → Passes found → IsRanked p (ranking_of t)
+  pub ranked : (found : List OpenAt) → ArePassing p [] t.networks → PlainPasses p t
+      → found ≡ all_open → Passes found → IsRanked p (ranking_of t)
   ranked found listed walked is marks = record {
     listed = listed;
-    passes = marked_passes p t.networks (to_undercut t.count t.networks) (first_node ∷ []) t.tree t.marks 0 walked (subst (λ (ls : List OpenAt). Passes ls) is marks);
+    passes =
+        marked_passes p t.networks (to_undercut t.count t.networks) (first_node ∷ []) t.tree t.marks
+        0 walked (subst (λ (ls : List OpenAt). Passes ls) is marks);
   }
 
-  at_fault : (k d : ℕ) (why : RankWhy) → k ≡ 0 + d → IsFaultAt p t.networks (to_undercut t.count t.networks) (first_node ∷ []) t.tree t.marks d why → NodeIsFault false p (ranking_of t) k why
+  at_fault : (k d : ℕ) (why : RankWhy) → k ≡ 0 + d
+      → IsFaultAt p t.networks (to_undercut t.count t.networks) (first_node ∷ []) t.tree t.marks d
+      why → NodeIsFault false p (ranking_of t) k why
   at_fault k d why e f =
       subst (λ (j : ℕ). NodeIsFault false p (ranking_of t) j why) (let q : d ≡ k = omega arith in q)
       (record { cause = f.cause; first = f.first; told = f.told })
 
   -- the walk finishes, and a leaf fails by its mark
-  pub mark_fails : (found : List OpenAt) (k : ℕ) (why : RankWhy) → PlainPasses p t → found ≡ all_open → Fails found k why → NodeIsFault false p (ranking_of t) k why
+  pub mark_fails : (found : List OpenAt) (k : ℕ) (why : RankWhy) → PlainPasses p t
+      → found ≡ all_open → Fails found k why → NodeIsFault false p (ranking_of t) k why
   mark_fails found k why walked is f =
       let end : ℕ = length t.tree in
-      let w = mark_fault p t.networks (to_undercut t.count t.networks) (first_node ∷ []) t.tree t.marks 0 end end k why all_open [] (omega arith)
+      let w =
+      mark_fault p t.networks (to_undercut t.count t.networks) (first_node ∷ []) t.tree t.marks
+      0 end end k why all_open [] (omega arith)
       (pass_to p t.networks (to_undercut t.count t.networks) end (first_node ∷ []) t.tree walked)
-      (sym (append-nil all_open)) (all_before p t.networks (to_undercut t.count t.networks) (first_node ∷ []) t.tree 0 end (omega arith)) tt
+      (sym (append-nil all_open))
+      (all_before p t.networks (to_undercut t.count t.networks) (first_node ∷ []) t.tree 0 end
+      (omega arith)) tt
       (subst (λ (ls : List OpenAt). Fails ls k why) is f) in
       at_fault k w.0 why w.1 w.2
 
   -- the walk stopped at a node, and a leaf before it fails by its mark
-  pub mark_fails_before : (found : List OpenAt) (j k : ℕ) (cause : Why) (why : RankWhy) → Stops j cause → AreThoseBefore (shape_of p) (first_node ∷ []) t.tree j found → Fails found k why → NodeIsFault false p (ranking_of t) k why
+  pub mark_fails_before : (found : List OpenAt) (j k : ℕ) (cause : Why) (why : RankWhy)
+      → Stops j cause → AreThoseBefore (shape_of p) (first_node ∷ []) t.tree j found
+      → Fails found k why → NodeIsFault false p (ranking_of t) k why
   mark_fails_before found j k cause why stops are f =
-      let w = mark_fault p t.networks (to_undercut t.count t.networks) (first_node ∷ []) t.tree t.marks 0 j j k why found are.others (omega arith)
-      (fault_to p t.networks (to_undercut t.count t.networks) j (first_node ∷ []) t.tree cause stops)
+      let w =
+      mark_fault p t.networks (to_undercut t.count t.networks) (first_node ∷ []) t.tree t.marks
+      0 j j k why found are.others (omega arith)
+      (fault_to p t.networks (to_undercut t.count t.networks) j (first_node ∷ []) t.tree cause
+      stops)
       are.all are.before are.behind f in
       at_fault k w.0 why w.1 w.2
 
   -- all leaves before it pass by their marks
-  pub node_fails_first : (found : List OpenAt) (j : ℕ) (cause : Why) → Stops j cause → AreThoseBefore (shape_of p) (first_node ∷ []) t.tree j found → Passes found → NodeIsFault false p (ranking_of t) j (Plain cause)
+  pub node_fails_first : (found : List OpenAt) (j : ℕ) (cause : Why) → Stops j cause
+      → AreThoseBefore (shape_of p) (first_node ∷ []) t.tree j found → Passes found
+      → NodeIsFault false p (ranking_of t) j (Plain cause)
   node_fails_first found j cause stops are marks =
-      let w = marked_fault p t.networks (to_undercut t.count t.networks) (first_node ∷ []) t.tree t.marks 0 j j cause found are.others (omega arith) stops are.all are.behind marks in
+      let w =
+      marked_fault p t.networks (to_undercut t.count t.networks) (first_node ∷ []) t.tree
+      t.marks 0 j j cause found are.others (omega arith) stops are.all are.behind marks in
       record { cause = cause; first = w.0; told = w.1 }
 
 -- ---- the marks of the text
 
-module _ {A : Type 0} (p : Problem) (t : Text) (ls : List OpenAt) (ws : List Network) (ms : List Mark) (ws_are : ws ≡ t.networks) (ms_are : ms ≡ t.marks) where
-  pub pass_as : (r : Result A (ℕ × RankWhy)) → OnOk r (AllMarksPass p ws ls ms) → OnOk r (OpenPass p t ls)
+module _ {A : Type 0} (p : Problem) (t : Text) (ls : List OpenAt) (ws : List Network)
+    (ms : List Mark) (ws_are : ws ≡ t.networks) (ms_are : ms ≡ t.marks) where
+  pub pass_as : (r : Result A (ℕ × RankWhy)) → OnOk r (AllMarksPass p ws ls ms)
+      → OnOk r (OpenPass p t ls)
   pass_as (Ok x) h =
-      subst (λ (vs : List Network). MarksPass (LeafPasses false p vs (to_undercut t.count t.networks)) ls t.marks) ws_are
-      (subst (λ (ns : List Mark). MarksPass (LeafPasses false p ws (to_undercut t.count t.networks)) ls ns) ms_are (h (to_undercut t.count t.networks)))
+      subst
+      (λ (vs : List Network). MarksPass (LeafPasses false p vs (to_undercut t.count t.networks))
+      ls t.marks) ws_are
+      (subst
+      (λ (ns : List Mark). MarksPass (LeafPasses false p ws (to_undercut t.count t.networks)) ls
+      ns) ms_are (h (to_undercut t.count t.networks)))
   pass_as (Err e) h = tt
 
-  pub fail_as : (r : Result A (ℕ × RankWhy)) → IfErr r (λ found. MarkIsFault p ws ls ms found.0 found.1) → IfErr r (λ found. OpenFails p t ls found.0 found.1)
+  pub fail_as : (r : Result A (ℕ × RankWhy))
+      → IfErr r (λ found. MarkIsFault p ws ls ms found.0 found.1)
+      → IfErr r (λ found. OpenFails p t ls found.0 found.1)
   fail_as (Ok x) h = tt
   fail_as (Err e) h =
-      subst (λ (vs : List Network). IsFirstMark (LeafPasses false p vs (to_undercut t.count t.networks)) (LeafFails false p vs (to_undercut t.count t.networks)) ls t.marks e.0 e.1) ws_are
-      (subst (λ (ns : List Mark). IsFirstMark (LeafPasses false p ws (to_undercut t.count t.networks)) (LeafFails false p ws (to_undercut t.count t.networks)) ls ns e.0 e.1) ms_are (h (to_undercut t.count t.networks)))
+      subst
+      (λ (vs : List Network). IsFirstMark
+      (LeafPasses false p vs (to_undercut t.count t.networks))
+      (LeafFails false p vs (to_undercut t.count t.networks)) ls t.marks e.0 e.1) ws_are
+      (subst
+      (λ (ns : List Mark). IsFirstMark (LeafPasses false p ws (to_undercut t.count t.networks))
+      (LeafFails false p ws (to_undercut t.count t.networks)) ls ns e.0 e.1) ms_are
+      (h (to_undercut t.count t.networks)))

@@ -1,6 +1,7 @@
 -- A tree with open leaves, which are judged by their marks, passes or has its first fault as a
 -- ranked tree does.
-use Rattle.std.proofs.Common.{◌≡◌, ◌⊎◌, ℕ, zero, suc, ◌+◌, ◌<◌, ◌≤◌, true, false, List, [], ◌∷◌, ◌++◌, length, Option, refl, sym, ap, ◌∙◌, subst, inl, inr, arith}
+use Rattle.std.proofs.Common.{◌≡◌, ◌⊎◌, ℕ, zero, suc, ◌+◌, ◌<◌, ◌≤◌, true, false, List, [], ◌∷◌}
+use Rattle.std.proofs.Common.{◌++◌, length, Option, refl, sym, ap, ◌∙◌, subst, inl, inr, arith}
 use Rattle.problem_rules.specs.Problem.{Problem}
 use Rattle.pns_rules.specs.Shape.{Shape, shape_of}
 use Rattle.pns_rules.specs.Nodes.{Node}
@@ -8,7 +9,8 @@ use Rattle.tree_rules.specs.declared.why.Why.{Why}
 use Rattle.tree_rules.specs.declared.why.Why.TheVariants as causes
 use Rattle.tree_rules.specs.Ways.{width, MayBranch, options_at}
 use Rattle.tree_rules.specs.Tree as trees
-use Rattle.tree_rules.specs.Tree.{End, branch, leaf, TreeNode, StepsPass, after_all, below, EndPasses, Pass}
+use Rattle.tree_rules.specs.Tree.{End, branch, leaf, TreeNode, StepsPass, after_all, below}
+use Rattle.tree_rules.specs.Tree.{EndPasses, Pass}
 use Rattle.tree_rules.specs.Fault.{Fails, EndFails, NodeFails, IsFirstFault}
 use Rattle.tree_rules.specs.Claim.{Network, CostOver}
 use Rattle.tree_rules.specs.Leaf as leaves
@@ -25,7 +27,8 @@ use Rattle.rank_check.specs.Marks.{MarksPass, IsFirstMark}
 
 -- ---- the form of the tree stays
 
-children_same : (ms : List Mark) (e : End leaves.Leaf) → trees.children (marked_end ms e) ≡ trees.children e
+children_same : (ms : List Mark) (e : End leaves.Leaf)
+    → trees.children (marked_end ms e) ≡ trees.children e
 children_same ms (branch w) = refl
 children_same ms (leaf (leaves.dead x)) = refl
 children_same ms (leaf (leaves.clash k)) = refl
@@ -33,7 +36,8 @@ children_same ms (leaf (leaves.refuted ys)) = refl
 children_same ms (leaf (leaves.bounded d ys)) = refl
 children_same ms (leaf leaves.untried) = refl
 
-pub below_same : (g : Shape) (n : Node) (ms : List Mark) (e : End leaves.Leaf) → below g n (marked_end ms e) ≡ below g n e
+pub below_same : (g : Shape) (n : Node) (ms : List Mark) (e : End leaves.Leaf)
+    → below g n (marked_end ms e) ≡ below g n e
 below_same g n ms (branch w) = refl
 below_same g n ms (leaf (leaves.dead x)) = refl
 below_same g n ms (leaf (leaves.clash k)) = refl
@@ -41,14 +45,19 @@ below_same g n ms (leaf (leaves.refuted ys)) = refl
 below_same g n ms (leaf (leaves.bounded d ys)) = refl
 below_same g n ms (leaf leaves.untried) = refl
 
-skip_marked : (k : ℕ) (ms : List Mark) (ts : plain_trees.Tree) → (rest : List Mark) × (trees.skip k (marked ms ts) ≡ marked rest (trees.skip k ts))
+skip_marked : (k : ℕ) (ms : List Mark) (ts : plain_trees.Tree) → (rest : List Mark)
+    × (trees.skip k (marked ms ts) ≡ marked rest (trees.skip k ts))
 skip_marked zero ms ts = (ms, refl)
 skip_marked (suc k) ms [] = (ms, refl)
 skip_marked (suc k) ms (t ∷ ts) =
-    let q = skip_marked (trees.children t.end + k) (marks_behind ms t.end) ts in
-    (q.0, ap (λ (c : ℕ). trees.skip (c + k) (marked (marks_behind ms t.end) ts)) (children_same ms t.end) ∙ q.1)
+    let q = skip_marked (trees.children t.end + k) (marks_behind ms t.end) ts in (
+      q.0,
+      ap (λ (c : ℕ). trees.skip (c + k) (marked (marks_behind ms t.end) ts))
+          (children_same ms t.end) ∙ q.1,
+    )
 
-pub roots_marked : (k : ℕ) (ms : List Mark) (ts : plain_trees.Tree) → trees.roots k (marked ms ts) ≡ trees.roots k ts
+pub roots_marked : (k : ℕ) (ms : List Mark) (ts : plain_trees.Tree)
+    → trees.roots k (marked ms ts) ≡ trees.roots k ts
 roots_marked zero ms ts = refl
 roots_marked (suc k) ms [] = refl
 roots_marked (suc k) ms (t ∷ ts) =
@@ -67,9 +76,12 @@ same_rest l m ls ks e = cc
 not_none : (m : OpenAt) (ks : List OpenAt) → [] ≡ (m ∷ ks) → ⊥
 not_none m ks e = absurd cc
 
-first_before : (k : ℕ) (ls found others : List OpenAt) (l : OpenAt) (rest : List OpenAt) → ls ≡ found ++ others → found ≡ l ∷ rest → NoneBefore k ls → AllBefore k found → ⊥
+first_before : (k : ℕ) (ls found others : List OpenAt) (l : OpenAt) (rest : List OpenAt)
+    → ls ≡ found ++ others → found ≡ l ∷ rest → NoneBefore k ls → AllBefore k found → ⊥
 first_before k ls found others l rest e is none all =
-    let h : NoneBefore k (l ∷ rest ++ others) = subst (λ (xs : List OpenAt). NoneBefore k xs) (e ∙ ap (λ (xs : List OpenAt). xs ++ others) is) none in
+    let h : NoneBefore k (l ∷ rest ++ others) =
+    subst (λ (xs : List OpenAt). NoneBefore k xs)
+    (e ∙ ap (λ (xs : List OpenAt). xs ++ others) is) none in
     let j : AllBefore k (l ∷ rest) = subst (λ (xs : List OpenAt). AllBefore k xs) is all in
     let low : k ≤ l.number = h.0 in
     let high : l.number < k = j.0 in
@@ -97,7 +109,9 @@ module _ (p : Problem) (ws : List Network) (undercut : Option CostOver) where
   HerePasses ms n (leaf (leaves.bounded d ys)) = Unit {0}
   HerePasses ms n (leaf leaves.untried) = P' n (marked_leaf (first_mark ms))
 
-  end_passes : (ms : List Mark) (n : Node) (e : End leaves.Leaf) (ts : plain_trees.Tree) → EndPasses (shape_of p) P n e ts → HerePasses ms n e → EndPasses (shape_of p) P' n (marked_end ms e) (marked (marks_behind ms e) ts)
+  end_passes : (ms : List Mark) (n : Node) (e : End leaves.Leaf) (ts : plain_trees.Tree)
+      → EndPasses (shape_of p) P n e ts → HerePasses ms n e
+      → EndPasses (shape_of p) P' n (marked_end ms e) (marked (marks_behind ms e) ts)
   end_passes ms n (branch w) ts h here = (h.0, roots_marked (width w) ms ts ∙ h.1)
   end_passes ms n (leaf (leaves.dead x)) ts h here = h
   end_passes ms n (leaf (leaves.clash k)) ts h here = h
@@ -106,10 +120,17 @@ module _ (p : Problem) (ws : List Network) (undercut : Option CostOver) where
   end_passes ms n (leaf leaves.untried) ts h here = here
 
   -- an open leaf does not fail if leaves may be open
-  end_fails : (ms : List Mark) (n : Node) (e : End leaves.Leaf) (ts : plain_trees.Tree) (why : Why) → EndFails (shape_of p) F n e ts why
-      → EndFails (shape_of p) F' n (marked_end ms e) (marked (marks_behind ms e) ts) why × IsTold (marked_end ms e) why (Plain why)
-  end_fails ms n (branch w) ts why h =
-      (subst (λ (os : List (List ℕ)). Fails (MayBranch (shape_of p) n w × (os ≡ options_at (shape_of p) n w)) causes.Options ⊥ why) (sym (roots_marked (width w) ms ts)) h, refl)
+  end_fails : (ms : List Mark) (n : Node) (e : End leaves.Leaf) (ts : plain_trees.Tree) (why : Why)
+      → EndFails (shape_of p) F n e ts why
+      → EndFails (shape_of p) F' n (marked_end ms e) (marked (marks_behind ms e) ts) why
+      × IsTold (marked_end ms e) why (Plain why)
+  end_fails ms n (branch w) ts why h = (
+    subst
+        (λ (os : List (List ℕ)). Fails
+        (MayBranch (shape_of p) n w × (os ≡ options_at (shape_of p) n w)) causes.Options ⊥ why)
+        (sym (roots_marked (width w) ms ts)) h,
+    refl,
+  )
   end_fails ms n (leaf (leaves.dead x)) ts why h = (h, refl)
   end_fails ms n (leaf (leaves.clash k)) ts why h = (h, refl)
   end_fails ms n (leaf (leaves.refuted ys)) ts why h = (h, refl)
@@ -121,10 +142,14 @@ module _ (p : Problem) (ws : List Network) (undercut : Option CostOver) where
   step_told : (e : End Leaf) (why : Why) → why ≡ causes.Step → IsTold e why (Plain why)
   step_told (branch w) why s = refl
   step_told (leaf (plain l)) why s = refl
-  step_told (leaf (named k d ys)) why s = inr ((λ b. absurd (let q : causes.Step ≡ causes.Bound = sym s ∙ b in cc)), refl)
+  step_told (leaf (named k d ys)) why s =
+      inr ((λ b. absurd (let q : causes.Step ≡ causes.Bound = sym s ∙ b in cc)), refl)
 
-  node_fails : (ms : List Mark) (n : Node) (t : TreeNode leaves.Leaf) (ts : plain_trees.Tree) (why : Why) → NodeFails (shape_of p) F n t ts why
-      → NodeFails (shape_of p) F' n (record { option = t.option; steps = t.steps; end = marked_end ms t.end }) (marked (marks_behind ms t.end) ts) why
+  node_fails : (ms : List Mark) (n : Node) (t : TreeNode leaves.Leaf) (ts : plain_trees.Tree)
+      (why : Why) → NodeFails (shape_of p) F n t ts why
+      → NodeFails (shape_of p) F' n
+      (record { option = t.option; steps = t.steps; end = marked_end ms t.end })
+      (marked (marks_behind ms t.end) ts) why
       × IsTold (marked_end ms t.end) why (Plain why)
   node_fails ms n t ts why (inl h) = (inl h, step_told (marked_end ms t.end) why h.0)
   node_fails ms n t ts why (inr h) =
@@ -133,7 +158,9 @@ module _ (p : Problem) (ws : List Network) (undercut : Option CostOver) where
 
   -- ---- all pass
 
-  here_and_rest : (ms : List Mark) (i : ℕ) (n : Node) (e : End leaves.Leaf) (ls : List OpenAt) → MarksPass P' (open_here i n e ++ ls) ms → HerePasses ms n e × MarksPass P' ls (marks_behind ms e)
+  here_and_rest : (ms : List Mark) (i : ℕ) (n : Node) (e : End leaves.Leaf) (ls : List OpenAt)
+      → MarksPass P' (open_here i n e ++ ls) ms → HerePasses ms n e
+      × MarksPass P' ls (marks_behind ms e)
   here_and_rest ms i n (branch w) ls h = (tt, h)
   here_and_rest ms i n (leaf (leaves.dead x)) ls h = (tt, h)
   here_and_rest ms i n (leaf (leaves.clash k)) ls h = (tt, h)
@@ -141,22 +168,30 @@ module _ (p : Problem) (ws : List Network) (undercut : Option CostOver) where
   here_and_rest ms i n (leaf (leaves.bounded d ys)) ls h = (tt, h)
   here_and_rest ms i n (leaf leaves.untried) ls h = h
 
-  pub marked_passes : (ns : List Node) (ts : plain_trees.Tree) (ms : List Mark) (i : ℕ) → Pass (shape_of p) P ns ts → MarksPass P' (open_leaves (shape_of p) ns ts i) ms → Pass (shape_of p) P' ns (marked ms ts)
+  pub marked_passes : (ns : List Node) (ts : plain_trees.Tree) (ms : List Mark) (i : ℕ)
+      → Pass (shape_of p) P ns ts → MarksPass P' (open_leaves (shape_of p) ns ts i) ms
+      → Pass (shape_of p) P' ns (marked ms ts)
   marked_passes [] [] ms i h m = tt
   marked_passes [] (t ∷ ts) ms i h m = absurd h
   marked_passes (n ∷ ns) [] ms i h m = absurd h
   marked_passes (n ∷ ns) (t ∷ ts) ms i h m =
       let o : Node = after_all (shape_of p) n t.steps in
-      let q = here_and_rest ms i o t.end (open_leaves (shape_of p) (below (shape_of p) o t.end ++ ns) ts (i + 1)) m in (
+      let q =
+      here_and_rest ms i o t.end
+      (open_leaves (shape_of p) (below (shape_of p) o t.end ++ ns) ts (i + 1)) m in (
         h.0,
         end_passes ms o t.end ts h.1 q.0,
-        subst (λ (os : List Node). Pass (shape_of p) P' (os ++ ns) (marked (marks_behind ms t.end) ts)) (sym (below_same (shape_of p) o ms t.end))
-            (marked_passes (below (shape_of p) o t.end ++ ns) ts (marks_behind ms t.end) (i + 1) h.2 q.1),
+        subst
+            (λ (os : List Node). Pass (shape_of p) P' (os ++ ns)
+            (marked (marks_behind ms t.end) ts)) (sym (below_same (shape_of p) o ms t.end))
+            (marked_passes (below (shape_of p) o t.end ++ ns) ts (marks_behind ms t.end) (i + 1) h.2
+            q.1),
       )
 
   -- ---- all numbers
 
-  here_before : (i l : ℕ) (n : Node) (e : End leaves.Leaf) (ls : List OpenAt) → i < l → AllBefore l ls → AllBefore l (open_here i n e ++ ls)
+  here_before : (i l : ℕ) (n : Node) (e : End leaves.Leaf) (ls : List OpenAt) → i < l
+      → AllBefore l ls → AllBefore l (open_here i n e ++ ls)
   here_before i l n (branch w) ls lt h = h
   here_before i l n (leaf (leaves.dead x)) ls lt h = h
   here_before i l n (leaf (leaves.clash x)) ls lt h = h
@@ -165,54 +200,80 @@ module _ (p : Problem) (ws : List Network) (undercut : Option CostOver) where
   here_before i l n (leaf leaves.untried) ls lt h = (lt, h)
 
   -- the nodes of all open leaves are before the end of the list
-  pub all_before : (ns : List Node) (ts : plain_trees.Tree) (i l : ℕ) → l ≡ i + length ts → AllBefore l (open_leaves (shape_of p) ns ts i)
+  pub all_before : (ns : List Node) (ts : plain_trees.Tree) (i l : ℕ) → l ≡ i + length ts
+      → AllBefore l (open_leaves (shape_of p) ns ts i)
   all_before [] ts i l e = tt
   all_before (n ∷ ns) [] i l e = tt
   all_before (n ∷ ns) (t ∷ ts) i l e =
       let o : Node = after_all (shape_of p) n t.steps in
-      here_before i l o t.end (open_leaves (shape_of p) (below (shape_of p) o t.end ++ ns) ts (i + 1)) (omega arith) (all_before (below (shape_of p) o t.end ++ ns) ts (i + 1) l (omega arith))
+      here_before i l o t.end
+      (open_leaves (shape_of p) (below (shape_of p) o t.end ++ ns) ts (i + 1)) (omega arith)
+      (all_before (below (shape_of p) o t.end ++ ns) ts (i + 1) l (omega arith))
 
   -- ---- the open leaves before a node
 
-  pub record IsParted (i : ℕ) (n : Node) (e : End leaves.Leaf) (ls found others : List OpenAt) : Type 0 where
+  pub record IsParted (i : ℕ) (n : Node) (e : End leaves.Leaf)
+      (ls found others : List OpenAt) : Type 0 where
     pub rest : List OpenAt
     pub is : found ≡ open_here i n e ++ rest
     pub all : ls ≡ rest ++ others
 
   -- those that were found begin with the one of this node, if it has one
-  part : (i k : ℕ) (n : Node) (e : End leaves.Leaf) (ls found others : List OpenAt) → i < k → open_here i n e ++ ls ≡ found ++ others → NoneBefore k others → IsParted i n e ls found others
+  part : (i k : ℕ) (n : Node) (e : End leaves.Leaf) (ls found others : List OpenAt) → i < k
+      → open_here i n e ++ ls ≡ found ++ others → NoneBefore k others
+      → IsParted i n e ls found others
   part i k n (branch w) ls found others lt h none = record { rest = found; is = refl; all = h }
-  part i k n (leaf (leaves.dead x)) ls found others lt h none = record { rest = found; is = refl; all = h }
-  part i k n (leaf (leaves.clash x)) ls found others lt h none = record { rest = found; is = refl; all = h }
-  part i k n (leaf (leaves.refuted ys)) ls found others lt h none = record { rest = found; is = refl; all = h }
-  part i k n (leaf (leaves.bounded d ys)) ls found others lt h none = record { rest = found; is = refl; all = h }
+  part i k n (leaf (leaves.dead x)) ls found others lt h none =
+      record { rest = found; is = refl; all = h }
+  part i k n (leaf (leaves.clash x)) ls found others lt h none =
+      record { rest = found; is = refl; all = h }
+  part i k n (leaf (leaves.refuted ys)) ls found others lt h none =
+      record { rest = found; is = refl; all = h }
+  part i k n (leaf (leaves.bounded d ys)) ls found others lt h none =
+      record { rest = found; is = refl; all = h }
   part i k n (leaf leaves.untried) ls (l ∷ rest) others lt h none = record {
     rest = rest;
-    is = ap (λ (x : OpenAt). x ∷ rest) (sym (same_head (record { number = i; node = n }) l ls (rest ++ others) h));
+    is =
+        ap (λ (x : OpenAt). x ∷ rest)
+        (sym (same_head (record { number = i; node = n }) l ls (rest ++ others) h));
     all = same_rest (record { number = i; node = n }) l ls (rest ++ others) h;
   }
   part i k n (leaf leaves.untried) ls [] others lt h none =
-      let q : NoneBefore k (record { number = i; node = n } ∷ ls) = subst (λ (xs : List OpenAt). NoneBefore k xs) (sym h) none in
+      let q : NoneBefore k (record { number = i; node = n } ∷ ls) =
+      subst (λ (xs : List OpenAt). NoneBefore k xs) (sym h) none in
       let low : k ≤ i = q.0 in
       absurd (omega arith)
 
   -- if the leaves before a node pass by their marks, the node is the first that fails
-  pub marked_fault : (ns : List Node) (ts : plain_trees.Tree) (ms : List Mark) (i j k : ℕ) (why : Why) (found others : List OpenAt)
-      → k ≡ i + j → IsFirstFault (shape_of p) P F ns ts j why → open_leaves (shape_of p) ns ts i ≡ found ++ others → NoneBefore k others → MarksPass P' found ms
-      → IsFirstFault (shape_of p) P' F' ns (marked ms ts) j why × IsToldAt (marked ms ts) j why (Plain why)
+  pub marked_fault : (ns : List Node) (ts : plain_trees.Tree) (ms : List Mark) (i j k : ℕ)
+      (why : Why) (found others : List OpenAt)
+      → k ≡ i + j → IsFirstFault (shape_of p) P F ns ts j why
+      → open_leaves (shape_of p) ns ts i ≡ found ++ others → NoneBefore k others
+      → MarksPass P' found ms
+      → IsFirstFault (shape_of p) P' F' ns (marked ms ts) j why
+      × IsToldAt (marked ms ts) j why (Plain why)
   marked_fault [] ts ms i j k why found others e f h none m = absurd f
   marked_fault (n ∷ ns) [] ms i j k why found others e f h none m = absurd f
-  marked_fault (n ∷ ns) (t ∷ ts) ms i zero k why found others e f h none m = node_fails ms n t ts why f
+  marked_fault (n ∷ ns) (t ∷ ts) ms i zero k why found others e f h none m =
+      node_fails ms n t ts why f
   marked_fault (n ∷ ns) (t ∷ ts) ms i (suc j) k why found others e f h none m =
       let o : Node = after_all (shape_of p) n t.steps in
-      let ls : List OpenAt = open_leaves (shape_of p) (below (shape_of p) o t.end ++ ns) ts (i + 1) in
+      let ls : List OpenAt =
+      open_leaves (shape_of p) (below (shape_of p) o t.end ++ ns) ts (i + 1) in
       let w = part i k o t.end ls found others (omega arith) h none in
-      let q = here_and_rest ms i o t.end w.rest (subst (λ (xs : List OpenAt). MarksPass P' xs ms) w.is m) in
-      let r = marked_fault (below (shape_of p) o t.end ++ ns) ts (marks_behind ms t.end) (i + 1) j k why w.rest others (omega arith) f.2 w.all none q.1 in (
+      let q =
+      here_and_rest ms i o t.end w.rest
+      (subst (λ (xs : List OpenAt). MarksPass P' xs ms) w.is m) in
+      let r =
+      marked_fault (below (shape_of p) o t.end ++ ns) ts (marks_behind ms t.end) (i + 1) j k why
+      w.rest others (omega arith) f.2 w.all none q.1 in (
         (
           f.0,
           end_passes ms o t.end ts f.1 q.0,
-          subst (λ (os : List Node). IsFirstFault (shape_of p) P' F' (os ++ ns) (marked (marks_behind ms t.end) ts) j why) (sym (below_same (shape_of p) o ms t.end)) r.0,
+          subst
+              (λ (os : List Node). IsFirstFault (shape_of p) P' F' (os ++ ns)
+              (marked (marks_behind ms t.end) ts) j why) (sym (below_same (shape_of p) o ms t.end))
+              r.0,
         ),
         r.1,
       )
@@ -229,27 +290,42 @@ module _ (p : Problem) (ws : List Network) (undercut : Option CostOver) where
       × EndPasses (shape_of p) P (after_all (shape_of p) n t.steps) t.end ts
       × PassTo j (below (shape_of p) (after_all (shape_of p) n t.steps) t.end ++ ns) ts
 
-  pub pass_to : (j : ℕ) (ns : List Node) (ts : plain_trees.Tree) → Pass (shape_of p) P ns ts → PassTo j ns ts
+  pub pass_to : (j : ℕ) (ns : List Node) (ts : plain_trees.Tree) → Pass (shape_of p) P ns ts
+      → PassTo j ns ts
   pass_to zero ns ts h = tt
   pass_to (suc j) [] ts h = tt
   pass_to (suc j) (n ∷ ns) [] h = tt
-  pass_to (suc j) (n ∷ ns) (t ∷ ts) h = (h.0, h.1, pass_to j (below (shape_of p) (after_all (shape_of p) n t.steps) t.end ++ ns) ts h.2)
+  pass_to (suc j) (n ∷ ns) (t ∷ ts) h = (
+    h.0,
+    h.1,
+    pass_to j (below (shape_of p) (after_all (shape_of p) n t.steps) t.end ++ ns) ts h.2,
+  )
 
-  pub fault_to : (j : ℕ) (ns : List Node) (ts : plain_trees.Tree) (why : Why) → IsFirstFault (shape_of p) P F ns ts j why → PassTo j ns ts
+  pub fault_to : (j : ℕ) (ns : List Node) (ts : plain_trees.Tree) (why : Why)
+      → IsFirstFault (shape_of p) P F ns ts j why → PassTo j ns ts
   fault_to zero ns ts why h = tt
   fault_to (suc j) [] ts why h = tt
   fault_to (suc j) (n ∷ ns) [] why h = tt
-  fault_to (suc j) (n ∷ ns) (t ∷ ts) why h = (h.0, h.1, fault_to j (below (shape_of p) (after_all (shape_of p) n t.steps) t.end ++ ns) ts why h.2)
+  fault_to (suc j) (n ∷ ns) (t ∷ ts) why h = (
+    h.0,
+    h.1,
+    fault_to j (below (shape_of p) (after_all (shape_of p) n t.steps) t.end ++ ns) ts why h.2,
+  )
 
   -- node d of the ranked tree is the first that fails, and this is the cause that is given
-  pub record IsFaultAt (ns : List Node) (ts : plain_trees.Tree) (ms : List Mark) (d : ℕ) (why : RankWhy) : Type 0 where
+  pub record IsFaultAt (ns : List Node) (ts : plain_trees.Tree) (ms : List Mark) (d : ℕ)
+      (why : RankWhy) : Type 0 where
     pub cause : Why
     pub first : IsFirstFault (shape_of p) P' F' ns (marked ms ts) d cause
     pub told : IsToldAt (marked ms ts) d cause why
 
   -- the mark of this node fails, or it passes and one after it fails
-  here_or_rest : (ms : List Mark) (i k : ℕ) (n : Node) (e : End leaves.Leaf) (ts : plain_trees.Tree) (ls : List OpenAt) (why : RankWhy) → IsFirstMark P' F' (open_here i n e ++ ls) ms k why
-      → ((i ≡ k) × ((cause : Why) × EndFails (shape_of p) F' n (marked_end ms e) (marked (marks_behind ms e) ts) cause × IsTold (marked_end ms e) cause why))
+  here_or_rest : (ms : List Mark) (i k : ℕ) (n : Node) (e : End leaves.Leaf) (ts : plain_trees.Tree)
+      (ls : List OpenAt) (why : RankWhy) → IsFirstMark P' F' (open_here i n e ++ ls) ms k why
+      → ((i ≡ k)
+      × ((cause : Why)
+      × EndFails (shape_of p) F' n (marked_end ms e) (marked (marks_behind ms e) ts) cause
+      × IsTold (marked_end ms e) cause why))
       ⊎ (HerePasses ms n e × IsFirstMark P' F' ls (marks_behind ms e) k why)
   here_or_rest ms i k n (branch w) ts ls why h = inr (tt, h)
   here_or_rest ms i k n (leaf (leaves.dead x)) ts ls why h = inr (tt, h)
@@ -259,7 +335,8 @@ module _ (p : Problem) (ws : List Network) (undercut : Option CostOver) where
   here_or_rest ms i k n (leaf leaves.untried) ts ls why (inl h) = inl (h.0, h.1)
   here_or_rest ms i k n (leaf leaves.untried) ts ls why (inr h) = inr h
 
-  rest_before : (i l : ℕ) (n : Node) (e : End leaves.Leaf) (ls : List OpenAt) → AllBefore l (open_here i n e ++ ls) → AllBefore l ls
+  rest_before : (i l : ℕ) (n : Node) (e : End leaves.Leaf) (ls : List OpenAt)
+      → AllBefore l (open_here i n e ++ ls) → AllBefore l ls
   rest_before i l n (branch w) ls h = h
   rest_before i l n (leaf (leaves.dead x)) ls h = h
   rest_before i l n (leaf (leaves.clash x)) ls h = h
@@ -267,24 +344,42 @@ module _ (p : Problem) (ws : List Network) (undercut : Option CostOver) where
   rest_before i l n (leaf (leaves.bounded d ys)) ls h = h
   rest_before i l n (leaf leaves.untried) ls h = h.1
 
-  pub mark_fault : (ns : List Node) (ts : plain_trees.Tree) (ms : List Mark) (i j l k : ℕ) (why : RankWhy) (found others : List OpenAt)
-      → l ≡ i + j → PassTo j ns ts → open_leaves (shape_of p) ns ts i ≡ found ++ others → AllBefore l found → NoneBefore l others → IsFirstMark P' F' found ms k why
+  pub mark_fault : (ns : List Node) (ts : plain_trees.Tree) (ms : List Mark) (i j l k : ℕ)
+      (why : RankWhy) (found others : List OpenAt)
+      → l ≡ i + j → PassTo j ns ts → open_leaves (shape_of p) ns ts i ≡ found ++ others
+      → AllBefore l found → NoneBefore l others → IsFirstMark P' F' found ms k why
       → (d : ℕ) × (k ≡ i + d) × IsFaultAt ns ts ms d why
   mark_fault ns ts ms i j l k why [] others e go h all none f = absurd f
-  mark_fault [] ts ms i j l k why (x ∷ xs) others e go h all none f = absurd (not_none x (xs ++ others) h)
-  mark_fault (n ∷ ns) [] ms i j l k why (x ∷ xs) others e go h all none f = absurd (not_none x (xs ++ others) h)
+  mark_fault [] ts ms i j l k why (x ∷ xs) others e go h all none f =
+      absurd (not_none x (xs ++ others) h)
+  mark_fault (n ∷ ns) [] ms i j l k why (x ∷ xs) others e go h all none f =
+      absurd (not_none x (xs ++ others) h)
   mark_fault (n ∷ ns) (t ∷ ts) ms i zero l k why (x ∷ xs) others e go h all none f =
-      absurd (first_before l (open_leaves (shape_of p) (n ∷ ns) (t ∷ ts) i) (x ∷ xs) others x xs h refl
-      (subst (λ (c : ℕ). NoneBefore c (open_leaves (shape_of p) (n ∷ ns) (t ∷ ts) i)) (let q : i ≡ l = omega arith in q) (none_before (shape_of p) (n ∷ ns) (t ∷ ts) i)) all)
+      absurd
+      (first_before l (open_leaves (shape_of p) (n ∷ ns) (t ∷ ts) i) (x ∷ xs) others x xs h refl
+      (subst (λ (c : ℕ). NoneBefore c (open_leaves (shape_of p) (n ∷ ns) (t ∷ ts) i))
+      (let q : i ≡ l = omega arith in q) (none_before (shape_of p) (n ∷ ns) (t ∷ ts) i)) all)
   mark_fault (n ∷ ns) (t ∷ ts) ms i (suc j) l k why (x ∷ xs) others e go h all none f =
       let o : Node = after_all (shape_of p) n t.steps in
-      let ls : List OpenAt = open_leaves (shape_of p) (below (shape_of p) o t.end ++ ns) ts (i + 1) in
+      let ls : List OpenAt =
+      open_leaves (shape_of p) (below (shape_of p) o t.end ++ ns) ts (i + 1) in
       let w = part i l o t.end ls (x ∷ xs) others (omega arith) h none in
-      elim (here_or_rest ms i k o t.end ts w.rest why (subst (λ (ys : List OpenAt). IsFirstMark P' F' ys ms k why) w.is f)) [
-        | inl q ↦ (zero, (let same = q.0 in let z : k ≡ i + 0 = omega arith in z), record { cause = q.1.0; first = inr (go.0, q.1.1); told = q.1.2 })
+      elim
+      (here_or_rest ms i k o t.end ts w.rest why
+      (subst (λ (ys : List OpenAt). IsFirstMark P' F' ys ms k why) w.is f)) [
+        | inl q
+            ↦ (
+              zero,
+              (let same = q.0 in let z : k ≡ i + 0 = omega arith in z),
+              record { cause = q.1.0; first = inr (go.0, q.1.1); told = q.1.2 },
+            )
         | inr q ↦
-            let before = rest_before i l o t.end w.rest (subst (λ (ys : List OpenAt). AllBefore l ys) w.is all) in
-            let r = mark_fault (below (shape_of p) o t.end ++ ns) ts (marks_behind ms t.end) (i + 1) j l k why w.rest others (omega arith) go.2 w.all before none q.1 in (
+            let before =
+            rest_before i l o t.end w.rest
+            (subst (λ (ys : List OpenAt). AllBefore l ys) w.is all) in
+            let r =
+            mark_fault (below (shape_of p) o t.end ++ ns) ts (marks_behind ms t.end) (i + 1) j l
+            k why w.rest others (omega arith) go.2 w.all before none q.1 in (
               suc r.0,
               (let same = r.1 in let z : k ≡ i + suc r.0 = omega arith in z),
               record {
@@ -292,7 +387,10 @@ module _ (p : Problem) (ws : List Network) (undercut : Option CostOver) where
                 first = (
                   go.0,
                   end_passes ms o t.end ts go.1 q.0,
-                  subst (λ (os : List Node). IsFirstFault (shape_of p) P' F' (os ++ ns) (marked (marks_behind ms t.end) ts) r.0 r.2.cause) (sym (below_same (shape_of p) o ms t.end)) r.2.first,
+                  subst
+                      (λ (os : List Node). IsFirstFault (shape_of p) P' F' (os ++ ns)
+                      (marked (marks_behind ms t.end) ts) r.0 r.2.cause)
+                      (sym (below_same (shape_of p) o ms t.end)) r.2.first,
                 );
                 told = r.2.told;
               },

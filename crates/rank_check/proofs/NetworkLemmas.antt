@@ -1,55 +1,89 @@
 -- The networks in turn: which come before a place, and what is known if those pass.
-use Rattle.std.proofs.Common.{◌≡◌, ◌↔◌, ℕ, zero, suc, ◌+◌, ◌-◌, ◌<◌, ◌≤◌, Bool, true, false, ◌&&◌, List, [], ◌∷◌, length, drop, get_or, refl, sym, ap, ◌∙◌, subst, arith, IsTrue, ◌==◌, cond, Option, Some, None, ℤ, ◌*ℤ◌, ◌≤ℤ◌}
+use Rattle.std.proofs.Common.{◌≡◌, ◌↔◌, ℕ, zero, suc, ◌+◌, ◌-◌, ◌<◌, ◌≤◌, Bool, true, false, ◌&&◌}
+use Rattle.std.proofs.Common.{List, [], ◌∷◌, length, drop, get_or, refl, sym, ap, ◌∙◌, subst, arith}
+use Rattle.std.proofs.Common.{IsTrue, ◌==◌, cond, Option, Some, None, ℤ, ◌*ℤ◌, ◌≤ℤ◌}
 use Rattle.std.proofs.lemmas.List.{drop_all}
 use Rattle.number_sets.specs.Sets.{has, IsWithin}
 use Rattle.problem_rules.specs.Problem.{Problem}
 use Rattle.tree_rules.specs.Claim.{Network, CostOver, IsFeasible}
 use Rattle.rank_rules.specs.declared.why.RankWhy.{RankWhy}
-use Rattle.rank_rules.specs.Networks.{cost_of, last_cost, to_undercut, RisesFrom, IsNewTo, IsInOrder, ArePassing, NetworkFails, IsFirstOff}
+use Rattle.rank_rules.specs.Networks.{cost_of, last_cost, to_undercut, RisesFrom, IsNewTo}
+use Rattle.rank_rules.specs.Networks.{IsInOrder, ArePassing, NetworkFails, IsFirstOff}
 use Rattle.cert_check.proofs.EndLemmas.{node_ahead}
 use Rattle.rank_check.specs.Earlier.{earlier_on, earlier}
 
-earlier_more : (i : ℕ) (before ws : List Network) (w : Network) → i < length ws → w ≡ get_or ws i w → earlier_on (suc i) before ws ≡ w ∷ earlier_on i before ws
+earlier_more : (i : ℕ) (before ws : List Network) (w : Network) → i < length ws → w ≡ get_or ws i w
+    → earlier_on (suc i) before ws ≡ w ∷ earlier_on i before ws
 earlier_more i before [] w lt e = absurd (omega arith)
 earlier_more zero before (x ∷ xs) w lt e = ap (λ (y : Network). y ∷ before) (sym e)
 earlier_more (suc i) before (x ∷ xs) w lt e = earlier_more i (x ∷ before) xs w (omega arith) e
 
-pub earlier_next : (i j : ℕ) (ws : List Network) (w : Network) → j ≡ i + 1 → i < length ws → w ≡ get_or ws i w → earlier j ws ≡ w ∷ earlier i ws
-earlier_next i j ws w is lt e = ap (λ (k : ℕ). earlier k ws) (let q : j ≡ suc i = omega arith in q) ∙ earlier_more i [] ws w lt e
+pub earlier_next : (i j : ℕ) (ws : List Network) (w : Network) → j ≡ i + 1 → i < length ws
+    → w ≡ get_or ws i w → earlier j ws ≡ w ∷ earlier i ws
+earlier_next i j ws w is lt e = ap (λ (k : ℕ). earlier k ws) (let q : j ≡ suc i = omega arith in q)
+    ∙ earlier_more i [] ws w lt e
 
 -- the networks before place i pass, and those that are left decide about the whole
 pub record IsOn (p : Problem) (ws : List Network) (i : ℕ) : Type 0 where
   pub passes : ArePassing p (earlier i ws) (drop i ws) → ArePassing p [] ws
-  pub fails : (k : ℕ) (why : RankWhy) → IsFirstOff p (earlier i ws) (drop i ws) (suc k) why → IsFirstOff p [] ws (suc (i + k)) why
+  pub fails : (k : ℕ) (why : RankWhy) → IsFirstOff p (earlier i ws) (drop i ws) (suc k) why
+      → IsFirstOff p [] ws (suc (i + k)) why
 
 pub on_start : (p : Problem) (ws : List Network) → IsOn p ws 0
-on_start p ws = record { passes = λ h. h; fails = λ k why h. subst (λ (n : ℕ). IsFirstOff p [] ws (suc n) why) (let q : k ≡ 0 + k = omega arith in q) h }
-
-pub on_next : (p : Problem) (ws : List Network) (i : ℕ) (w : Network) → i < length ws → w ≡ get_or ws i w → IsFeasible p w × IsInOrder (earlier i ws) w → IsOn p ws i → IsOn p ws (i + 1)
-on_next p ws i w lt e h on =
-    let front : earlier (i + 1) ws ≡ w ∷ earlier i ws = earlier_next i (i + 1) ws w refl lt e in
-    let here : drop i ws ≡ w ∷ drop (i + 1) ws = node_ahead ws i w lt e ∙ ap (λ (k : ℕ). w ∷ drop k ws) (let q : suc i ≡ i + 1 = omega arith in q) in
+on_start p ws =
     record {
-      passes = λ rest. on.passes (subst (λ (us : List Network). ArePassing p (earlier i ws) us) (sym here)
-          (h.0, h.1, subst (λ (vs : List Network). ArePassing p vs (drop (i + 1) ws)) front rest));
-      fails = λ k why rest.
-          subst (λ (n : ℕ). IsFirstOff p [] ws (suc n) why) (let q : i + suc k ≡ i + 1 + k = omega arith in q)
-          (on.fails (suc k) why (subst (λ (us : List Network). IsFirstOff p (earlier i ws) us (suc (suc k)) why) (sym here)
-          (h.0, h.1, subst (λ (vs : List Network). IsFirstOff p vs (drop (i + 1) ws) (suc k) why) front rest)));
+      passes = λ h. h;
+      fails =
+          λ k why h. subst (λ (n : ℕ). IsFirstOff p [] ws (suc n) why)
+          (let q : k ≡ 0 + k = omega arith in q) h;
     }
 
-pub off_here : (p : Problem) (ws : List Network) (i : ℕ) (w : Network) (why : RankWhy) → i < length ws → w ≡ get_or ws i w → NetworkFails p (earlier i ws) w why → IsOn p ws i → IsFirstOff p [] ws (i + 1) why
+pub on_next : (p : Problem) (ws : List Network) (i : ℕ) (w : Network) → i < length ws
+    → w ≡ get_or ws i w → IsFeasible p w × IsInOrder (earlier i ws) w → IsOn p ws i
+    → IsOn p ws (i + 1)
+on_next p ws i w lt e h on =
+    let front : earlier (i + 1) ws ≡ w ∷ earlier i ws = earlier_next i (i + 1) ws w refl lt e in
+    let here : drop i ws ≡ w ∷ drop (i + 1) ws =
+    node_ahead ws i w lt e
+    ∙ ap (λ (k : ℕ). w ∷ drop k ws) (let q : suc i ≡ i + 1 = omega arith in q) in
+    record {
+      passes =
+          λ rest. on.passes
+          (subst (λ (us : List Network). ArePassing p (earlier i ws) us) (sym here)
+          (h.0, h.1, subst (λ (vs : List Network). ArePassing p vs (drop (i + 1) ws)) front rest));
+      fails = λ k why rest.
+          subst (λ (n : ℕ). IsFirstOff p [] ws (suc n) why)
+          (let q : i + suc k ≡ i + 1 + k = omega arith in q)
+          (on.fails (suc k) why
+          (subst (λ (us : List Network). IsFirstOff p (earlier i ws) us (suc (suc k)) why)
+          (sym here) (
+            h.0,
+            h.1,
+            subst (λ (vs : List Network). IsFirstOff p vs (drop (i + 1) ws) (suc k) why) front
+                rest,
+          )));
+    }
+
+pub off_here : (p : Problem) (ws : List Network) (i : ℕ) (w : Network) (why : RankWhy)
+    → i < length ws → w ≡ get_or ws i w → NetworkFails p (earlier i ws) w why → IsOn p ws i
+    → IsFirstOff p [] ws (i + 1) why
 off_here p ws i w why lt e h on =
     subst (λ (n : ℕ). IsFirstOff p [] ws n why) (let q : suc (i + 0) ≡ i + 1 = omega arith in q)
-    (on.fails 0 why (subst (λ (us : List Network). IsFirstOff p (earlier i ws) us (suc zero) why) (sym (node_ahead ws i w lt e)) h))
+    (on.fails 0 why
+    (subst (λ (us : List Network). IsFirstOff p (earlier i ws) us (suc zero) why)
+    (sym (node_ahead ws i w lt e)) h))
 
-pub on_end : (p : Problem) (ws : List Network) (i : ℕ) → length ws ≤ i → IsOn p ws i → ArePassing p [] ws
-on_end p ws i le on = on.passes (subst (λ (us : List Network). ArePassing p (earlier i ws) us) (sym (drop_all i ws le)) tt)
+pub on_end : (p : Problem) (ws : List Network) (i : ℕ) → length ws ≤ i → IsOn p ws i
+    → ArePassing p [] ws
+on_end p ws i le on =
+    on.passes
+    (subst (λ (us : List Network). ArePassing p (earlier i ws) us) (sym (drop_all i ws le)) tt)
 
 -- ---- sets of units
 
 -- the one and the other are within each other
-pub same_both : (a b : Bool) (xs ys : List ℕ) → (IsTrue a ↔ IsWithin (has xs) (has ys)) → (IsTrue b ↔ IsWithin (has ys) (has xs)) → IsTrue (a && b) ↔ ((u : ℕ) → has xs u ≡ has ys u)
+pub same_both : (a b : Bool) (xs ys : List ℕ) → (IsTrue a ↔ IsWithin (has xs) (has ys))
+    → (IsTrue b ↔ IsWithin (has ys) (has xs)) → IsTrue (a && b) ↔ ((u : ℕ) → has xs u ≡ has ys u)
 same_both a b xs ys f g = (
   (λ h. let w = both a b h in λ u. same (has xs u) (has ys u) (f.0 w.0 u) (g.0 w.1 u)),
   (λ h. and a b (f.1 (λ u e. sym (h u) ∙ e)) (g.1 (λ u e. h u ∙ e))),
@@ -80,60 +114,78 @@ pub record IsLeft (ws : List Network) (w : Network) (at left : ℕ) : Type 0 whe
 pub left_all : (ws : List Network) (w : Network) (at : ℕ) → IsLeft ws w at at
 left_all ws w at = record { within = omega arith; to = λ h. h; from = λ h. h }
 
-pub left_less : (ws : List Network) (v w : Network) (at left : ℕ) → 0 < left → at < length ws → v ≡ get_or ws (left - 1) v → (((u : ℕ) → has v.units u ≡ has w.units u) → ⊥) → IsLeft ws w at left → IsLeft ws w at (left - 1)
+pub left_less : (ws : List Network) (v w : Network) (at left : ℕ) → 0 < left → at < length ws
+    → v ≡ get_or ws (left - 1) v → (((u : ℕ) → has v.units u ≡ has w.units u) → ⊥)
+    → IsLeft ws w at left → IsLeft ws w at (left - 1)
 left_less ws v w at left some lt e apart is =
     let le : left ≤ at = is.within in
-    let next : earlier left ws ≡ v ∷ earlier (left - 1) ws = earlier_next (left - 1) left ws v (omega arith) (omega arith) e in
+    let next : earlier left ws ≡ v ∷ earlier (left - 1) ws =
+    earlier_next (left - 1) left ws v (omega arith) (omega arith) e in
     record {
       within = omega arith;
       to = λ h. is.to (subst (λ (vs : List Network). IsNewTo vs w) (sym next) (apart, h));
       from = λ h. (subst (λ (vs : List Network). IsNewTo vs w) next (is.from h)).1;
     }
 
-pub left_same : (ws : List Network) (v w : Network) (at left : ℕ) → 0 < left → at < length ws → v ≡ get_or ws (left - 1) v → ((u : ℕ) → has v.units u ≡ has w.units u) → IsLeft ws w at left → IsNewTo (earlier at ws) w → ⊥
+pub left_same : (ws : List Network) (v w : Network) (at left : ℕ) → 0 < left → at < length ws
+    → v ≡ get_or ws (left - 1) v → ((u : ℕ) → has v.units u ≡ has w.units u) → IsLeft ws w at left
+    → IsNewTo (earlier at ws) w → ⊥
 left_same ws v w at left some lt e same is h =
     let le : left ≤ at = is.within in
-    let next : earlier left ws ≡ v ∷ earlier (left - 1) ws = earlier_next (left - 1) left ws v (omega arith) (omega arith) e in
+    let next : earlier left ws ≡ v ∷ earlier (left - 1) ws =
+    earlier_next (left - 1) left ws v (omega arith) (omega arith) e in
     (subst (λ (vs : List Network). IsNewTo vs w) next (is.from h)).0 same
 
-pub left_none : (ws : List Network) (w : Network) (at left : ℕ) → left ≡ 0 → IsLeft ws w at left → IsNewTo (earlier at ws) w
+pub left_none : (ws : List Network) (w : Network) (at left : ℕ) → left ≡ 0 → IsLeft ws w at left
+    → IsNewTo (earlier at ws) w
 left_none ws w at left e is = is.to (subst (λ (k : ℕ). IsNewTo (earlier k ws) w) (sym e) tt)
 
 -- ---- in order
 
-pub first_in_order : (ws : List Network) (w : Network) (at : ℕ) (b : Bool) → at ≡ 0 → (IsTrue b ↔ IsNewTo (earlier at ws) w) → IsTrue b ↔ IsInOrder (earlier at ws) w
+pub first_in_order : (ws : List Network) (w : Network) (at : ℕ) (b : Bool) → at ≡ 0
+    → (IsTrue b ↔ IsNewTo (earlier at ws) w) → IsTrue b ↔ IsInOrder (earlier at ws) w
 first_in_order ws w at b e f = (
   (λ h. (subst (λ (k : ℕ). RisesFrom (earlier k ws) w) (sym e) tt, f.0 h)),
   (λ h. f.1 h.1),
 )
 
-module _ (ws : List Network) (v w : Network) (at : ℕ) (some : at ≡ 0 → ⊥) (lt : at < length ws) (e : v ≡ get_or ws (at - 1) v) where
+module _ (ws : List Network) (v w : Network) (at : ℕ) (some : at ≡ 0 → ⊥) (lt : at < length ws)
+    (e : v ≡ get_or ws (at - 1) v) where
   next : earlier at ws ≡ v ∷ earlier (at - 1) ws
   next = earlier_next (at - 1) at ws v (grind (arith, some)) (grind (arith, some, lt)) e
 
-  pub in_order : (b : Bool) → RisesFrom (v ∷ []) w → (IsTrue b ↔ IsNewTo (earlier at ws) w) → IsTrue b ↔ IsInOrder (earlier at ws) w
-  in_order b rises f = ((λ h. (subst (λ (vs : List Network). RisesFrom vs w) (sym next) rises, f.0 h)), (λ h. f.1 h.1))
+  pub in_order : (b : Bool) → RisesFrom (v ∷ []) w → (IsTrue b ↔ IsNewTo (earlier at ws) w)
+      → IsTrue b ↔ IsInOrder (earlier at ws) w
+  in_order b rises f = (
+    (λ h. (subst (λ (vs : List Network). RisesFrom vs w) (sym next) rises, f.0 h)),
+    (λ h. f.1 h.1),
+  )
 
   pub not_in_order : (RisesFrom (v ∷ []) w → ⊥) → IsInOrder (earlier at ws) w → ⊥
   not_in_order falls h = falls (subst (λ (vs : List Network). RisesFrom vs w) next h.0)
 
 -- ---- the last network
 
-last_at : (ws : List Network) (w : Network) (place : ℕ) → place + 1 ≡ length ws → w ≡ get_or ws place w → last_cost ws ≡ Some (cost_of w)
+last_at : (ws : List Network) (w : Network) (place : ℕ) → place + 1 ≡ length ws
+    → w ≡ get_or ws place w → last_cost ws ≡ Some (cost_of w)
 last_at [] w place e is = absurd (omega arith)
 last_at (x ∷ []) w zero e is = ap (λ (y : Network). Some (cost_of y)) (sym is)
 last_at (x ∷ []) w (suc i) e is = absurd (omega arith)
 last_at (x ∷ y ∷ ys) w zero e is = absurd (omega arith)
 last_at (x ∷ y ∷ ys) w (suc i) e is = last_at (y ∷ ys) w i (omega arith) is
 
-pub undercut_is : (count place : ℕ) (ws : List Network) (w : Network) (o : Option CostOver) → length ws ≡ count → place + 1 ≡ length ws → w ≡ get_or ws place w → o ≡ Some (cost_of w) → o ≡ to_undercut count ws
+pub undercut_is : (count place : ℕ) (ws : List Network) (w : Network) (o : Option CostOver)
+    → length ws ≡ count → place + 1 ≡ length ws → w ≡ get_or ws place w → o ≡ Some (cost_of w)
+    → o ≡ to_undercut count ws
 undercut_is count place ws w o full e is o_is =
     let same : (length ws == count) ≡ true = grind (arith, full) in
-    o_is ∙ (sym (last_at ws w place e is) ∙ ap (λ (b : Bool). cond b (last_cost ws) None) (sym same))
+    o_is
+    ∙ (sym (last_at ws w place e is) ∙ ap (λ (b : Bool). cond b (last_cost ws) None) (sym same))
 
 -- ---- costs as they were asked for
 
-pub reached_as : (b : Bool) (x a y d x' a' y' d' : ℤ) → x ≡ x' → a ≡ a' → y ≡ y' → d ≡ d' → (IsTrue b ↔ ((x *ℤ d) ≤ℤ (y *ℤ a))) → IsTrue b ↔ ((x' *ℤ d') ≤ℤ (y' *ℤ a'))
+pub reached_as : (b : Bool) (x a y d x' a' y' d' : ℤ) → x ≡ x' → a ≡ a' → y ≡ y' → d ≡ d'
+    → (IsTrue b ↔ ((x *ℤ d) ≤ℤ (y *ℤ a))) → IsTrue b ↔ ((x' *ℤ d') ≤ℤ (y' *ℤ a'))
 reached_as b x a y d x' a' y' d' ex ea ey ed f =
     subst (λ (k : ℤ). IsTrue b ↔ ((k *ℤ d') ≤ℤ (y' *ℤ a'))) ex
     (subst (λ (k : ℤ). IsTrue b ↔ ((x *ℤ d') ≤ℤ (y' *ℤ k))) ea

@@ -22,7 +22,8 @@ MarksPass P (l ∷ ls) ms = P l.node (marked_leaf (first_mark ms)) × MarksPass 
 
 -- a leaf fails for a cause, for which this one is given
 abbrev pub MarkFails : (Node → Leaf → Why → Type 0) → Node → Mark → RankWhy → Type 0
-MarkFails F n m why = (cause : Why) × F n (marked_leaf m) cause × IsTold (leaf (marked_leaf m)) cause why
+MarkFails F n m why = (cause : Why) × F n (marked_leaf m) cause
+    × IsTold (leaf (marked_leaf m)) cause why
 
 -- a leaf that names the network that was found, or none, fails for a cause, for which this one is
 -- given
@@ -35,7 +36,8 @@ NamedFails p found n d ys why =
     × (((cause ≡ Bound) × (why ≡ Named)) ⊎ ((cause ≡ Bound → ⊥) × (why ≡ Plain cause)))
 
 -- the first leaf that fails is that of node k, for the cause
-abbrev pub IsFirstMark : (Node → Leaf → Type 0) → (Node → Leaf → Why → Type 0) → List OpenAt → List Mark → ℕ → RankWhy → Type 0
+abbrev pub IsFirstMark : (Node → Leaf → Type 0) → (Node → Leaf → Why → Type 0) → List OpenAt
+    → List Mark → ℕ → RankWhy → Type 0
 IsFirstMark P F [] ms k why = ⊥
 IsFirstMark P F (l ∷ ls) ms k why =
     ((l.number ≡ k) × MarkFails F l.node (first_mark ms) why)
@@ -43,8 +45,10 @@ IsFirstMark P F (l ∷ ls) ms k why =
 
 -- whatever cost is to be undercut, each leaf passes by its mark among the networks
 abbrev pub AllMarksPass : Problem → List Network → List OpenAt → List Mark → Type 0
-AllMarksPass p ws ls ms = (undercut : Option CostOver) → MarksPass (LeafPasses false p ws undercut) ls ms
+AllMarksPass p ws ls ms = (undercut : Option CostOver)
+    → MarksPass (LeafPasses false p ws undercut) ls ms
 
 -- whatever cost is to be undercut, the first leaf that fails is that of node k, for the cause
 abbrev pub MarkIsFault : Problem → List Network → List OpenAt → List Mark → ℕ → RankWhy → Type 0
-MarkIsFault p ws ls ms k why = (undercut : Option CostOver) → IsFirstMark (LeafPasses false p ws undercut) (LeafFails false p ws undercut) ls ms k why
+MarkIsFault p ws ls ms k why = (undercut : Option CostOver)
+    → IsFirstMark (LeafPasses false p ws undercut) (LeafFails false p ws undercut) ls ms k why

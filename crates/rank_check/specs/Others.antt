@@ -8,4 +8,5 @@ use Rattle.rank_rules.specs.Networks.{IsListed}
 
 -- P is true of each of them
 abbrev pub AllOthers : Problem → List Network → ((ℕ → Bool) → Type 0) → Type 0
-AllOthers p ws P = (s : ℕ → Bool) → IsStructure (shape_of p) s → IsAllowed (shape_of p) s → (IsListed ws s → ⊥) → P s
+AllOthers p ws P = (s : ℕ → Bool) → IsStructure (shape_of p) s → IsAllowed (shape_of p) s
+    → (IsListed ws s → ⊥) → P s

@@ -20,20 +20,26 @@ use Rattle.rank_check.specs.declared.refusal.RankRefusal.TheVariants.{Memory, Ne
 
 -- the tree passes if leaves may be open
 abbrev pub PlainPasses : Problem → Text → Type 0
-PlainPasses p t = Pass (shape_of p) (leaves.LeafPasses true p (to_undercut t.count t.networks)) (first_node ∷ []) t.tree
+PlainPasses p t =
+    Pass (shape_of p) (leaves.LeafPasses true p (to_undercut t.count t.networks)) (first_node ∷ [])
+    t.tree
 
 -- its first fault if leaves may be open
 abbrev pub NamesPlainFault : Problem → Text → plain.Refusal → Type 0
 NamesPlainFault p t refusal =
-    NamesFault (shape_of p) (leaves.LeafPasses true p (to_undercut t.count t.networks)) (leaves.LeafFails true p (to_undercut t.count t.networks))
+    NamesFault (shape_of p) (leaves.LeafPasses true p (to_undercut t.count t.networks))
+    (leaves.LeafFails true p (to_undercut t.count t.networks))
     (first_node ∷ []) t.tree refusal
 
 -- the open leaves pass by their marks, or the first that fails is that of node k
 abbrev pub OpenPass : Problem → Text → List OpenAt → Type 0
-OpenPass p t found = MarksPass (LeafPasses false p t.networks (to_undercut t.count t.networks)) found t.marks
+OpenPass p t found =
+    MarksPass (LeafPasses false p t.networks (to_undercut t.count t.networks)) found t.marks
 
 abbrev pub OpenFails : Problem → Text → List OpenAt → ℕ → RankWhy → Type 0
-OpenFails p t found k why = IsFirstMark (LeafPasses false p t.networks (to_undercut t.count t.networks)) (LeafFails false p t.networks (to_undercut t.count t.networks)) found t.marks k why
+OpenFails p t found k why =
+    IsFirstMark (LeafPasses false p t.networks (to_undercut t.count t.networks))
+    (LeafFails false p t.networks (to_undercut t.count t.networks)) found t.marks k why
 
 -- a node is the first that fails, for the cause
 abbrev pub IsNodeAnswer : Problem → Ranking → RankRefusal → Type 0

@@ -1,5 +1,7 @@
 //! Whole ranked trees.
-ghost use Rattle.std.specs.Prelude.{◌≡◌, ◌<◌, ◌^◌, [], ◌∷◌, ℕ, ℤ, false, Some, length, OnOk, IfOk, IfErr};
+ghost use Rattle.std.specs.Prelude.{◌≡◌, ◌<◌, ◌^◌, [], ◌∷◌, ℕ, ℤ, false, Some, length, OnOk};
+ghost use Rattle.std.specs.Prelude.{IfOk};
+ghost use Rattle.std.specs.Prelude.{IfErr};
 ghost use Rattle.number_sets.specs.Sets.{has};
 ghost use Rattle.pns_rules.specs.Shape.{shape_of};
 ghost use Rattle.flow_rules.specs.Net.{net_of};
@@ -17,7 +19,9 @@ ghost use Rattle.rank_rules.specs.Ranked.{IsRanked, NetworkIsFault, NodeIsFault}
 ghost use Rattle.rank_rules.specs.Text.{ranking_of};
 ghost use Rattle.rank_check.specs.declared.refusal.RankRefusal.TheVariants as refusals;
 ghost use Rattle.rank_check.specs.Others.{AllOthers};
-ghost use Rattle.rank_check.specs.Refusals.{PlainPasses, NamesPlainFault, OpenPass, OpenFails, IsNodeAnswer, Refuses, IsOkOrMemory, IsRefusalOrMemory};
+ghost use Rattle.rank_check.specs.Refusals.{PlainPasses, NamesPlainFault, OpenPass, OpenFails};
+ghost use Rattle.rank_check.specs.Refusals.{IsNodeAnswer, Refuses, IsOkOrMemory};
+ghost use Rattle.rank_check.specs.Refusals.{IsRefusalOrMemory};
 
 use crate::leaf::cost_of;
 use crate::marks::judge_marks;
@@ -55,9 +59,13 @@ fn cost_to_undercut(count: u32, networks: &[Network]) -> Option<CostOver>
 fn walk_tree(alloc: Global, site: &Site<'_>, text: &RankText) -> Result<Vec<OpenLeaf>, Stop>
     requires few { length text.now.tree < 2 ^ 32 }
     ensures passes { OnOk result (PlainPasses site.now text.now) }
-    ensures leaves { IfOk result (λ v. leaves_at v.items ≡ open_leaves (shape_of site.now) (first_node ∷ []) text.now.tree 0) }
+    ensures leaves { IfOk result
+        (λ v. leaves_at v.items
+        ≡ open_leaves (shape_of site.now) (first_node ∷ []) text.now.tree 0) }
     ensures fault { IfErr result (λ stop. NamesPlainFault site.now text.now stop.refusal) }
-    ensures before { IfErr result (λ stop. AreBefore (shape_of site.now) (first_node ∷ []) text.now.tree stop.refusal (leaves_at stop.leaves.items)) }
+    ensures before { IfErr result
+        (λ stop. AreBefore (shape_of site.now) (first_node ∷ []) text.now.tree stop.refusal
+        (leaves_at stop.leaves.items)) }
 {
     let start = Node {
         inside: UnitSet::empty(),
@@ -72,7 +80,8 @@ fn walk_tree(alloc: Global, site: &Site<'_>, text: &RankText) -> Result<Vec<Open
 fn judge_open(site: &Site<'_>, text: &RankText, leaves: &[OpenLeaf]) -> Result<(), (u32, RankWhy)>
     requires listed { ArePassing site.now [] text.now.networks }
     ensures passes { OnOk result (OpenPass site.now text.now (leaves_at leaves.now)) }
-    ensures fails { IfErr result (λ found. OpenFails site.now text.now (leaves_at leaves.now) found.0 found.1) }
+    ensures fails { IfErr result
+        (λ found. OpenFails site.now text.now (leaves_at leaves.now) found.0 found.1) }
 {
     judge_marks(site, text.networks(), leaves, text.marks())
 }
@@ -81,7 +90,9 @@ fn judge_open(site: &Site<'_>, text: &RankText, leaves: &[OpenLeaf]) -> Result<(
 fn judge_stop(site: &Site<'_>, text: &RankText, stop: &Stop) -> RankRefusal
     requires listed { ArePassing site.now [] text.now.networks }
     requires fault { NamesPlainFault site.now text.now stop.now.refusal }
-    requires before { AreBefore (shape_of site.now) (first_node ∷ []) text.now.tree stop.now.refusal (leaves_at stop.now.leaves.items) }
+    requires before { AreBefore (shape_of site.now) (first_node ∷ []) text.now.tree
+        stop.now.refusal
+        (leaves_at stop.now.leaves.items) }
     ensures { IsNodeAnswer site.now (ranking_of text.now) result }
 {
     let Refusal::Node { node, why } = stop.refusal else {
@@ -103,7 +114,8 @@ fn judge_stop(site: &Site<'_>, text: &RankText, stop: &Stop) -> RankRefusal
 fn judge_end(site: &Site<'_>, text: &RankText, leaves: &[OpenLeaf]) -> Result<(), RankRefusal>
     requires listed { ArePassing site.now [] text.now.networks }
     requires walked { PlainPasses site.now text.now }
-    requires leaves { leaves_at leaves.now ≡ open_leaves (shape_of site.now) (first_node ∷ []) text.now.tree 0 }
+    requires leaves { leaves_at leaves.now
+        ≡ open_leaves (shape_of site.now) (first_node ∷ []) text.now.tree 0 }
     ensures passes { OnOk result (IsRanked site.now (ranking_of text.now)) }
     ensures fails { IfErr result (IsNodeAnswer site.now (ranking_of text.now)) }
 {
@@ -149,15 +161,27 @@ pub fn check_rank(alloc: Global, site: &Site<'_>, text: &RankText) -> Result<(),
     ensures accepts { IsRanked site.now (ranking_of text.now) → IsOkOrMemory result }
     // A refusal names the first fault. A first fault is named, unless there is no memory.
     ensures refused { IfErr result (Refuses site.now (ranking_of text.now)) }
-    ensures names_network { (k : ℕ) (why : RankWhy) → NetworkIsFault site.now (ranking_of text.now) k why → IsRefusalOrMemory (refusals.Network k why) result }
-    ensures names_node { (k : ℕ) (why : RankWhy) → ArePassing site.now [] text.now.networks → NodeIsFault false site.now (ranking_of text.now) k why → IsRefusalOrMemory (refusals.Node k why) result }
+    ensures names_network { (k : ℕ) (why : RankWhy)
+        → NetworkIsFault site.now (ranking_of text.now) k why
+        → IsRefusalOrMemory (refusals.Network k why) result }
+    ensures names_node { (k : ℕ) (why : RankWhy) → ArePassing site.now [] text.now.networks
+        → NodeIsFault false site.now (ranking_of text.now) k why
+        → IsRefusalOrMemory (refusals.Node k why) result }
     // No flows for the units of a listed network cost less than it.
-    ensures least { OnOk result ((k : ℕ) (w : rules.Network) → numbered k text.now.networks ≡ Some w → CostsEnough site.now (Some (ranks.cost_of w)) (has w.units)) }
+    ensures least { OnOk result
+        ((k : ℕ) (w : rules.Network) → numbered k text.now.networks ≡ Some w
+        → CostsEnough site.now (Some (ranks.cost_of w)) (has w.units)) }
     // If there are as many networks as were asked for, each clash-free solution structure that is
     // not listed costs at least what the last does, with any flows. If there are fewer, none of
     // them has flows.
-    ensures full { OnOk result (length text.now.networks ≡ text.now.count → AllOthers site.now text.now.networks (CostsEnough site.now (last_cost text.now.networks))) }
-    ensures fewer { OnOk result (length text.now.networks < text.now.count → AllOthers site.now text.now.networks (λ s. (z : ℕ → ℤ) (d : ℤ) → IsFlows (net_of site.now) s z d → ⊥)) }
+    ensures full { OnOk result
+        (length text.now.networks ≡ text.now.count
+        → AllOthers site.now text.now.networks
+        (CostsEnough site.now (last_cost text.now.networks))) }
+    ensures fewer { OnOk result
+        (length text.now.networks < text.now.count
+        → AllOthers site.now text.now.networks
+        (λ s. (z : ℕ → ℤ) (d : ℤ) → IsFlows (net_of site.now) s z d → ⊥)) }
 {
     site.problem();
     network_has_one_fault();

@@ -1,5 +1,6 @@
 //! Leaves that name a network.
-ghost use Rattle.std.specs.Prelude.{◌≡◌, ◌⊎◌, ◌↔◌, [], Some, None, IsTrue, IfSome, IfNone, OnOk, IfErr};
+ghost use Rattle.std.specs.Prelude.{◌≡◌, ◌⊎◌, ◌↔◌, [], Some, None, IsTrue, IfSome, IfNone, OnOk};
+ghost use Rattle.std.specs.Prelude.{IfErr};
 ghost use Rattle.tree_rules.specs.declared.why.Why.TheVariants as causes;
 ghost use Rattle.tree_rules.specs.Claim.{IsFeasible};
 ghost use Rattle.pgraph.specs.View.{node_of};
@@ -46,7 +47,8 @@ fn is_only(site: &Site<'_>, node: &Node, network: &Network) -> bool
 
 /// The cause that is given for a leaf that names a network.
 fn told(why: Why) -> RankWhy
-    ensures { ((why ≡ causes.Bound) × (result ≡ whys.Named)) ⊎ ((why ≡ causes.Bound → ⊥) × (result ≡ whys.Plain why)) }
+    ensures { ((why ≡ causes.Bound) × (result ≡ whys.Named))
+        ⊎ ((why ≡ causes.Bound → ⊥) × (result ≡ whys.Plain why)) }
 {
     match why {
         Why::Bound => RankWhy::Named,
@@ -62,8 +64,10 @@ fn judge_named(
     scaled: &Scaled,
 ) -> Result<(), RankWhy>
     requires feasible { IsFeasible site.now network.now }
-    ensures passes { OnOk result (IsNamed site.now (Some network.now) (node_of node.now) scaled.now.d scaled.now.ys) }
-    ensures fails { IfErr result (NamedFails site.now (Some network.now) (node_of node.now) scaled.now.d scaled.now.ys) }
+    ensures passes { OnOk result
+        (IsNamed site.now (Some network.now) (node_of node.now) scaled.now.d scaled.now.ys) }
+    ensures fails { IfErr result
+        (NamedFails site.now (Some network.now) (node_of node.now) scaled.now.d scaled.now.ys) }
 {
     if !is_only(site, node, network) {
         return Err(RankWhy::Named);
@@ -101,8 +105,12 @@ pub(crate) fn judge_numbered(
     scaled: &Scaled,
 ) -> Result<(), RankWhy>
     requires listed { ArePassing site.now [] networks.now }
-    ensures passes { OnOk result (IsNamed site.now (numbered number networks.now) (node_of node.now) scaled.now.d scaled.now.ys) }
-    ensures fails { IfErr result (NamedFails site.now (numbered number networks.now) (node_of node.now) scaled.now.d scaled.now.ys) }
+    ensures passes { OnOk result
+        (IsNamed site.now (numbered number networks.now) (node_of node.now) scaled.now.d
+        scaled.now.ys) }
+    ensures fails { IfErr result
+        (NamedFails site.now (numbered number networks.now) (node_of node.now) scaled.now.d
+        scaled.now.ys) }
 {
     match find(networks, number) {
         Some(network) => judge_named(site, node, network, scaled),

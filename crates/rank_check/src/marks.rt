@@ -26,8 +26,14 @@ fn judge_mark(
     mark: &Mark,
 ) -> Result<(), RankWhy>
     requires listed { ArePassing site.now [] networks.now }
-    ensures passes { OnOk result ((undercut : Option rules.CostOver) → LeafPasses false site.now networks.now undercut (node_of node.now) (marked_leaf (mark_of mark.now))) }
-    ensures fails { IfErr result (λ why. (undercut : Option rules.CostOver) → MarkFails (LeafFails false site.now networks.now undercut) (node_of node.now) (mark_of mark.now) why) }
+    ensures passes { OnOk result
+        ((undercut : Option rules.CostOver)
+        → LeafPasses false site.now networks.now undercut (node_of node.now)
+        (marked_leaf (mark_of mark.now))) }
+    ensures fails { IfErr result
+        (λ why. (undercut : Option rules.CostOver)
+        → MarkFails (LeafFails false site.now networks.now undercut) (node_of node.now)
+        (mark_of mark.now) why) }
 {
     match mark {
         Mark::Open => Err(RankWhy::Plain(Why::Open)),
@@ -46,8 +52,14 @@ fn judge_mark_at(
     at: usize,
 ) -> Result<(), RankWhy>
     requires listed { ArePassing site.now [] networks.now }
-    ensures passes { OnOk result ((undercut : Option rules.CostOver) → LeafPasses false site.now networks.now undercut (node_of node.now) (marked_leaf (first_mark (drop at (map mark_of marks.now))))) }
-    ensures fails { IfErr result (λ why. (undercut : Option rules.CostOver) → MarkFails (LeafFails false site.now networks.now undercut) (node_of node.now) (first_mark (drop at (map mark_of marks.now))) why) }
+    ensures passes { OnOk result
+        ((undercut : Option rules.CostOver)
+        → LeafPasses false site.now networks.now undercut (node_of node.now)
+        (marked_leaf (first_mark (drop at (map mark_of marks.now))))) }
+    ensures fails { IfErr result
+        (λ why. (undercut : Option rules.CostOver)
+        → MarkFails (LeafFails false site.now networks.now undercut) (node_of node.now)
+        (first_mark (drop at (map mark_of marks.now))) why) }
 {
     if at < marks.len() {
         let mark = &marks[at];
@@ -66,8 +78,11 @@ pub(crate) fn judge_marks(
     marks: &[Mark],
 ) -> Result<(), (u32, RankWhy)>
     requires listed { ArePassing site.now [] networks.now }
-    ensures passes { OnOk result (AllMarksPass site.now networks.now (leaves_at leaves.now) (map mark_of marks.now)) }
-    ensures fails { IfErr result (λ found. MarkIsFault site.now networks.now (leaves_at leaves.now) (map mark_of marks.now) found.0 found.1) }
+    ensures passes { OnOk result
+        (AllMarksPass site.now networks.now (leaves_at leaves.now) (map mark_of marks.now)) }
+    ensures fails { IfErr result
+        (λ found. MarkIsFault site.now networks.now (leaves_at leaves.now) (map mark_of marks.now)
+        found.0 found.1) }
 {
     'judging: for i in 0..leaves.len() {
         let leaf = leaves[i];

@@ -15,7 +15,8 @@ use tree_rules::Why;
 /// Judges a network as a claim.
 fn judge_alone(site: &Site<'_>, network: &Network) -> Result<(), Why>
     ensures passes { OnOk result (IsFeasible site.now network.now) }
-    ensures fails { IfErr result (λ why. rules.ClaimFails false site.now (rules.network network.now) why) }
+    ensures fails { IfErr result
+        (λ why. rules.ClaimFails false site.now (rules.network network.now) why) }
 {
     network.is_sized();
     judge_network(
@@ -35,7 +36,8 @@ fn judge_at(
     network: &Network,
 ) -> Result<(), RankWhy>
     requires within { at < length networks.now }
-    ensures passes { OnOk result (IsFeasible site.now network.now × IsInOrder (earlier at networks.now) network.now) }
+    ensures passes { OnOk result
+        (IsFeasible site.now network.now × IsInOrder (earlier at networks.now) network.now) }
     ensures fails { IfErr result (NetworkFails site.now (earlier at networks.now) network.now) }
 {
     match judge_alone(site, network) {

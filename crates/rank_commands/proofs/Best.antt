@@ -13,19 +13,26 @@ use Rattle.studio_rules.specs.declared.status.Status.TheVariants.{Done}
 use Rattle.studio_rules.specs.Rankcheck.{OnRank, AreBest, FilesListBest, AcceptedAreBest}
 
 module _ (listed : ListedAreLeast) (full : OthersCostEnough) (fewer : OthersHaveNone) where
-  pub are_best : (p : Problem) → IsValid p → (t : Text) → IsRanked p (ranking_of t) → AreBest p t.count t.networks
+  pub are_best : (p : Problem) → IsValid p → (t : Text) → IsRanked p (ranking_of t)
+      → AreBest p t.count t.networks
   are_best p valid t ranked =
       record {
         pass = ranked.listed;
         least = λ k w e. listed p valid (ranking_of t) ranked k w e;
-        full = λ count s structure allowed other. full p valid (ranking_of t) ranked count s structure allowed other;
-        fewer = λ count s structure allowed other z d flows. fewer p valid (ranking_of t) ranked count s structure allowed other z d flows;
+        full =
+            λ count s structure allowed other. full p valid (ranking_of t) ranked count s structure
+            allowed other;
+        fewer =
+            λ count s structure allowed other z d flows. fewer p valid (ranking_of t) ranked count s
+            structure allowed other z d flows;
       }
 
   pub accepted_are_best : AcceptedAreBest
   accepted_are_best held file rank lines (bytes, there, inl fault) = absurd fault
-  accepted_are_best held file rank lines (bytes, there, inr (p, given, (text, told, inl fault))) = absurd fault
-  accepted_are_best held file rank lines (bytes, there, inr (p, given, (text, told, inr (t, gives, work)))) =
+  accepted_are_best held file rank lines (bytes, there, inr (p, given, (text, told, inl fault))) =
+      absurd fault
+  accepted_are_best held file rank lines
+      (bytes, there, inr (p, given, (text, told, inr (t, gives, work)))) =
       let valid : IsValid p = given.valid in
       record {
         problem_text = bytes;
@@ -41,7 +48,11 @@ module _ (listed : ListedAreLeast) (full : OthersCostEnough) (fewer : OthersHave
       }
 
 -- what is printed with status 0 is such an answer
-pub done_ends : AcceptedAreBest → (old new : ShelfState) (file rank : List ℕ) (before after : OutputsState) (s : Status) → Ends (TwoFilesSay OnRank file rank old new) before after s → s ≡ Done → FilesListBest old.held file rank
+pub done_ends : AcceptedAreBest
+    → (old new : ShelfState) (file rank : List ℕ) (before after : OutputsState) (s : Status)
+    → Ends (TwoFilesSay OnRank file rank old new) before after s → s ≡ Done
+    → FilesListBest old.held file rank
 done_ends law old new file rank before after s e done =
-    let said = subst (λ (t : Status). Ends (TwoFilesSay OnRank file rank old new) before after t) done e in
+    let said =
+    subst (λ (t : Status). Ends (TwoFilesSay OnRank file rank old new) before after t) done e in
     law old.held file rank said.1.0 said.1.1

@@ -3,7 +3,8 @@ ghost use Rattle.std.specs.Prelude.{◌≡◌, ◌<◌, ◌^◌, IfOk, length, s
 ghost use Rattle.studio_rules.specs.Lines.{line};
 ghost use Rattle.studio_rules.specs.RankWords.{network_line, rank_node_line};
 ghost use Rattle.studio_rules.specs.Reading.{TwoFilesSay};
-ghost use Rattle.studio_rules.specs.Rankcheck.{RankcheckWork, OnRank, FilesListBest, AcceptedAreBest};
+ghost use Rattle.studio_rules.specs.Rankcheck.{RankcheckWork, OnRank, FilesListBest};
+ghost use Rattle.studio_rules.specs.Rankcheck.{AcceptedAreBest};
 ghost use Rattle.studio_rules.specs.Ending.{Ends, Says, Tells, Only, OrMemory};
 ghost use Rattle.studio_rules.specs.Keeps.{Keeps};
 ghost use Rattle.studio_rules.specs.declared.status.Status.TheVariants.{Done, Refused};
@@ -50,7 +51,8 @@ fn say_network<K: Sink, E: Sink>(
     number: u32,
     why: RankWhy,
 ) -> Status
-    ensures { Ends (OrMemory (Only Refused (line (network_line number why)))) out.old out.new result }
+    ensures { Ends (OrMemory (Only Refused (line (network_line number why)))) out.old out.new
+        result }
 {
     match network_line(alloc, number, why) {
         Ok(text) => say(out, text.as_bytes(), Status::Refused),
@@ -64,7 +66,8 @@ fn say_node<K: Sink, E: Sink>(
     node: u32,
     why: RankWhy,
 ) -> Status
-    ensures { Ends (OrMemory (Only Refused (line (rank_node_line node why)))) out.old out.new result }
+    ensures { Ends (OrMemory (Only Refused (line (rank_node_line node why)))) out.old out.new
+        result }
 {
     match node_line(alloc, node, why) {
         Ok(text) => say(out, text.as_bytes(), Status::Refused),
@@ -114,7 +117,9 @@ fn say_rank<F: Shelf, K: Sink, E: Sink>(
     shelf: &mut F,
     out: &mut Outputs<K, E>,
 ) -> Status
-    ensures ends { Ends (Says (OnRank (F.state shelf.old).held name.now problem.now) (λ other. other ≡ name.now) (F.state shelf.old) (F.state shelf.new)) out.old out.new result }
+    ensures ends { Ends
+        (Says (OnRank (F.state shelf.old).held name.now problem.now) (λ other. other ≡ name.now)
+        (F.state shelf.old) (F.state shelf.new)) out.old out.new result }
     ensures keeps { Keeps (F.state shelf.old) (F.state shelf.new) }
 {
     match rank_of(alloc, shelf, out, name, problem) {
@@ -139,7 +144,9 @@ pub fn rankcheck<F: Shelf, K: Sink, E: Sink>(
     shelf: &mut F,
     out: &mut Outputs<K, E>,
 ) -> Status
-    ensures ends { Ends (TwoFilesSay OnRank file.now rank.now (F.state shelf.old) (F.state shelf.new)) out.old out.new result }
+    ensures ends { Ends
+        (TwoFilesSay OnRank file.now rank.now (F.state shelf.old) (F.state shelf.new)) out.old
+        out.new result }
     ensures keeps { Keeps (F.state shelf.old) (F.state shelf.new) }
     // If the status is 0, the one file gives a valid problem and the other networks that are the
     // best.

@@ -29,12 +29,17 @@ pub(crate) fn rank_of<F: Shelf, K: Sink, E: Sink>(
     name: &str,
     problem: &Problem,
 ) -> Result<RankText, Status>
-    ensures ranking { IfOk result (λ t. (file : List ℕ) × AreHeld ((F.state shelf.old).held name.now) file × GivesRanking problem.now file t) }
+    ensures ranking { IfOk result
+        (λ t. (file : List ℕ) × AreHeld ((F.state shelf.old).held name.now) file
+        × GivesRanking problem.now file t) }
     ensures few { IfOk result (λ t. length t.tree < 2 ^ 32) }
     ensures known { IfOk result (KnowsText problem.now) }
     ensures silent { OnOk result (out.new ≡ out.old) }
     ensures keeps { Keeps (F.state shelf.old) (F.state shelf.new) }
-    ensures told { IfErr result (Ends (Says (RankFaults (F.state shelf.old).held name.now problem.now) (λ other. other ≡ name.now) (F.state shelf.old) (F.state shelf.new)) out.old out.new) }
+    ensures told { IfErr result
+        (Ends
+        (Says (RankFaults (F.state shelf.old).held name.now problem.now) (λ other. other ≡ name.now)
+        (F.state shelf.old) (F.state shelf.new)) out.old out.new) }
 {
     let bytes = match bytes_of(alloc, shelf, out, name, RANK_LIMIT) {
         Ok(bytes) => bytes,

@@ -1,5 +1,7 @@
 -- What a ranked tree proves of listed networks, and of all others.
-use Rattle.std.proofs.Common.{◌≡◌, ◌⊎◌, ℕ, ◌<◌, ◌==◌, ℤ, Bool, true, false, not, ◌&&◌, cond, List, [], ◌∷◌, length, Option, Some, None, refl, sym, ◌∙◌, subst, inl, inr, arith}
+use Rattle.std.proofs.Common.{◌≡◌, ◌⊎◌, ℕ, ◌<◌, ◌==◌, ℤ, Bool, true, false, not, ◌&&◌, cond, List}
+use Rattle.std.proofs.Common.{[], ◌∷◌, length, Option, Some, None, refl, sym, ◌∙◌, subst, inl, inr}
+use Rattle.std.proofs.Common.{arith}
 use Rattle.number_sets.specs.Sets.{has}
 use Rattle.problem_rules.specs.Problem.{Problem}
 use Rattle.problem_rules.specs.Validity.{IsValid}
@@ -19,7 +21,8 @@ use Rattle.rank_rules.specs.Networks.{cost_of, numbered, IsListed, last_cost, to
 use Rattle.rank_rules.specs.Leaf.{Leaf, plain, named, IsNamed, LeafPasses}
 use Rattle.rank_rules.specs.Ranked.{Ranking, IsRanked}
 use Rattle.rank_laws.specs.Laws.{ListedAreLeast, OthersCostEnough, OthersHaveNone}
-use Rattle.rank_laws.proofs.NetworkLemmas.{AtMostLast, at_least_too, at_most_last, one_network, is_listed, listed_feasible, positive_scale, last_scale}
+use Rattle.rank_laws.proofs.NetworkLemmas.{AtMostLast, at_least_too, at_most_last, one_network}
+use Rattle.rank_laws.proofs.NetworkLemmas.{is_listed, listed_feasible, positive_scale, last_scale}
 
 -- ---- a node at which nothing is free
 
@@ -34,22 +37,29 @@ taken_in false true h k = absurd (k refl)
 taken_in false false h k = sym h
 
 -- its one structure has the units that are taken in
-pub only_structure : (g : Shape) (n : Node) (s : ℕ → Bool) → ((u : ℕ) → u < g.units → is_free g n u ≡ false) → InFamily g n.inside n.outside s → (u : ℕ) → s u ≡ n.inside u
+pub only_structure : (g : Shape) (n : Node) (s : ℕ → Bool)
+    → ((u : ℕ) → u < g.units → is_free g n u ≡ false) → InFamily g n.inside n.outside s → (u : ℕ)
+    → s u ≡ n.inside u
 only_structure g n s none_free f u =
     same_test (s u) (n.inside u)
-    (λ e. taken_in (n.inside u) (n.outside u) (none_free u (f.between.meets.s3 u e)) (λ o. f.between.avoids u e o))
+    (λ e. taken_in (n.inside u) (n.outside u) (none_free u (f.between.meets.s3 u e))
+    (λ o. f.between.avoids u e o))
     (λ e. f.between.contains u e)
 
 -- ---- costs
 
 -- what costs at least as much as the last network costs at least as much as each
-enough_for : (p : Problem) (w : Network) (claimed : Option CostOver) (s : ℕ → Bool) → IsFeasible p w → AtMostLast w claimed → CostsEnough p claimed s → CostsEnough p (Some (cost_of w)) s
+enough_for : (p : Problem) (w : Network) (claimed : Option CostOver) (s : ℕ → Bool) → IsFeasible p w
+    → AtMostLast w claimed → CostsEnough p claimed s → CostsEnough p (Some (cost_of w)) s
 enough_for p w None s feasible last h = absurd last
 enough_for p w (Some claimed) s feasible last h = λ z d flows.
-    at_least_too w.cost w.d claimed.cost claimed.d (cost (net_of p) s z d) d feasible.flows.positive last.0 flows.positive last.1 (h z d flows)
+    at_least_too w.cost w.d claimed.cost claimed.d (cost (net_of p) s z d) d feasible.flows.positive
+    last.0 flows.positive last.1 (h z d flows)
 
--- only where there are as many networks as were asked for has a cost to be undercut
-undercuts : (full : Bool) (p : Problem) (w : Network) (last : Option CostOver) (s : ℕ → Bool) → IsFeasible p w → AtMostLast w last → CostsEnough p (cond full last None) s → CostsEnough p (Some (cost_of w)) s
+-- a cost is to be undercut only if there are as many networks as were asked for
+undercuts : (full : Bool) (p : Problem) (w : Network) (last : Option CostOver) (s : ℕ → Bool)
+    → IsFeasible p w → AtMostLast w last → CostsEnough p (cond full last None) s
+    → CostsEnough p (Some (cost_of w)) s
 undercuts true p w last s feasible most h = enough_for p w last s feasible most h
 undercuts false p w last s feasible most h = λ z d flows. absurd (h z d flows)
 
@@ -61,55 +71,82 @@ scale_if false last h = tt
 
 module _ (p : Problem) (valid : IsValid p) (r : Ranking) (ranked : IsRanked p r) where
   scale : HasScale (to_undercut r.count r.networks)
-  scale = scale_if (length r.networks == r.count) (last_cost r.networks) (last_scale p [] r.networks ranked.listed)
+  scale =
+      scale_if (length r.networks == r.count) (last_cost r.networks)
+      (last_scale p [] r.networks ranked.listed)
 
   -- a leaf of any tree that passes: each structure of its node costs enough
-  plain_holds : (undercut : Option CostOver) → HasScale undercut → (n : Node) (l : leaves.Leaf) → leaves.LeafPasses false p undercut n l → (s : ℕ → Bool) → InFamily (shape_of p) n.inside n.outside s → CostsEnough p undercut s
-  plain_holds undercut has_scale n l h s f = elim (leaf_holds p valid false undercut has_scale n l h s f) [
-    | inl e ↦ absurd cc
-    | inr k ↦ k
-  ]
+  plain_holds : (undercut : Option CostOver) → HasScale undercut → (n : Node) (l : leaves.Leaf)
+      → leaves.LeafPasses false p undercut n l → (s : ℕ → Bool)
+      → InFamily (shape_of p) n.inside n.outside s → CostsEnough p undercut s
+  plain_holds undercut has_scale n l h s f =
+      elim (leaf_holds p valid false undercut has_scale n l h s f) [
+        | inl e ↦ absurd cc
+        | inr k ↦ k
+      ]
 
-  -- a named leaf: the structure of its node has the units of the network, and costs at least what it does
-  named_holds : (found : Option Network) (n : Node) (d : ℤ) (ys : List ℤ) → ((v : Network) → found ≡ Some v → IsFeasible p v) → IsNamed p found n d ys → (s : ℕ → Bool) → InFamily (shape_of p) n.inside n.outside s → (v : Network) × (found ≡ Some v) × ((u : ℕ) → s u ≡ has v.units u) × CostsEnough p (Some (cost_of v)) s
+  -- a named leaf: the structure of its node has the units of the network, and costs at least what
+  -- it does
+  named_holds : (found : Option Network) (n : Node) (d : ℤ) (ys : List ℤ)
+      → ((v : Network) → found ≡ Some v → IsFeasible p v) → IsNamed p found n d ys → (s : ℕ → Bool)
+      → InFamily (shape_of p) n.inside n.outside s → (v : Network) × (found ≡ Some v)
+      × ((u : ℕ) → s u ≡ has v.units u) × CostsEnough p (Some (cost_of v)) s
   named_holds None n d ys feasible h s f = absurd h.only
   named_holds (Some v) n d ys feasible h s f =
       let units = only_structure (shape_of p) n s h.only.0 f in (
         v,
         refl,
         (λ u. units u ∙ h.only.1 u),
-        plain_holds (Some (cost_of v)) (positive_scale p v (feasible v refl)) n (leaves.bounded d ys) h.bounded s f,
+        plain_holds (Some (cost_of v)) (positive_scale p v (feasible v refl)) n
+            (leaves.bounded d ys) h.bounded s f,
       )
 
-  in_first : (s : ℕ → Bool) → IsStructure (shape_of p) s → IsAllowed (shape_of p) s → InFamily (shape_of p) first_node.inside first_node.outside s
+  in_first : (s : ℕ → Bool) → IsStructure (shape_of p) s → IsAllowed (shape_of p) s
+      → InFamily (shape_of p) first_node.inside first_node.outside s
   in_first s meets allowed = record {
     between = record { meets = meets; contains = λ u e. absurd cc; avoids = λ u e o. absurd cc };
     allowed = allowed;
   }
 
-  under : (s : ℕ → Bool) → IsStructure (shape_of p) s → IsAllowed (shape_of p) s → IsUnder (shape_of p) (LeafPasses false p r.networks (to_undercut r.count r.networks)) (first_node ∷ []) r.tree s
+  under : (s : ℕ → Bool) → IsStructure (shape_of p) s → IsAllowed (shape_of p) s
+      → IsUnder (shape_of p) (LeafPasses false p r.networks (to_undercut r.count r.networks))
+      (first_node ∷ []) r.tree s
   under s meets allowed =
-      covers (shape_of p) s (proper_if_valid p valid) (LeafPasses false p r.networks (to_undercut r.count r.networks)) (first_node ∷ []) r.tree ranked.passes (inl (in_first s meets allowed))
+      covers (shape_of p) s (proper_if_valid p valid)
+      (LeafPasses false p r.networks (to_undercut r.count r.networks)) (first_node ∷ []) r.tree
+      ranked.passes (inl (in_first s meets allowed))
 
-  -- a structure of a leaf costs enough, or is that of a network, and costs at least what the network does
-  leaf_says : (n : Node) (l : Leaf) → LeafPasses false p r.networks (to_undercut r.count r.networks) n l → (s : ℕ → Bool) → InFamily (shape_of p) n.inside n.outside s
+  -- a structure of a leaf costs enough, or is that of a network, and costs at least what the
+  -- network does
+  leaf_says : (n : Node) (l : Leaf)
+      → LeafPasses false p r.networks (to_undercut r.count r.networks) n l → (s : ℕ → Bool)
+      → InFamily (shape_of p) n.inside n.outside s
       → CostsEnough p (to_undercut r.count r.networks) s
-      ⊎ ((k : ℕ) × (v : Network) × (numbered k r.networks ≡ Some v) × ((u : ℕ) → s u ≡ has v.units u) × CostsEnough p (Some (cost_of v)) s)
+      ⊎ ((k : ℕ) × (v : Network) × (numbered k r.networks ≡ Some v)
+      × ((u : ℕ) → s u ≡ has v.units u) × CostsEnough p (Some (cost_of v)) s)
   leaf_says n (plain l) h s f = inl (plain_holds (to_undercut r.count r.networks) scale n l h s f)
   leaf_says n (named k d ys) h s f =
-      let m = named_holds (numbered k r.networks) n d ys (λ v e. listed_feasible p r.networks k v ranked.listed e) h s f in
+      let m =
+      named_holds (numbered k r.networks) n d ys
+      (λ v e. listed_feasible p r.networks k v ranked.listed e) h s f in
       inr (k, m.0, m.1, m.2, m.3)
 
-  pub listed_is_least : (k : ℕ) (w : Network) → numbered k r.networks ≡ Some w → CostsEnough p (Some (cost_of w)) (has w.units)
+  pub listed_is_least : (k : ℕ) (w : Network) → numbered k r.networks ≡ Some w
+      → CostsEnough p (Some (cost_of w)) (has w.units)
   listed_is_least k w e =
       let feasible = listed_feasible p r.networks k w ranked.listed e in
       let u = under (has w.units) feasible.structure feasible.allowed in
       elim (leaf_says u.node u.what u.passes (has w.units) u.in_family) [
-        | inl h ↦ undercuts (length r.networks == r.count) p w (last_cost r.networks) (has w.units) feasible (at_most_last p r.networks k w ranked.listed e) h
-        | inr m ↦ subst (λ (v : Network). CostsEnough p (Some (cost_of v)) (has w.units)) (sym (one_network p r.networks k m.0 w m.1 ranked.listed e m.2 m.3)) m.4
+        | inl h
+            ↦ undercuts (length r.networks == r.count) p w (last_cost r.networks) (has w.units)
+            feasible (at_most_last p r.networks k w ranked.listed e) h
+        | inr m
+            ↦ subst (λ (v : Network). CostsEnough p (Some (cost_of v)) (has w.units))
+            (sym (one_network p r.networks k m.0 w m.1 ranked.listed e m.2 m.3)) m.4
       ]
 
-  pub other_costs_enough : (s : ℕ → Bool) → IsStructure (shape_of p) s → IsAllowed (shape_of p) s → (IsListed r.networks s → ⊥) → CostsEnough p (to_undercut r.count r.networks) s
+  pub other_costs_enough : (s : ℕ → Bool) → IsStructure (shape_of p) s → IsAllowed (shape_of p) s
+      → (IsListed r.networks s → ⊥) → CostsEnough p (to_undercut r.count r.networks) s
   other_costs_enough s meets allowed other =
       let u = under s meets allowed in
       elim (leaf_says u.node u.what u.passes s u.in_family) [
@@ -128,8 +165,12 @@ is_fewer a b h = grind arith
 
 pub others_cost_enough : OthersCostEnough
 others_cost_enough p valid r ranked full s meets allowed other =
-    subst (λ (b : Bool). CostsEnough p (cond b (last_cost r.networks) None) s) (is_full (length r.networks) r.count full) (other_costs_enough p valid r ranked s meets allowed other)
+    subst (λ (b : Bool). CostsEnough p (cond b (last_cost r.networks) None) s)
+    (is_full (length r.networks) r.count full)
+    (other_costs_enough p valid r ranked s meets allowed other)
 
 pub others_have_none : OthersHaveNone
 others_have_none p valid r ranked fewer s meets allowed other =
-    subst (λ (b : Bool). CostsEnough p (cond b (last_cost r.networks) None) s) (is_fewer (length r.networks) r.count fewer) (other_costs_enough p valid r ranked s meets allowed other)
+    subst (λ (b : Bool). CostsEnough p (cond b (last_cost r.networks) None) s)
+    (is_fewer (length r.networks) r.count fewer)
+    (other_costs_enough p valid r ranked s meets allowed other)

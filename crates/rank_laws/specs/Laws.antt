@@ -1,4 +1,4 @@
--- Laws of ranked trees, each of which a public function of this crate has as its contract. Each speaks of every valid problem.
+-- Laws of ranked trees, each the contract of a public function of this crate.
 use Rattle.std.specs.Prelude.{◌≡◌, ℕ, ◌<◌, ℤ, Bool, length, List, [], Option, Some}
 use Rattle.number_sets.specs.Sets.{has}
 use Rattle.problem_rules.specs.Problem.{Problem}
@@ -20,32 +20,37 @@ use Rattle.rank_rules.specs.Ranked.{Ranking, Proves, IsRanked, NetworkIsFault, N
 -- any flows for the units of a listed network cost at least what it does
 abbrev pub ListedAreLeast : Type 0
 ListedAreLeast =
-    (p : Problem) → IsValid p → (r : Ranking) → IsRanked p r → (k : ℕ) (w : Network) → numbered k r.networks ≡ Some w
+    (p : Problem) → IsValid p → (r : Ranking) → IsRanked p r → (k : ℕ) (w : Network)
+    → numbered k r.networks ≡ Some w
     → CostsEnough p (Some (cost_of w)) (has w.units)
 
--- where as many networks stand as were asked for, each allowed solution structure that is not listed costs, with any flows, at
--- least what the last network does
+-- if as many networks are listed as were asked for, each clash-free solution structure that is not
+-- listed costs, with any flows, at least what the last network does
 abbrev pub OthersCostEnough : Type 0
 OthersCostEnough =
     (p : Problem) → IsValid p → (r : Ranking) → IsRanked p r → length r.networks ≡ r.count
-    → (s : ℕ → Bool) → IsStructure (shape_of p) s → IsAllowed (shape_of p) s → (IsListed r.networks s → ⊥)
+    → (s : ℕ → Bool) → IsStructure (shape_of p) s → IsAllowed (shape_of p) s
+    → (IsListed r.networks s → ⊥)
     → CostsEnough p (last_cost r.networks) s
 
--- where fewer stand, no allowed solution structure that is not listed has flows
+-- if fewer are listed, no clash-free solution structure that is not listed has flows
 abbrev pub OthersHaveNone : Type 0
 OthersHaveNone =
     (p : Problem) → IsValid p → (r : Ranking) → IsRanked p r → length r.networks < r.count
-    → (s : ℕ → Bool) → IsStructure (shape_of p) s → IsAllowed (shape_of p) s → (IsListed r.networks s → ⊥)
+    → (s : ℕ → Bool) → IsStructure (shape_of p) s → IsAllowed (shape_of p) s
+    → (IsListed r.networks s → ⊥)
     → (z : ℕ → ℤ) (d : ℤ) → IsFlows (net_of p) s z d → ⊥
 
 -- ---- faults
 
 -- networks that pass have no first fault, and the others have one
 abbrev pub PassingNetworksHaveNoFault : Type 0
-PassingNetworksHaveNoFault = (p : Problem) (r : Ranking) (k : ℕ) (why : RankWhy) → ArePassing p [] r.networks → NetworkIsFault p r k why → ⊥
+PassingNetworksHaveNoFault = (p : Problem) (r : Ranking) (k : ℕ) (why : RankWhy)
+    → ArePassing p [] r.networks → NetworkIsFault p r k why → ⊥
 
 abbrev pub NetworksHaveOneFault : Type 0
-NetworksHaveOneFault = (p : Problem) (r : Ranking) (j k : ℕ) (why other : RankWhy) → NetworkIsFault p r j why → NetworkIsFault p r k other → (j ≡ k) × (why ≡ other)
+NetworksHaveOneFault = (p : Problem) (r : Ranking) (j k : ℕ) (why other : RankWhy)
+    → NetworkIsFault p r j why → NetworkIsFault p r k other → (j ≡ k) × (why ≡ other)
 
 -- no leaf of a ranked tree passes and fails, and one that fails does so for one cause
 abbrev pub LeavesHaveRules : Type 0
@@ -55,7 +60,8 @@ LeavesHaveRules =
 
 -- a tree that passes has no first fault, and the others have one
 abbrev pub PassingTreeHasNoFault : Type 0
-PassingTreeHasNoFault = (partial : Bool) (p : Problem) (r : Ranking) (k : ℕ) (why : RankWhy) → Proves partial p r → NodeIsFault partial p r k why → ⊥
+PassingTreeHasNoFault = (partial : Bool) (p : Problem) (r : Ranking) (k : ℕ) (why : RankWhy)
+    → Proves partial p r → NodeIsFault partial p r k why → ⊥
 
 abbrev pub TreeHasOneFault : Type 0
 TreeHasOneFault =

@@ -1,4 +1,5 @@
-ghost use Rattle.rank_laws.specs.Laws.{PassingNetworksHaveNoFault, NetworksHaveOneFault, LeavesHaveRules, PassingTreeHasNoFault, TreeHasOneFault};
+ghost use Rattle.rank_laws.specs.Laws.{PassingNetworksHaveNoFault, NetworksHaveOneFault};
+ghost use Rattle.rank_laws.specs.Laws.{LeavesHaveRules, PassingTreeHasNoFault, TreeHasOneFault};
 
 /// Networks that pass have no first fault, and those that have one have one number and cause.
 pub fn network_has_one_fault()
@@ -6,7 +7,8 @@ pub fn network_has_one_fault()
     ensures one { NetworksHaveOneFault }
 {}
 
-/// The leaves of ranked trees have rules; a tree that passes has no first fault, and one that has a first fault has one place and cause.
+/// The leaves of ranked trees have rules. A tree that passes has no first fault, and one that has a
+/// first fault has one place and cause.
 pub fn ranking_has_one_fault()
     ensures leaves { LeavesHaveRules }
     ensures passes { PassingTreeHasNoFault }

@@ -1,9 +1,12 @@
-//! What a ranked tree proves: no flows for the units of a listed network cost less than it, and every other allowed structure costs
-//! at least what the last network does, or has no flows where fewer networks stand than were asked for; and that a ranked tree has no
-//! fault, and any other one first fault.
+//! Listed networks are least for their units; no other undercuts the last.
 //!
-//! The laws stand in `specs/Laws`, over the definitions of `rank_rules`. Each is the contract of a function without a body, which a
-//! proof elsewhere calls to have it. They follow from what is proved of trees over any leaves in `tree_laws`.
+//! No flows for the units of a listed network cost less than it. Every other clash-free structure
+//! costs at least what the last network does; if fewer networks are listed than were asked for, it
+//! has no flows. A ranked tree has no fault, and any other tree has one first fault.
+//!
+//! The laws are in `specs/Laws`, over the definitions of `rank_rules`. Each is the contract of a
+//! function without a body. A proof elsewhere calls the function to use the law. They follow from
+//! what `tree_laws` proves of trees over any leaves.
 #![tactic(auto)]
 
 mod faults;

@@ -5,8 +5,9 @@ pub fn listed_are_least()
     ensures { ListedAreLeast }
 {}
 
-/// Where as many networks stand as were asked for, each allowed solution structure that is not listed costs at least what the last
-/// network does, with any flows; where fewer stand, none of them has flows.
+/// If as many networks are listed as were asked for, each clash-free solution structure that is not
+/// listed costs at least what the last network does, with any flows. If fewer are listed, none of
+/// these structures has flows.
 pub fn others_are_no_better()
     ensures full { OthersCostEnough }
     ensures fewer { OthersHaveNone }

@@ -1,6 +1,8 @@
--- The leaves of a ranked tree, which of them pass at a node, and why one fails. A leaf that names a network is judged as a bound
--- against the cost of that network, in the same order, and besides the node has to be that network alone.
-use Rattle.std.specs.Prelude.{◌≡◌, ◌⊎◌, ℕ, ℤ, pos, ◌≤ℤ◌, ◌<◌, Bool, false, List, length, Option, Some, None}
+-- The leaves of a ranked tree, which of them pass at a node, and why one fails. A leaf that names a
+-- network is judged as a bound that has to reach the cost of that network, in the same order. In
+-- addition only that network may be left at the node.
+use Rattle.std.specs.Prelude.{◌≡◌, ◌⊎◌, ℕ, ℤ, pos, ◌≤ℤ◌, ◌<◌, Bool, false, List, length, Option}
+use Rattle.std.specs.Prelude.{Some, None}
 use Rattle.number_sets.specs.Sets.{has}
 use Rattle.problem_rules.specs.Problem.{Problem}
 use Rattle.pns_rules.specs.Shape.{shape_of}
@@ -16,24 +18,27 @@ use Rattle.rank_rules.specs.declared.why.RankWhy.{RankWhy}
 use Rattle.rank_rules.specs.declared.why.RankWhy.TheVariants.{Plain, Named}
 use Rattle.rank_rules.specs.Networks.{cost_of, numbered}
 
--- a leaf of any branch tree; or a leaf that names a network by its number, counted from 1, with a scale and multipliers
+-- a leaf of any branch tree; or a leaf that names a network by its number, counted from 1, with a
+-- scale and multipliers
 pub data Leaf : Type 0 where
   plain : leaves.Leaf → Leaf
   named : ℕ → ℤ → List ℤ → Leaf
 
--- the network is there, no unit is free at the node, and the units that are taken in are those of the network
+-- the network is there, no unit is free at the node, and the units that are taken in are those of
+-- the network
 abbrev pub IsOnly : Problem → Option Network → Node → Type 0
 IsOnly p None n = ⊥
 IsOnly p (Some w) n =
     ((u : ℕ) → u < length p.units → is_free (shape_of p) n u ≡ false)
     × ((u : ℕ) → n.inside u ≡ has w.units u)
 
--- what it costs, where it is there
+-- what the network costs, if it is there
 abbrev pub named_cost : Option Network → Option CostOver
 named_cost None = None
 named_cost (Some w) = Some (cost_of w)
 
-pub record IsNamed (p : Problem) (found : Option Network) (n : Node) (d : ℤ) (ys : List ℤ) : Type 0 where
+pub record IsNamed (p : Problem) (found : Option Network) (n : Node) (d : ℤ) (ys : List ℤ) : Type
+    0 where
   pub only : IsOnly p found n
   pub bounded : IsBounded p (named_cost found) n d ys
 
@@ -50,11 +55,13 @@ LeafFails partial p ws undercut n (named k d ys) why =
     (Fails (IsFormed p n d ys) Sum
     (Fails (Reaches p (named_cost (numbered k ws)) n d ys) Bound ⊥ why) why) why
 
--- the cause is told as it is, but at a leaf that names a network `named` stands in place of `bound`
+-- the cause is reported as it is, but for a leaf that names a network `Bound` is reported as
+-- `Named`
 abbrev pub IsTold : End Leaf → Why → RankWhy → Type 0
 IsTold (branch w) cause why = why ≡ Plain cause
 IsTold (leaf (plain l)) cause why = why ≡ Plain cause
-IsTold (leaf (named k d ys)) cause why = ((cause ≡ Bound) × (why ≡ Named)) ⊎ ((cause ≡ Bound → ⊥) × (why ≡ Plain cause))
+IsTold (leaf (named k d ys)) cause why =
+    ((cause ≡ Bound) × (why ≡ Named)) ⊎ ((cause ≡ Bound → ⊥) × (why ≡ Plain cause))
 
 -- an open leaf of a ranked tree
 abbrev pub IsOpenLeaf : Leaf → Type 0

@@ -1,5 +1,6 @@
--- A ranked tree as an ordinary one, in which each leaf that names a network stands as an open leaf, beside the marks of the open
--- leaves in preorder: what each stands for. An open leaf without a mark is open.
+-- A ranked tree as an ordinary one together with marks. Each leaf that names a network becomes an
+-- open leaf, and the marks say in preorder what each open leaf stands for. An open leaf without a
+-- mark is open.
 use Rattle.std.specs.Prelude.{ℕ, ℤ, List, [], ◌∷◌, Option, Some, None}
 use Rattle.tree_rules.specs.Tree as trees
 use Rattle.tree_rules.specs.Leaf as leaves
@@ -13,7 +14,7 @@ pub record Name : Type 0 where
   pub d : ℤ
   pub ys : List ℤ
 
--- none, where the leaf is open
+-- `None` if the leaf is open
 abbrev pub Mark : Type 0
 Mark = Option Name
 
@@ -29,7 +30,7 @@ abbrev pub other_marks : List Mark → List Mark
 other_marks [] = []
 other_marks (m ∷ ms) = ms
 
--- the end, where the first mark is that of the first open leaf
+-- the end in the ranked tree, if the first mark is that of the first open leaf
 abbrev pub marked_end : List Mark → trees.End leaves.Leaf → trees.End ranks.Leaf
 marked_end ms (trees.branch w) = trees.branch w
 marked_end ms (trees.leaf (leaves.dead x)) = trees.leaf (ranks.plain (leaves.dead x))
@@ -38,7 +39,7 @@ marked_end ms (trees.leaf (leaves.refuted ys)) = trees.leaf (ranks.plain (leaves
 marked_end ms (trees.leaf (leaves.bounded d ys)) = trees.leaf (ranks.plain (leaves.bounded d ys))
 marked_end ms (trees.leaf leaves.untried) = trees.leaf (marked_leaf (first_mark ms))
 
--- the marks of the open leaves behind the end
+-- the marks of the open leaves after the end
 abbrev pub marks_behind : List Mark → trees.End leaves.Leaf → List Mark
 marks_behind ms (trees.branch w) = ms
 marks_behind ms (trees.leaf (leaves.dead x)) = ms

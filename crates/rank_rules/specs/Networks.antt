@@ -1,5 +1,7 @@
--- The networks of a ranked tree: each passes as a claim, costs do not fall, and no two have the same units.
-use Rattle.std.specs.Prelude.{◌≡◌, ◌⊎◌, ℕ, zero, suc, ◌==◌, Bool, false, cond, List, [], ◌∷◌, length, Option, Some, None}
+-- The networks of a ranked tree: each passes as a claim, costs do not fall, and no two have the
+-- same units.
+use Rattle.std.specs.Prelude.{◌≡◌, ◌⊎◌, ℕ, zero, suc, ◌==◌, Bool, false, cond, List, [], ◌∷◌}
+use Rattle.std.specs.Prelude.{length, Option, Some, None}
 use Rattle.number_sets.specs.Sets.{has}
 use Rattle.problem_rules.specs.Problem.{Problem}
 use Rattle.tree_rules.specs.declared.why.Why.{Why}
@@ -33,7 +35,8 @@ last_cost [] = None
 last_cost (w ∷ []) = Some (cost_of w)
 last_cost (w ∷ v ∷ vs) = last_cost (v ∷ vs)
 
--- the cost that is to be undercut: that of the last network, where there are as many networks as were asked for
+-- the cost that has to be undercut: that of the last network, if there are as many networks as were
+-- asked for
 abbrev pub to_undercut : ℕ → List Network → Option CostOver
 to_undercut count ws = cond (length ws == count) (last_cost ws) None
 
@@ -43,7 +46,8 @@ to_undercut count ws = cond (length ws == count) (last_cost ws) None
 abbrev pub IsNoCheaper : Network → Network → Type 0
 IsNoCheaper v w = IsAtLeast (Some (cost_of v)) w.cost w.d
 
--- it costs at least what the network before it does. The earlier networks are listed from the last on.
+-- w costs at least as much as the network before it; the earlier networks are listed from the last
+-- to the first
 abbrev pub RisesFrom : List Network → Network → Type 0
 RisesFrom [] w = Unit {0}
 RisesFrom (v ∷ vs) w = IsNoCheaper v w
@@ -58,7 +62,8 @@ IsInOrder earlier w = RisesFrom earlier w × IsNewTo earlier w
 
 -- ---- which lists pass, and which network fails first
 
--- each network behind the earlier ones is an allowed solution structure with flows of its cost, and in order
+-- each network after the earlier ones is a clash-free solution structure with flows of its cost,
+-- and in order
 abbrev pub ArePassing : Problem → List Network → List Network → Type 0
 ArePassing p earlier [] = Unit {0}
 ArePassing p earlier (w ∷ ws) = IsFeasible p w × IsInOrder earlier w × ArePassing p (w ∷ earlier) ws
@@ -69,9 +74,11 @@ NetworkFails p earlier w why =
     ((cause : Why) × ClaimFails false p (network w) cause × (why ≡ Plain cause))
     ⊎ (IsFeasible p w × (IsInOrder earlier w → ⊥) × (why ≡ Order))
 
--- of the networks behind the earlier ones the first that fails is the one with this number, counted from 1, for the cause
+-- of the networks after the earlier ones the first that fails is the one with this number, counted
+-- from 1, for this cause
 abbrev pub IsFirstOff : Problem → List Network → List Network → ℕ → RankWhy → Type 0
 IsFirstOff p earlier [] k why = ⊥
 IsFirstOff p earlier (w ∷ ws) zero why = ⊥
 IsFirstOff p earlier (w ∷ ws) (suc zero) why = NetworkFails p earlier w why
-IsFirstOff p earlier (w ∷ ws) (suc (suc k)) why = IsFeasible p w × IsInOrder earlier w × IsFirstOff p (w ∷ earlier) ws (suc k) why
+IsFirstOff p earlier (w ∷ ws) (suc (suc k)) why =
+    IsFeasible p w × IsInOrder earlier w × IsFirstOff p (w ∷ earlier) ws (suc k) why

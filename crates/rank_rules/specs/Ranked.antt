@@ -1,5 +1,6 @@
--- Ranked trees, whole or partial, and their first fault. That a list of nodes is one whole tree, and that there are at most as many
--- networks as were asked for, is kept by the type of ranked trees, and asked of nothing here.
+-- Ranked trees, whole or partial, and their first fault. The type of ranked trees keeps that a list
+-- of nodes is one whole tree, and that there are at most as many networks as were asked for. So
+-- nothing here checks it.
 use Rattle.std.specs.Prelude.{ℕ, zero, suc, Bool, true, false, List, [], ◌∷◌}
 use Rattle.problem_rules.specs.Problem.{Problem}
 use Rattle.pns_rules.specs.Shape.{shape_of}
@@ -15,16 +16,19 @@ use Rattle.rank_rules.specs.Leaf.{Leaf, LeafPasses, LeafFails, IsTold}
 abbrev pub Tree : Type 0
 Tree = List (TreeNode Leaf)
 
--- so many networks were asked for, these were found, and this tree is to prove that no other is better
+-- so many networks were asked for, these were found, and this tree has to prove that no other is
+-- better
 pub record Ranking : Type 0 where
   pub count : ℕ
   pub networks : List Network
   pub tree : Tree
 
--- the networks pass, and the tree passes from the node at which nothing is decided. In a partial tree leaves may be open.
+-- The networks pass, and the tree passes from the node at which nothing is decided. In a partial
+-- tree leaves may be open.
 pub record Proves (partial : Bool) (p : Problem) (r : Ranking) : Type 0 where
   pub listed : ArePassing p [] r.networks
-  pub passes : Pass (shape_of p) (LeafPasses partial p r.networks (to_undercut r.count r.networks)) (first_node ∷ []) r.tree
+  pub passes : Pass (shape_of p) (LeafPasses partial p r.networks (to_undercut r.count r.networks))
+      (first_node ∷ []) r.tree
 
 abbrev pub IsRanked : Problem → Ranking → Type 0
 IsRanked = Proves false
@@ -38,14 +42,18 @@ IsPartlyRanked = Proves true
 abbrev pub NetworkIsFault : Problem → Ranking → ℕ → RankWhy → Type 0
 NetworkIsFault p r k why = IsFirstOff p [] r.networks k why
 
--- the cause is told so at node k
+-- at node k the cause is reported as this one
 abbrev pub IsToldAt : Tree → ℕ → Why → RankWhy → Type 0
 IsToldAt [] k cause why = ⊥
 IsToldAt (t ∷ ts) zero cause why = IsTold t.end cause why
 IsToldAt (t ∷ ts) (suc k) cause why = IsToldAt ts k cause why
 
 -- node k is the first that fails, for the cause
-pub record NodeIsFault (partial : Bool) (p : Problem) (r : Ranking) (k : ℕ) (why : RankWhy) : Type 0 where
+pub record NodeIsFault (partial : Bool) (p : Problem) (r : Ranking) (k : ℕ) (why : RankWhy) : Type
+    0 where
   pub cause : Why
-  pub first : IsFirstFault (shape_of p) (LeafPasses partial p r.networks (to_undercut r.count r.networks)) (LeafFails partial p r.networks (to_undercut r.count r.networks)) (first_node ∷ []) r.tree k cause
+  pub first : IsFirstFault (shape_of p)
+      (LeafPasses partial p r.networks (to_undercut r.count r.networks))
+      (LeafFails partial p r.networks (to_undercut r.count r.networks)) (first_node ∷ []) r.tree k
+      cause
   pub told : IsToldAt r.tree k cause why

@@ -1,7 +1,9 @@
--- The ranking that a text stands for, or its first fault: the least line that has one, with its kind. Tree and tail are read as those of
--- a tree text that has the line `open` for each line that names a network. Where such a line has a fault, and no line up to it one in
--- that text, the fault is its own.
-use Rattle.std.specs.Prelude.{ℕ, zero, suc, nat_le, nat_lt, List, [], ◌∷◌, map, Result, Ok, Err, if◌then◌else◌}
+-- The ranking that a text stands for, or its first fault: that of the first line that has one, with
+-- its kind. Tree and tail are read from the tree text that has the line `open` for each line that
+-- names a network. If such a line has a fault, and that tree text has none up to this line, the
+-- fault of the line counts.
+use Rattle.std.specs.Prelude.{ℕ, zero, suc, nat_le, nat_lt, List, [], ◌∷◌, map, Result, Ok, Err}
+use Rattle.std.specs.Prelude.{if◌then◌else◌}
 use Rattle.std.specs.Str.{bytes_eq}
 use Rattle.problem_rules.specs.Problem.{Problem}
 use Rattle.tree_rules.specs.Claim.{Network}
@@ -10,7 +12,8 @@ use Rattle.tree_rules.specs.Tail.{Tail}
 use Rattle.tree_text_rules.specs.Line.{Token, Line, lines_of, tokens_of}
 use Rattle.tree_text_rules.specs.LineRead.{formed, one}
 use Rattle.tree_text_rules.specs.Token.{judged, count_of}
-use Rattle.tree_text_rules.specs.Read.{Fault, Taken, on_line, first_line, then_read, network_taken, tree_taken, tail_taken}
+use Rattle.tree_text_rules.specs.Read.{Fault, Taken, on_line, first_line, then_read, network_taken}
+use Rattle.tree_text_rules.specs.Read.{tree_taken, tail_taken}
 use Rattle.tree_text_rules.specs.declared.TreeKind.{TreeKind}
 use Rattle.tree_text_rules.specs.declared.TreeKind.TheVariants.{FileType, BadLine, BadNumber}
 use Rattle.rank_rules.specs.Marked.{Mark}
@@ -21,12 +24,16 @@ use Rattle.rank_rules.specs.Spelling.{file_type, count_word, networks_word}
 -- ---- the first three lines
 
 abbrev pub file_type_read : Line → Result (Unit {0}) TreeKind
-file_type_read line = if line.ended then (if bytes_eq line.text file_type then Ok tt else Err FileType) else Err FileType
+file_type_read line =
+    if line.ended then (if bytes_eq line.text file_type then Ok tt else Err FileType) else Err
+    FileType
 
--- a word, and the one token behind it
-abbrev pub behind_word : {A : Type 0} → Token → (Token → Result A TreeKind) → List Token → Result A TreeKind
+-- a word, and the one token after it
+abbrev pub behind_word : {A : Type 0} → Token → (Token → Result A TreeKind) → List Token
+    → Result A TreeKind
 behind_word word read [] = Err BadLine
-behind_word word read (token ∷ tokens) = if bytes_eq token word then one read tokens else Err BadLine
+behind_word word read (token ∷ tokens) =
+    if bytes_eq token word then one read tokens else Err BadLine
 
 abbrev pub word_read : Token → Line → Result ℕ TreeKind
 word_read word line = formed line (behind_word word count_of (tokens_of line))
@@ -35,19 +42,23 @@ word_read word line = formed line (behind_word word count_of (tokens_of line))
 abbrev pub count_read : Line → Result ℕ TreeKind
 count_read line = judged (nat_le 1) BadNumber (word_read count_word line)
 
--- how many are there, at most so many
+-- how many are there, at most as many as were asked for
 abbrev pub networks_read : ℕ → Line → Result ℕ TreeKind
 networks_read count line = judged (λ k. nat_le k count) BadNumber (word_read networks_word line)
 
 -- ---- the networks
 
-abbrev pub with_network : Network → Result (Taken (List Network)) Fault → Result (Taken (List Network)) Fault
-with_network w (Ok taken) = Ok (record { what = w ∷ taken.what; number = taken.number; behind = taken.behind })
+abbrev pub with_network : Network → Result (Taken (List Network)) Fault
+    → Result (Taken (List Network)) Fault
+with_network w (Ok taken) =
+    Ok (record { what = w ∷ taken.what; number = taken.number; behind = taken.behind })
 with_network w (Err fault) = Err fault
 
 abbrev pub networks_taken : Problem → ℕ → ℕ → List Line → Result (Taken (List Network)) Fault
 networks_taken p zero number lines = Ok (record { what = []; number = number; behind = lines })
-networks_taken p (suc k) number lines = then_read (network_taken p number lines) (λ w number lines. with_network w (networks_taken p k number lines))
+networks_taken p (suc k) number lines =
+    then_read (network_taken p number lines)
+    (λ w number lines. with_network w (networks_taken p k number lines))
 
 -- ---- the tree and the tail
 
@@ -60,21 +71,33 @@ with_tail tree (Ok tail) = Ok (record { tree = tree; tail = tail })
 with_tail tree (Err fault) = Err fault
 
 abbrev pub grown_taken : Problem → ℕ → List Line → Result Grown Fault
-grown_taken p number lines = then_read (tree_taken p number lines) (λ tree number lines. with_tail tree (tail_taken p number lines))
+grown_taken p number lines =
+    then_read (tree_taken p number lines)
+    (λ tree number lines. with_tail tree (tail_taken p number lines))
 
--- the fault of the lesser line; on one line that of the tree text, in which no leaf may end there
+-- the fault of the earlier line; on one line that of the tree text, in which no leaf may end there
 abbrev pub earlier : Fault → Fault → Fault
 earlier named other = if nat_lt named.0 other.0 then named else other
 
--- the ranking, where neither reading has a fault
-abbrev pub put_together : ℕ → List Network → Result (List Mark) Fault → Result Grown Fault → Result Text Fault
-put_together count ws (Ok marks) (Ok grown) = Ok (record { count = count; networks = ws; tree = grown.tree; marks = marks; tail = grown.tail })
+-- the ranking, if neither reading has a fault
+abbrev pub put_together : ℕ → List Network → Result (List Mark) Fault → Result Grown Fault
+    → Result Text Fault
+put_together count ws (Ok marks) (Ok grown) =
+    Ok (record {
+      count = count;
+      networks = ws;
+      tree = grown.tree;
+      marks = marks;
+      tail =
+          grown.tail;
+    })
 put_together count ws (Ok marks) (Err fault) = Err fault
 put_together count ws (Err fault) (Ok grown) = Err fault
 put_together count ws (Err fault) (Err other) = Err (earlier fault other)
 
 abbrev pub behind_networks : Problem → ℕ → List Network → ℕ → List Line → Result Text Fault
-behind_networks p count ws number lines = put_together count ws (marks_taken number lines) (grown_taken p number (map opened lines))
+behind_networks p count ws number lines =
+    put_together count ws (marks_taken number lines) (grown_taken p number (map opened lines))
 
 -- ---- the text
 
@@ -89,6 +112,6 @@ abbrev pub lines_taken : Problem → List Line → Result Text Fault
 lines_taken p [] = Err (1, FileType)
 lines_taken p (line ∷ lines) = on_line 1 (file_type_read line) (λ read. rest_taken p 2 lines)
 
--- what a reader of rank texts is to answer
+-- what a reader of rank texts has to answer
 abbrev pub read_text : Problem → List ℕ → Result Text Fault
 read_text p bytes = lines_taken p (lines_of bytes)

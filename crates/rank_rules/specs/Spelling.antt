@@ -1,5 +1,6 @@
--- The one text of a ranking, as lines of tokens: how many networks were asked for and how many are there, three lines for each, and
--- then the lines of a tree text behind its claim, where the end of a leaf that names a network is a line of its own.
+-- The one text of a ranking, as lines of tokens: how many networks were asked for, how many are
+-- there, and three lines for each. Then come the lines of a tree text that follow its claim, in
+-- which the end of a leaf that names a network is a line of its own.
 use Rattle.std.specs.Prelude.{ℕ, List, [], ◌∷◌, ◌++◌, length, map, flat_map, codes, decimal}
 use Rattle.std.specs.Fmt.{signed_decimal}
 use Rattle.problem_rules.specs.Problem.{Problem}

@@ -1,4 +1,5 @@
--- What is told of a ranking: the counts, the networks, the tree with its marks, and where the search stopped.
+-- What a text says of a ranking: the counts, the networks, the tree with its marks, and how the
+-- search ended.
 use Rattle.std.specs.Prelude.{ℕ, ◌≤◌, List, [], ◌∷◌, length, Some, None}
 use Rattle.tree_rules.specs.Claim.{Network}
 use Rattle.tree_rules.specs.Accepted.{Tree}
@@ -23,7 +24,7 @@ AreNumbered [] = Unit {0}
 AreNumbered (None ∷ ms) = AreNumbered ms
 AreNumbered (Some m ∷ ms) = (1 ≤ m.network) × AreNumbered ms
 
--- at least one network is asked for, and no more are there
+-- at least one network is asked for, and no more than that are there
 pub record IsCounted (count : ℕ) (networks : List Network) (marks : List Mark) : Type 0 where
   pub asked : 1 ≤ count
   pub within : length networks ≤ count

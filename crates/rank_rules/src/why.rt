@@ -3,11 +3,12 @@ use tree_rules::Why;
 /// Why a network or a node of a ranked tree is refused.
 #[derive(Clone, Copy, Debug, PartialEq, Eq)]
 pub enum RankWhy {
-    /// For a cause that a claim or a node of any branch tree has.
+    /// For a cause that a claim or a node of any branch tree may have.
     Plain(Why),
     /// The network costs less than the one before it, or has the units of an earlier one.
     Order,
-    /// The leaf names no network of the list; a unit is free there; the units that are taken in are not those of the network; the scale
-    /// is below 1, the multipliers are not one for each row, or the bound is below the cost of the network.
+    /// The leaf names no network of the list; or a unit is free there; or the units that are taken
+    /// in are not those of the network; or the scale is below 1, the multipliers are not one for
+    /// each row, or the bound is below the cost of the network.
     Named,
 }

@@ -1,10 +1,12 @@
 -- A tree whose named leaves are open leaves, with its marks, is the ranked tree in which these
 -- leaves name networks.
-use Rattle.std.proofs.Common.{◌≡◌, ℕ, zero, suc, ◌+◌, List, [], ◌∷◌, ◌++◌, length, map, take, drop, slice_set, Option, Some, None, refl, sym, ap, ap₂, ◌∙◌, subst, arith}
+use Rattle.std.proofs.Common.{◌≡◌, ℕ, zero, suc, ◌+◌, List, [], ◌∷◌, ◌++◌, length, map, take, drop}
+use Rattle.std.proofs.Common.{slice_set, Option, Some, None, refl, sym, ap, ap₂, ◌∙◌, subst, arith}
 use Rattle.std.specs.List.{slice_get}
 use Rattle.problem_rules.specs.Each.{Each}
 use Rattle.problem_rules.specs.Problem.{Problem}
-use Rattle.tree_rules.specs.Tree.{End, branch, leaf, TreeNode, children, HasChildren, IsForest, IsTree}
+use Rattle.tree_rules.specs.Tree.{End, branch, leaf, TreeNode, children, HasChildren, IsForest}
+use Rattle.tree_rules.specs.Tree.{IsTree}
 use Rattle.tree_rules.specs.Leaf.{Leaf, dead, clash, refuted, bounded, untried}
 use Rattle.tree_rules.specs.Accepted.{Tree}
 use Rattle.rank_rules.specs.Leaf as ranks
@@ -15,7 +17,8 @@ use Rattle.ranked_tree.specs.declared.mark.Mark as code
 use Rattle.ranked_tree.specs.View.{mark_of}
 use Rattle.rank_rules.specs.Text.{AreNumbered}
 use Rattle.search_tree.specs.Preorder.{told_end}
-use Rattle.rank_search.specs.Naming.{Names, opened_end, opened_node, opened, marks_at, marks_in, marks_of}
+use Rattle.rank_search.specs.Naming.{Names, opened_end, opened_node, opened, marks_at, marks_in}
+use Rattle.rank_search.specs.Naming.{marks_of}
 use Rattle.rank_search.proofs.NameLemmas.{IsCountedName}
 
 -- ---- what a leaf with a name becomes
@@ -36,7 +39,8 @@ named_tree [] ts = []
 named_tree (n ∷ ns) [] = []
 named_tree (n ∷ ns) (t ∷ ts) = named_node n t ∷ named_tree ns ts
 
-marked_one : (n : Option ℕ) (e : End Leaf) (ms : List Mark) → marked_end (marks_at n e ++ ms) (opened_end n e) ≡ told_end (named_leaf n) e
+marked_one : (n : Option ℕ) (e : End Leaf) (ms : List Mark)
+    → marked_end (marks_at n e ++ ms) (opened_end n e) ≡ told_end (named_leaf n) e
 marked_one None (branch w) ms = refl
 marked_one None (leaf (dead x)) ms = refl
 marked_one None (leaf (clash x)) ms = refl
@@ -50,7 +54,8 @@ marked_one (Some k) (leaf (refuted ys)) ms = refl
 marked_one (Some k) (leaf (bounded d ys)) ms = refl
 marked_one (Some k) (leaf untried) ms = refl
 
-behind_one : (n : Option ℕ) (e : End Leaf) (ms : List Mark) → marks_behind (marks_at n e ++ ms) (opened_end n e) ≡ ms
+behind_one : (n : Option ℕ) (e : End Leaf) (ms : List Mark)
+    → marks_behind (marks_at n e ++ ms) (opened_end n e) ≡ ms
 behind_one None (branch w) ms = refl
 behind_one None (leaf (dead x)) ms = refl
 behind_one None (leaf (clash x)) ms = refl
@@ -64,14 +69,17 @@ behind_one (Some k) (leaf (refuted ys)) ms = refl
 behind_one (Some k) (leaf (bounded d ys)) ms = refl
 behind_one (Some k) (leaf untried) ms = refl
 
-pub marked_is : (ns : Names) (ts : Tree) → length ns ≡ length ts → marked (marks_in ns ts) (opened ns ts) ≡ named_tree ns ts
+pub marked_is : (ns : Names) (ts : Tree) → length ns ≡ length ts
+    → marked (marks_in ns ts) (opened ns ts) ≡ named_tree ns ts
 marked_is [] [] l = refl
 marked_is [] (t ∷ ts) l = absurd (omega (arith, l))
 marked_is (n ∷ ns) [] l = absurd (omega (arith, l))
 marked_is (n ∷ ns) (t ∷ ts) l =
-    ap₂ (λ (e : End ranks.Leaf) (us : ranked.Tree). record { option = t.option; steps = t.steps; end = e } ∷ us)
+    ap₂ (λ (e : End ranks.Leaf) (us : ranked.Tree).
+    record { option = t.option; steps = t.steps; end = e } ∷ us)
     (marked_one n t.end (marks_in ns ts))
-    (ap (λ (ms : List Mark). marked ms (opened ns ts)) (behind_one n t.end (marks_in ns ts)) ∙ marked_is ns ts (omega (arith, l)))
+    (ap (λ (ms : List Mark). marked ms (opened ns ts)) (behind_one n t.end (marks_in ns ts))
+    ∙ marked_is ns ts (omega (arith, l)))
 
 -- ---- the form of the tree
 
@@ -98,8 +106,11 @@ opened_forest k [] ts h = h
 opened_forest zero (n ∷ ns) [] h = h
 opened_forest (suc k) (n ∷ ns) [] h = h
 opened_forest zero (n ∷ ns) (t ∷ ts) h = absurd h
-opened_forest (suc k) (n ∷ ns) (t ∷ ts) h =
-    (has_same n t.end h.0, subst (λ (c : ℕ). IsForest (c + k) (opened ns ts)) (sym (same_children n t.end)) (opened_forest (children t.end + k) ns ts h.1))
+opened_forest (suc k) (n ∷ ns) (t ∷ ts) h = (
+  has_same n t.end h.0,
+  subst (λ (c : ℕ). IsForest (c + k) (opened ns ts)) (sym (same_children n t.end))
+      (opened_forest (children t.end + k) ns ts h.1),
+)
 
 pub opened_is_tree : (ns : Names) (ts : Tree) → IsTree ts → IsTree (opened ns ts)
 opened_is_tree [] ts h = h
@@ -111,7 +122,8 @@ length-opened [] ts = refl
 length-opened (n ∷ ns) [] = refl
 length-opened (n ∷ ns) (t ∷ ts) = ap suc (length-opened ns ts)
 
-knows_opened : (p : Problem) (n : Option ℕ) (e : End Leaf) → KnowsEnd p e → KnowsEnd p (opened_end n e)
+knows_opened : (p : Problem) (n : Option ℕ) (e : End Leaf) → KnowsEnd p e
+    → KnowsEnd p (opened_end n e)
 knows_opened p None e h = h
 knows_opened p (Some k) (branch w) h = h
 knows_opened p (Some k) (leaf (dead x)) h = h
@@ -120,14 +132,19 @@ knows_opened p (Some k) (leaf (refuted ys)) h = h
 knows_opened p (Some k) (leaf (bounded d ys)) h = tt
 knows_opened p (Some k) (leaf untried) h = h
 
-pub opened_known : (p : Problem) (ns : Names) (ts : Tree) → KnowsTree p ts → KnowsTree p (opened ns ts)
+pub opened_known : (p : Problem) (ns : Names) (ts : Tree) → KnowsTree p ts
+    → KnowsTree p (opened ns ts)
 opened_known p [] ts h = h
 opened_known p (n ∷ ns) [] h = tt
-opened_known p (n ∷ ns) (t ∷ ts) h = (record { option = h.0.option; steps = h.0.steps; end = knows_opened p n t.end h.0.end }, opened_known p ns ts h.1)
+opened_known p (n ∷ ns) (t ∷ ts) h = (
+  record { option = h.0.option; steps = h.0.steps; end = knows_opened p n t.end h.0.end },
+  opened_known p ns ts h.1,
+)
 
 -- ---- the marks are numbered
 
-numbered_with : (n : Option ℕ) (e : End Leaf) (ms : List Mark) → IsCountedName n → AreNumbered ms → AreNumbered (marks_at n e ++ ms)
+numbered_with : (n : Option ℕ) (e : End Leaf) (ms : List Mark) → IsCountedName n → AreNumbered ms
+    → AreNumbered (marks_at n e ++ ms)
 numbered_with None (branch w) ms c h = h
 numbered_with None (leaf (dead x)) ms c h = h
 numbered_with None (leaf (clash x)) ms c h = h
@@ -144,12 +161,14 @@ numbered_with (Some k) (leaf untried) ms c h = h
 pub marks_numbered : (ns : Names) (ts : Tree) → Each IsCountedName ns → AreNumbered (marks_in ns ts)
 marks_numbered [] ts h = tt
 marks_numbered (n ∷ ns) [] h = tt
-marks_numbered (n ∷ ns) (t ∷ ts) h = numbered_with n t.end (marks_in ns ts) h.0 (marks_numbered ns ts h.1)
+marks_numbered (n ∷ ns) (t ∷ ts) h =
+    numbered_with n t.end (marks_in ns ts) h.0 (marks_numbered ns ts h.1)
 
 -- ---- node after node
 
 -- the first i nodes are opened, and then the next
-pub opened_next : (ns : Names) (ts : Tree) (i : ℕ) (n : Option ℕ) (t : TreeNode Leaf) → slice_get ns i ≡ Some n → slice_get (opened (take i ns) ts) i ≡ Some t
+pub opened_next : (ns : Names) (ts : Tree) (i : ℕ) (n : Option ℕ) (t : TreeNode Leaf)
+    → slice_get ns i ≡ Some n → slice_get (opened (take i ns) ts) i ≡ Some t
     → slice_set (opened (take i ns) ts) i (opened_node n t) ≡ opened (take (suc i) ns) ts
 opened_next [] ts i n t hn ht = cc
 opened_next (m ∷ ms) [] zero n t hn ht = cc
@@ -158,10 +177,12 @@ opened_next (m ∷ ms) (u ∷ us) zero n t hn ht =
     let a : m ≡ n = cc in
     let b : u ≡ t = cc in
     ap₂ (λ (o : Option ℕ) (w : TreeNode Leaf). opened_node o w ∷ us) (sym a) (sym b)
-opened_next (m ∷ ms) (u ∷ us) (suc i) n t hn ht = ap (λ (ws : Tree). opened_node m u ∷ ws) (opened_next ms us i n t hn ht)
+opened_next (m ∷ ms) (u ∷ us) (suc i) n t hn ht =
+    ap (λ (ws : Tree). opened_node m u ∷ ws) (opened_next ms us i n t hn ht)
 
 -- with their marks
-pub marks_next : (ns : Names) (ts : Tree) (i : ℕ) (n : Option ℕ) (t : TreeNode Leaf) → slice_get ns i ≡ Some n → slice_get (opened (take i ns) ts) i ≡ Some t
+pub marks_next : (ns : Names) (ts : Tree) (i : ℕ) (n : Option ℕ) (t : TreeNode Leaf)
+    → slice_get ns i ≡ Some n → slice_get (opened (take i ns) ts) i ≡ Some t
     → marks_in (take i ns) ts ++ marks_at n t.end ≡ marks_in (take (suc i) ns) ts
 marks_next [] ts i n t hn ht = cc
 marks_next (m ∷ ms) [] zero n t hn ht = cc
@@ -169,21 +190,24 @@ marks_next (m ∷ ms) [] (suc i) n t hn ht = cc
 marks_next (m ∷ ms) (u ∷ us) zero n t hn ht =
     let a : m ≡ n = cc in
     let b : u ≡ t = cc in
-    ap₂ (λ (o : Option ℕ) (w : TreeNode Leaf). marks_at o w.end) (sym a) (sym b) ∙ none (marks_at m u.end)
+    ap₂ (λ (o : Option ℕ) (w : TreeNode Leaf). marks_at o w.end) (sym a) (sym b)
+    ∙ none (marks_at m u.end)
   where
     none : (xs : List Mark) → xs ≡ xs ++ []
     none [] = refl
     none (x ∷ xs) = ap (λ (ys : List Mark). x ∷ ys) (none xs)
 marks_next (m ∷ ms) (u ∷ us) (suc i) n t hn ht =
     let ih = marks_next ms us i n t hn ht in
-    together (marks_at m u.end) (marks_in (take i ms) us) (marks_at n t.end) ∙ ap (λ (ks : List Mark). marks_at m u.end ++ ks) ih
+    together (marks_at m u.end) (marks_in (take i ms) us) (marks_at n t.end)
+    ∙ ap (λ (ks : List Mark). marks_at m u.end ++ ks) ih
   where
     together : (xs ys zs : List Mark) → (xs ++ ys) ++ zs ≡ xs ++ (ys ++ zs)
     together [] ys zs = refl
     together (x ∷ xs) ys zs = ap (λ (ks : List Mark). x ∷ ks) (together xs ys zs)
 
 -- the marks of the code, and one more
-pub marks_pushed : (ms : List code.Mark) (m : code.Mark) → map mark_of (ms ++ m ∷ []) ≡ map mark_of ms ++ marks_of (Some m)
+pub marks_pushed : (ms : List code.Mark) (m : code.Mark)
+    → map mark_of (ms ++ m ∷ []) ≡ map mark_of ms ++ marks_of (Some m)
 marks_pushed [] m = refl
 marks_pushed (x ∷ xs) m = ap (λ (ks : List Mark). mark_of x ∷ ks) (marks_pushed xs m)
 
@@ -195,17 +219,23 @@ next : (n : ℕ) → suc n ≡ n + 1
 next n = omega arith
 
 -- what becomes of the nodes and the marks if the next node is taken
-pub take_next : (ns : Names) (ts now : Tree) (ks : List Mark) (i : ℕ) (n : Option ℕ) (t u : TreeNode Leaf) (r : List Mark)
-    → slice_get ns i ≡ Some n → now ≡ opened (take i ns) ts → slice_get now i ≡ Some t → u ≡ opened_node n t → r ≡ marks_at n t.end → ks ≡ marks_in (take i ns) ts
+pub take_next : (ns : Names) (ts now : Tree) (ks : List Mark) (i : ℕ) (n : Option ℕ)
+    (t u : TreeNode Leaf) (r : List Mark)
+    → slice_get ns i ≡ Some n → now ≡ opened (take i ns) ts → slice_get now i ≡ Some t
+    → u ≡ opened_node n t → r ≡ marks_at n t.end → ks ≡ marks_in (take i ns) ts
     → (slice_set now i u ≡ opened (take (i + 1) ns) ts) × (ks ++ r ≡ marks_in (take (i + 1) ns) ts)
 take_next ns ts now ks i n t u r hn is ht ut rt kt =
-    let there : slice_get (opened (take i ns) ts) i ≡ Some t = subst (λ (us : Tree). slice_get us i ≡ Some t) is ht in (
-      ap₂ (λ (us : Tree) (w : TreeNode Leaf). slice_set us i w) is ut ∙ (opened_next ns ts i n t hn there ∙ ap (λ (j : ℕ). opened (take j ns) ts) (next i)),
-      ap₂ (λ (xs ys : List Mark). xs ++ ys) kt rt ∙ (marks_next ns ts i n t hn there ∙ ap (λ (j : ℕ). marks_in (take j ns) ts) (next i)),
+    let there : slice_get (opened (take i ns) ts) i ≡ Some t =
+    subst (λ (us : Tree). slice_get us i ≡ Some t) is ht in (
+      ap₂ (λ (us : Tree) (w : TreeNode Leaf). slice_set us i w) is ut
+          ∙ (opened_next ns ts i n t hn there ∙ ap (λ (j : ℕ). opened (take j ns) ts) (next i)),
+      ap₂ (λ (xs ys : List Mark). xs ++ ys) kt rt
+          ∙ (marks_next ns ts i n t hn there ∙ ap (λ (j : ℕ). marks_in (take j ns) ts) (next i)),
     )
 
 -- a list that was overwritten whole
-pub written_over : {X : Type 0} (xs ys : List X) (n : ℕ) → length xs ≡ length ys → n ≡ length ys → take n (xs ++ drop (length xs) ys) ≡ xs
+pub written_over : {X : Type 0} (xs ys : List X) (n : ℕ) → length xs ≡ length ys → n ≡ length ys
+    → take n (xs ++ drop (length xs) ys) ≡ xs
 written_over {X} [] [] n l h = subst (λ (k : ℕ). take {A = X} k [] ≡ []) (sym h) refl
 written_over {X} [] (y ∷ ys) n l h = absurd (omega (arith, l))
 written_over {X} (x ∷ xs) [] n l h = absurd (omega (arith, l))

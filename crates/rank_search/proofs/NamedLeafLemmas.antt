@@ -1,6 +1,8 @@
 -- Each leaf of the answer passes: one that names a network names the one of its node, and another
 -- one, if it is bounded, is bounded by the last network.
-use Rattle.std.proofs.Common.{◌≡◌, ℕ, zero, suc, ◌+◌, ◌<◌, ℤ, Bool, true, false, cond, List, [], ◌∷◌, length, Option, Some, None, refl, sym, ap, ◌∙◌, subst, arith, inl, inr, eq-eqb}
+use Rattle.std.proofs.Common.{◌≡◌, ℕ, zero, suc, ◌+◌, ◌<◌, ℤ, Bool, true, false, cond, List, []}
+use Rattle.std.proofs.Common.{◌∷◌, length, Option, Some, None, refl, sym, ap, ◌∙◌, subst, arith}
+use Rattle.std.proofs.Common.{inl, inr, eq-eqb}
 use Rattle.std.specs.List.{slice_get}
 use Rattle.std.proofs.lemmas.List.{length-map}
 use Rattle.problem_rules.specs.Problem.{Problem}
@@ -20,7 +22,8 @@ use Rattle.search_tree.specs.Shut.{shut_as, shut_leaf}
 use Rattle.search_tree.proofs.ShutLemmas.{proof_of}
 use Rattle.abb_search.specs.declared.growing.Growing.{Growing}
 use Rattle.abb_search.specs.Closing.{ShutsNode, ShutsLeaf, ShutAll, ShutsIfSome, ShutSome}
-use Rattle.rank_search.specs.Found.{FoundAt, networks_of, undercut_by, IsOfLeaf, IsFoundThere, AreBest}
+use Rattle.rank_search.specs.Found.{FoundAt, networks_of, undercut_by, IsOfLeaf, IsFoundThere}
+use Rattle.rank_search.specs.Found.{AreBest}
 use Rattle.rank_search.specs.Naming.{names_of}
 use Rattle.rank_search.proofs.NameLemmas.{name_is}
 use Rattle.rank_search.proofs.MarkLemmas.{named_leaf}
@@ -34,30 +37,41 @@ ClosesAt partial p undercut n None = partial ≡ true
 ClosesAt partial p undercut n (Some m) = ShutsNode p undercut n m
 
 abbrev pub Closes : Bool → Problem → Option CostOver → List Cell → List (Option Shut) → Type 0
-Closes partial p undercut cells ms = (j : ℕ) → j < length cells → (cell_at cells j).end ≡ leaf untried → ClosesAt partial p undercut (place_of (cell_at cells j)) (proof_of ms j)
+Closes partial p undercut cells ms = (j : ℕ) → j < length cells
+    → (cell_at cells j).end ≡ leaf untried
+    → ClosesAt partial p undercut (place_of (cell_at cells j)) (proof_of ms j)
 
-shuts_one : (p : Problem) (undercut : Option CostOver) (c : Cell) (m : Option Shut) → c.end ≡ leaf untried → ShutsLeaf p undercut c m → ClosesAt false p undercut (place_of c) m
+shuts_one : (p : Problem) (undercut : Option CostOver) (c : Cell) (m : Option Shut)
+    → c.end ≡ leaf untried → ShutsLeaf p undercut c m → ClosesAt false p undercut (place_of c) m
 shuts_one p undercut c None is h = absurd (h is)
 shuts_one p undercut c (Some m) is h = h
 
-pub all_close : (p : Problem) (s : Growing) (undercut : Option CostOver) (ms : List (Option Shut)) → ShutAll p s undercut ms → Closes false p undercut s.pool.payloads ms
-all_close p s undercut ms h j lt is = shuts_one p undercut (cell_at s.pool.payloads j) (proof_of ms j) is (h j lt)
+pub all_close : (p : Problem) (s : Growing) (undercut : Option CostOver) (ms : List (Option Shut))
+    → ShutAll p s undercut ms → Closes false p undercut s.pool.payloads ms
+all_close p s undercut ms h j lt is =
+    shuts_one p undercut (cell_at s.pool.payloads j) (proof_of ms j) is (h j lt)
 
-shuts_some : (p : Problem) (undercut : Option CostOver) (n : Node) (m : Option Shut) → ShutsIfSome p undercut n m → ClosesAt true p undercut n m
+shuts_some : (p : Problem) (undercut : Option CostOver) (n : Node) (m : Option Shut)
+    → ShutsIfSome p undercut n m → ClosesAt true p undercut n m
 shuts_some p undercut n None h = refl
 shuts_some p undercut n (Some m) h = h
 
-pub some_close : (p : Problem) (s : Growing) (undercut : Option CostOver) (ms : List (Option Shut)) → ShutSome p s undercut ms → Closes true p undercut s.pool.payloads ms
-some_close p s undercut ms h j lt is = shuts_some p undercut (place_of (cell_at s.pool.payloads j)) (proof_of ms j) (h j lt)
+pub some_close : (p : Problem) (s : Growing) (undercut : Option CostOver) (ms : List (Option Shut))
+    → ShutSome p s undercut ms → Closes true p undercut s.pool.payloads ms
+some_close p s undercut ms h j lt is =
+    shuts_some p undercut (place_of (cell_at s.pool.payloads j)) (proof_of ms j) (h j lt)
 
 -- ---- a leaf without a name
 
-shut_passes : (partial : Bool) (p : Problem) (undercut : Option CostOver) (n : Node) (m : Shut) → ShutsNode p undercut n m → leaves.LeafPasses partial p undercut n (shut_as m)
+shut_passes : (partial : Bool) (p : Problem) (undercut : Option CostOver) (n : Node) (m : Shut)
+    → ShutsNode p undercut n m → leaves.LeafPasses partial p undercut n (shut_as m)
 shut_passes partial p undercut n (shuts.Bounded m) h = h.bounded
 shut_passes partial p undercut n (shuts.Refuted ys) h = h.refuted
 
-plain_passes : (partial : Bool) (p : Problem) (claimed undercut : Option CostOver) (n : Node) (l : Leaf) (m : Option Shut) → leaves.LeafPasses true p claimed n l
-    → ((d : ℤ) (ys : List ℤ) → l ≡ bounded d ys → IsBounded p undercut n d ys) → (l ≡ untried → ClosesAt partial p undercut n m)
+plain_passes : (partial : Bool) (p : Problem) (claimed undercut : Option CostOver) (n : Node)
+    (l : Leaf) (m : Option Shut) → leaves.LeafPasses true p claimed n l
+    → ((d : ℤ) (ys : List ℤ) → l ≡ bounded d ys → IsBounded p undercut n d ys)
+    → (l ≡ untried → ClosesAt partial p undercut n m)
     → leaves.LeafPasses partial p undercut n (shut_leaf m l)
 plain_passes partial p claimed undercut n (dead x) None h b o = h
 plain_passes partial p claimed undercut n (dead x) (Some m) h b o = h
@@ -68,7 +82,8 @@ plain_passes partial p claimed undercut n (refuted ys) (Some m) h b o = h
 plain_passes partial p claimed undercut n (bounded d ys) None h b o = b d ys refl
 plain_passes partial p claimed undercut n (bounded d ys) (Some m) h b o = b d ys refl
 plain_passes partial p claimed undercut n untried None h b o = o refl
-plain_passes partial p claimed undercut n untried (Some m) h b o = shut_passes partial p undercut n m (o refl)
+plain_passes partial p claimed undercut n untried (Some m) h b o =
+    shut_passes partial p undercut n m (o refl)
 
 bounded_stays : (m : Option Shut) (d : ℤ) (ys : List ℤ) → shut_leaf m (bounded d ys) ≡ bounded d ys
 bounded_stays None d ys = refl
@@ -95,7 +110,8 @@ named_open (Some k) (refuted ys) h = plain_is (refuted ys) untried h
 named_open (Some k) (bounded d ys) h = let q : ranks.named k d ys ≡ ranks.plain untried = h in cc
 named_open (Some k) untried h = refl
 
-pub still_open : (n : Option ℕ) (m : Option Shut) (l : Leaf) → named_leaf n (shut_leaf m l) ≡ ranks.plain untried → l ≡ untried
+pub still_open : (n : Option ℕ) (m : Option Shut) (l : Leaf)
+    → named_leaf n (shut_leaf m l) ≡ ranks.plain untried → l ≡ untried
 still_open n m l h = shut_open m l (named_open n (shut_leaf m l) h)
 
 never_open : (m : Shut) → shut_as m ≡ untried → ⊥
@@ -103,7 +119,8 @@ never_open (shuts.Bounded m) h = let q : bounded m.d m.ys ≡ untried = h in cc
 never_open (shuts.Refuted ys) h = let q : refuted ys ≡ untried = h in cc
 
 -- nothing shuts one that is open in the answer
-pub told_unshut : (n : Option ℕ) (m : Option Shut) → named_leaf n (shut_leaf m untried) ≡ ranks.plain untried → m ≡ None
+pub told_unshut : (n : Option ℕ) (m : Option Shut)
+    → named_leaf n (shut_leaf m untried) ≡ ranks.plain untried → m ≡ None
 told_unshut n None h = refl
 told_unshut n (Some m) h = absurd (never_open m (named_open n (shut_as m) h))
 
@@ -114,7 +131,8 @@ told_open (Some k) = refl
 
 -- ---- the networks by their numbers
 
-network_there : (fs : List FoundAt) (at : ℕ) (f : FoundAt) → slice_get fs at ≡ Some f → network_at at (networks_of fs) ≡ Some f.network
+network_there : (fs : List FoundAt) (at : ℕ) (f : FoundAt) → slice_get fs at ≡ Some f
+    → network_at at (networks_of fs) ≡ Some f.network
 network_there [] at f h = cc
 network_there (g ∷ gs) zero f h = let e : g ≡ f = cc in ap (λ (o : FoundAt). Some o.network) e
 network_there (g ∷ gs) (suc at) f h = network_there gs at f h
@@ -122,47 +140,68 @@ network_there (g ∷ gs) (suc at) f h = network_there gs at f h
 one_more : (at : ℕ) → 1 + at ≡ suc at
 one_more at = omega arith
 
-numbered_there : (fs : List FoundAt) (at : ℕ) (f : FoundAt) → slice_get fs at ≡ Some f → numbered (1 + at) (networks_of fs) ≡ Some f.network
-numbered_there fs at f h = ap (λ (k : ℕ). numbered k (networks_of fs)) (one_more at) ∙ network_there fs at f h
+numbered_there : (fs : List FoundAt) (at : ℕ) (f : FoundAt) → slice_get fs at ≡ Some f
+    → numbered (1 + at) (networks_of fs) ≡ Some f.network
+numbered_there fs at f h = ap (λ (k : ℕ). numbered k (networks_of fs)) (one_more at)
+    ∙ network_there fs at f h
 
-undercut_is : (count : ℕ) (fs : List FoundAt) → length fs ≡ count → undercut_by count fs ≡ last_cost (networks_of fs)
+undercut_is : (count : ℕ) (fs : List FoundAt) → length fs ≡ count
+    → undercut_by count fs ≡ last_cost (networks_of fs)
 undercut_is count fs h =
     let l : length (networks_of fs) ≡ count = length-map fs (λ (f : FoundAt). f.network) ∙ h in
-    ap (λ (b : Bool). cond b (last_cost (networks_of fs)) None) (eq-eqb (length (networks_of fs)) count l)
+    ap (λ (b : Bool). cond b (last_cost (networks_of fs)) None)
+    (eq-eqb (length (networks_of fs)) count l)
 
 end_inj : (l k : Leaf) → leaf l ≡ leaf k → l ≡ k
 end_inj l k h = cc
 
 -- ---- a leaf of the answer
 
-module _ (partial : Bool) (p : Problem) (count : ℕ) (start : Node) (claimed : Option CostOver) (cells : List Cell) (fits : Fits (shape_of p) (leaves.LeafPasses true p claimed) start cells)
-    (fs : List FoundAt) (best : AreBest p count cells fs) (ms : List (Option Shut)) (closes : Closes partial p (undercut_by count fs) cells ms) where
+module _ (partial : Bool) (p : Problem) (count : ℕ) (start : Node) (claimed : Option CostOver)
+    (cells : List Cell) (fits : Fits (shape_of p) (leaves.LeafPasses true p claimed) start cells)
+    (fs : List FoundAt) (best : AreBest p count cells fs) (ms : List (Option Shut))
+    (closes : Closes partial p (undercut_by count fs) cells ms) where
   abbrev Holds : ℕ → Option ℕ → Leaf → Type 0
-  Holds i name l = ranks.LeafPasses partial p (networks_of fs) (undercut_by count fs) (place_of (cell_at cells i)) (named_leaf name (shut_leaf (proof_of ms i) l))
+  Holds i name l =
+      ranks.LeafPasses partial p (networks_of fs) (undercut_by count fs)
+      (place_of (cell_at cells i)) (named_leaf name (shut_leaf (proof_of ms i) l))
 
-  without_name : (i : ℕ) → i < length cells → (IsOfLeaf i fs → ⊥) → (l : Leaf) → (cell_at cells i).end ≡ leaf l → Holds i None l
+  without_name : (i : ℕ) → i < length cells → (IsOfLeaf i fs → ⊥) → (l : Leaf)
+      → (cell_at cells i).end ≡ leaf l → Holds i None l
   without_name i lt none l e =
-      plain_passes partial p claimed (undercut_by count fs) (place_of (cell_at cells i)) l (proof_of ms i)
-      (subst (λ (d : End Leaf). EndFits (shape_of p) (leaves.LeafPasses true p claimed) cells (place_of (cell_at cells i)) (cell_at cells i).first d) e (fits.ends i lt))
+      plain_passes partial p claimed (undercut_by count fs) (place_of (cell_at cells i)) l
+      (proof_of ms i)
+      (subst
+      (λ (d : End Leaf). EndFits (shape_of p) (leaves.LeafPasses true p claimed) cells
+      (place_of (cell_at cells i)) (cell_at cells i).first d) e (fits.ends i lt))
       (λ d ys q. elim (best.leaves i lt d ys (e ∙ ap (λ (k : Leaf). leaf k) q)) [
         | inl o ↦ absurd (none o)
-        | inr h ↦ subst (λ (o : Option CostOver). IsBounded p o (place_of (cell_at cells i)) d ys) (sym (undercut_is count fs h.0)) h.1
+        | inr h
+            ↦ subst (λ (o : Option CostOver). IsBounded p o (place_of (cell_at cells i)) d ys)
+            (sym (undercut_is count fs h.0)) h.1
       ])
       (λ q. closes i lt (e ∙ ap (λ (k : Leaf). leaf k) q))
 
-  with_name : (at : ℕ) (f : FoundAt) → slice_get fs at ≡ Some f → (l : Leaf) → (cell_at cells f.leaf).end ≡ leaf l → Holds f.leaf (Some (1 + at)) l
+  with_name : (at : ℕ) (f : FoundAt) → slice_get fs at ≡ Some f → (l : Leaf)
+      → (cell_at cells f.leaf).end ≡ leaf l → Holds f.leaf (Some (1 + at)) l
   with_name at f there l e =
       let h : IsFoundThere p cells f = best.there at f there in
       let is : l ≡ bounded h.d h.ys = end_inj l (bounded h.d h.ys) (sym e ∙ h.end_is) in
       subst (λ (k : Leaf). Holds f.leaf (Some (1 + at)) k) (sym is)
-      (subst (λ (k : Leaf). ranks.LeafPasses partial p (networks_of fs) (undercut_by count fs) (place_of (cell_at cells f.leaf)) (named_leaf (Some (1 + at)) k)) (sym (bounded_stays (proof_of ms f.leaf) h.d h.ys))
-      (subst (λ (o : Option Network). ranks.IsNamed p o (place_of (cell_at cells f.leaf)) h.d h.ys) (sym (numbered_there fs at f there))
+      (subst
+      (λ (k : Leaf). ranks.LeafPasses partial p (networks_of fs) (undercut_by count fs)
+      (place_of (cell_at cells f.leaf)) (named_leaf (Some (1 + at)) k))
+      (sym (bounded_stays (proof_of ms f.leaf) h.d h.ys))
+      (subst (λ (o : Option Network). ranks.IsNamed p o (place_of (cell_at cells f.leaf)) h.d h.ys)
+      (sym (numbered_there fs at f there))
       (record { only = (h.found.none_free, h.found.units); bounded = h.bound })))
 
   pub leaf_passes : (i : ℕ) → i < length cells → (l : Leaf) → (cell_at cells i).end ≡ leaf l
-      → ranks.LeafPasses partial p (networks_of fs) (undercut_by count fs) (place_of (cell_at cells i)) (leaf_told (names_of (length cells) fs) ms i l)
+      → ranks.LeafPasses partial p (networks_of fs) (undercut_by count fs)
+      (place_of (cell_at cells i)) (leaf_told (names_of (length cells) fs) ms i l)
   leaf_passes i lt l e = elim (name_is (length cells) fs i lt) [
     | inl h ↦ subst (λ (n : Option ℕ). Holds i n l) (sym h.name_is)
-        (subst (λ (j : ℕ). (k : Leaf) → (cell_at cells j).end ≡ leaf k → Holds j (Some (1 + h.at)) k) h.of_leaf (with_name h.at h.one h.there) l e)
+        (subst (λ (j : ℕ). (k : Leaf) → (cell_at cells j).end ≡ leaf k
+        → Holds j (Some (1 + h.at)) k) h.of_leaf (with_name h.at h.one h.there) l e)
     | inr h ↦ subst (λ (n : Option ℕ). Holds i n l) (sym h.1) (without_name i lt h.0 l e)
   ]

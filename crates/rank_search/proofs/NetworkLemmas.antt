@@ -1,6 +1,7 @@
 -- The networks pass as a list: no two have the same units, if no two were found at one leaf. For a
 -- structure is in the family of one leaf alone.
-use Rattle.std.proofs.Common.{◌≡◌, ℕ, suc, ◌<◌, Bool, true, List, [], ◌∷◌, length, Some, refl, sym, ap, ◌∙◌, subst, inl, inr}
+use Rattle.std.proofs.Common.{◌≡◌, ℕ, suc, ◌<◌, Bool, true, List, [], ◌∷◌, length, Some, refl, sym}
+use Rattle.std.proofs.Common.{ap, ◌∙◌, subst, inl, inr}
 use Rattle.std.specs.List.{slice_get}
 use Rattle.number_sets.specs.Sets.{has}
 use Rattle.number_sets.proofs.SetLemmas.{below_from}
@@ -24,21 +25,30 @@ use Rattle.search_tree.specs.Preorder.{IsPreorder, tree_of}
 use Rattle.search_tree.specs.Laws.{IsGrown}
 use Rattle.search_tree.proofs.PassLemmas.{passes, cells_stand, aligned_start}
 use Rattle.node_evaluation.specs.Looks.{IsFoundAt}
-use Rattle.rank_search.specs.Found.{FoundAt, networks_of, IsOfLeaf, AreApart, AreRising, IsFoundThere}
+use Rattle.rank_search.specs.Found.{FoundAt, networks_of, IsOfLeaf, AreApart, AreRising}
+use Rattle.rank_search.specs.Found.{IsFoundThere}
 use Rattle.rank_search.proofs.OrderLemmas.{stands_in}
 
 module _ (p : Problem) (cells : List Cell) where
   abbrev pub AreThere : List FoundAt → Type 0
   AreThere fs = Each (IsFoundThere p cells) fs
 
-  pub each_there : (fs : List FoundAt) → ((k : ℕ) (f : FoundAt) → slice_get fs k ≡ Some f → IsFoundThere p cells f) → AreThere fs
+  pub each_there : (fs : List FoundAt)
+      → ((k : ℕ) (f : FoundAt) → slice_get fs k ≡ Some f → IsFoundThere p cells f) → AreThere fs
   each_there [] h = tt
   each_there (f ∷ fs) h = (h 0 f refl, each_there fs (λ k g e. h (suc k) g e))
 
-  pub knows_networks : (fs : List FoundAt) → AreThere fs → Each IsSized (networks_of fs) → Each (KnowsNetwork p) (networks_of fs)
+  pub knows_networks : (fs : List FoundAt) → AreThere fs → Each IsSized (networks_of fs)
+      → Each (KnowsNetwork p) (networks_of fs)
   knows_networks [] h s = tt
-  knows_networks (f ∷ fs) h s =
-      (record { rising = s.0.unit_set.rising; below = below_from (length p.units) f.network.units h.0.found.feasible.structure.s3 }, knows_networks fs h.1 s.1)
+  knows_networks (f ∷ fs) h s = (
+    record {
+      rising = s.0.unit_set.rising;
+      below =
+          below_from (length p.units) f.network.units h.0.found.feasible.structure.s3;
+    },
+    knows_networks fs h.1 s.1,
+  )
 
   -- ---- in order
 
@@ -47,11 +57,13 @@ module _ (p : Problem) (cells : List Cell) where
   RisesOn [] fs = AreRising fs
   RisesOn (e ∷ es) fs = AreRising (e ∷ fs)
 
-  rises_from : (earlier : List FoundAt) (f : FoundAt) (fs : List FoundAt) → RisesOn earlier (f ∷ fs) → RisesFrom (networks_of earlier) f.network
+  rises_from : (earlier : List FoundAt) (f : FoundAt) (fs : List FoundAt) → RisesOn earlier (f ∷ fs)
+      → RisesFrom (networks_of earlier) f.network
   rises_from [] f fs h = tt
   rises_from (e ∷ es) f fs h = h.0
 
-  rises_next : (earlier : List FoundAt) (f : FoundAt) (fs : List FoundAt) → RisesOn earlier (f ∷ fs) → AreRising (f ∷ fs)
+  rises_next : (earlier : List FoundAt) (f : FoundAt) (fs : List FoundAt) → RisesOn earlier (f ∷ fs)
+      → AreRising (f ∷ fs)
   rises_next [] f fs h = h
   rises_next (e ∷ es) f fs h = h.1
 
@@ -59,9 +71,13 @@ module _ (p : Problem) (cells : List Cell) where
   abbrev AreNew : List FoundAt → List FoundAt → Type 0
   AreNew earlier fs = Each (λ (f : FoundAt). IsOfLeaf f.leaf earlier → ⊥) fs
 
-  new_next : (f : FoundAt) (earlier fs : List FoundAt) → (IsOfLeaf f.leaf fs → ⊥) → AreNew earlier fs → AreNew (f ∷ earlier) fs
+  new_next : (f : FoundAt) (earlier fs : List FoundAt) → (IsOfLeaf f.leaf fs → ⊥)
+      → AreNew earlier fs → AreNew (f ∷ earlier) fs
   new_next f earlier [] h a = tt
-  new_next f earlier (g ∷ gs) h a = ((λ o. elim o [ inl e ↦ h (inl (sym e)) | inr q ↦ a.0 q ]), new_next f earlier gs (λ o. h (inr o)) a.1)
+  new_next f earlier (g ∷ gs) h a = (
+    (λ o. elim o [ inl e ↦ h (inl (sym e)) | inr q ↦ a.0 q ]),
+    new_next f earlier gs (λ o. h (inr o)) a.1,
+  )
 
   new_first : (fs : List FoundAt) → AreNew [] fs
   new_first [] = tt
@@ -74,21 +90,28 @@ module _ (p : Problem) (cells : List Cell) where
       → ((u : ℕ) → has f.network.units u ≡ has g.network.units u) → ⊥
 
   module _ (different : AreDifferent) where
-    new_to : (earlier : List FoundAt) (f : FoundAt) → AreThere earlier → IsFoundThere p cells f → (IsOfLeaf f.leaf earlier → ⊥) → IsNewTo (networks_of earlier) f.network
+    new_to : (earlier : List FoundAt) (f : FoundAt) → AreThere earlier → IsFoundThere p cells f
+        → (IsOfLeaf f.leaf earlier → ⊥) → IsNewTo (networks_of earlier) f.network
     new_to [] f he hf none = tt
-    new_to (e ∷ es) f he hf none = ((λ same. different e f he.0 hf (λ q. none (inl q)) same), new_to es f he.1 hf (λ o. none (inr o)))
+    new_to (e ∷ es) f he hf none = (
+      (λ same. different e f he.0 hf (λ q. none (inl q)) same),
+      new_to es f he.1 hf (λ o. none (inr o)),
+    )
 
-    pass_behind : (earlier fs : List FoundAt) → AreThere earlier → AreThere fs → AreNew earlier fs → AreApart fs → RisesOn earlier fs → ArePassing p (networks_of earlier) (networks_of fs)
+    pass_behind : (earlier fs : List FoundAt) → AreThere earlier → AreThere fs → AreNew earlier fs
+        → AreApart fs → RisesOn earlier fs → ArePassing p (networks_of earlier) (networks_of fs)
     pass_behind earlier [] he h new apart rise = tt
     pass_behind earlier (f ∷ fs) he h new apart rise = (
       h.0.found.feasible,
       (rises_from earlier f fs rise, new_to earlier f he h.0 new.0),
-      pass_behind (f ∷ earlier) fs (h.0, he) h.1 (new_next f earlier fs apart.0 new.1) apart.1 (rises_next earlier f fs rise),
+      pass_behind (f ∷ earlier) fs (h.0, he) h.1 (new_next f earlier fs apart.0 new.1) apart.1
+          (rises_next earlier f fs rise),
     )
 
   -- ---- a structure is in the family of one leaf alone
 
-  family : (n : Node) (w : claims.Network) (s : ℕ → Bool) → IsSound (shape_of p) n → IsFoundAt p n w → ((u : ℕ) → s u ≡ has w.units u) → IsStructure (shape_of p) s → IsAllowed (shape_of p) s
+  family : (n : Node) (w : claims.Network) (s : ℕ → Bool) → IsSound (shape_of p) n → IsFoundAt p n w
+      → ((u : ℕ) → s u ≡ has w.units u) → IsStructure (shape_of p) s → IsAllowed (shape_of p) s
       → InFamily (shape_of p) n.inside n.outside s
   family n w s sound found same meets allowed = record {
     between = record {
@@ -99,21 +122,31 @@ module _ (p : Problem) (cells : List Cell) where
     allowed = allowed;
   }
 
-  module _ (valid : IsValid p) (start : Node) (claim : claims.Claim) (grown : IsGrown true p start claim cells) (claimed : ClaimPasses true p claim)
-      (sound : (i : ℕ) → i < length cells → IsSound (shape_of p) (place_of (cell_at cells i))) (order : List ℕ) (preorder : IsPreorder cells (0 ∷ []) order) where
+  module _ (valid : IsValid p) (start : Node) (claim : claims.Claim)
+      (grown : IsGrown true p start claim cells) (claimed : ClaimPasses true p claim)
+      (sound : (i : ℕ) → i < length cells → IsSound (shape_of p) (place_of (cell_at cells i)))
+      (order : List ℕ) (preorder : IsPreorder cells (0 ∷ []) order) where
     proves : Proves true p start claim (tree_of cells order)
     proves = record {
       claimed = claimed;
       passes =
-          passes (shape_of p) (LeafPasses true p (claimed_cost claim)) start cells grown.linked grown.fits (start ∷ []) (0 ∷ []) order
-          (aligned_start (shape_of p) (LeafPasses true p (claimed_cost claim)) start cells grown.linked grown.fits) preorder;
+          passes (shape_of p) (LeafPasses true p (claimed_cost claim)) start cells grown.linked
+          grown.fits (start ∷ []) (0 ∷ []) order
+          (aligned_start (shape_of p) (LeafPasses true p (claimed_cost claim)) start cells
+          grown.linked grown.fits) preorder;
     }
 
-    stands : (f : FoundAt) (h : IsFoundThere p cells f) (k : ℕ) → slice_get order k ≡ Some f.leaf → Stands (shape_of p) (start ∷ []) (tree_of cells order) k (place_of (cell_at cells f.leaf)) (leaf (bounded h.d h.ys))
+    stands : (f : FoundAt) (h : IsFoundThere p cells f) (k : ℕ) → slice_get order k ≡ Some f.leaf
+        → Stands (shape_of p) (start ∷ []) (tree_of cells order) k (place_of (cell_at cells f.leaf))
+        (leaf (bounded h.d h.ys))
     stands f h k e =
-        subst (λ v. Stands (shape_of p) (start ∷ []) (tree_of cells order) k (place_of (cell_at cells f.leaf)) v) h.end_is
-        (cells_stand (shape_of p) (LeafPasses true p (claimed_cost claim)) start cells grown.linked grown.fits (start ∷ []) (0 ∷ []) order
-        (aligned_start (shape_of p) (LeafPasses true p (claimed_cost claim)) start cells grown.linked grown.fits) preorder k f.leaf e)
+        subst
+        (λ v. Stands (shape_of p) (start ∷ []) (tree_of cells order) k
+        (place_of (cell_at cells f.leaf)) v) h.end_is
+        (cells_stand (shape_of p) (LeafPasses true p (claimed_cost claim)) start cells grown.linked
+        grown.fits (start ∷ []) (0 ∷ []) order
+        (aligned_start (shape_of p) (LeafPasses true p (claimed_cost claim)) start cells
+        grown.linked grown.fits) preorder k f.leaf e)
 
     some_is : (i j : ℕ) → Some i ≡ Some j → i ≡ j
     some_is i j h = cc
@@ -126,10 +159,18 @@ module _ (p : Problem) (cells : List Cell) where
         let meets : IsStructure (shape_of p) s = hf.found.feasible.structure in
         let allowed : IsAllowed (shape_of p) s = hf.found.feasible.allowed in
         let one : i.place ≡ j.place
-        = leaves_are_apart true p valid start claim (tree_of cells order) proves s i.place j.place (place_of (cell_at cells f.leaf)) (place_of (cell_at cells g.leaf)) (bounded hf.d hf.ys) (bounded hg.d hg.ys)
-        (stands f hf i.place i.is) (family (place_of (cell_at cells f.leaf)) f.network s (sound f.leaf hf.there) hf.found (λ u. refl) meets allowed)
-        (stands g hg j.place j.is) (family (place_of (cell_at cells g.leaf)) g.network s (sound g.leaf hg.there) hg.found same meets allowed) in
+        = leaves_are_apart true p valid start claim (tree_of cells order) proves s i.place j.place
+        (place_of (cell_at cells f.leaf)) (place_of (cell_at cells g.leaf)) (bounded hf.d hf.ys)
+        (bounded hg.d hg.ys)
+        (stands f hf i.place i.is)
+        (family (place_of (cell_at cells f.leaf)) f.network s (sound f.leaf hf.there) hf.found
+        (λ u. refl) meets allowed)
+        (stands g hg j.place j.is)
+        (family (place_of (cell_at cells g.leaf)) g.network s (sound g.leaf hg.there) hg.found
+        same meets allowed) in
         apart (some_is f.leaf g.leaf (sym i.is ∙ (ap (λ (k : ℕ). slice_get order k) one ∙ j.is)))
 
-    pub networks_pass : (fs : List FoundAt) → AreThere fs → AreApart fs → AreRising fs → ArePassing p [] (networks_of fs)
-    networks_pass fs there apart rising = pass_behind different [] fs tt there (new_first fs) apart rising
+    pub networks_pass : (fs : List FoundAt) → AreThere fs → AreApart fs → AreRising fs
+        → ArePassing p [] (networks_of fs)
+    networks_pass fs there apart rising =
+        pass_behind different [] fs tt there (new_first fs) apart rising

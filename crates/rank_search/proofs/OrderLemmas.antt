@@ -1,6 +1,7 @@
 -- Cells of which open leaves are shut have the order of the others, each once. The tree of such
 -- cells, with names, is the tree of the others, whose leaves become others by their numbers.
-use Rattle.std.proofs.Common.{◌≡◌, ℕ, suc, ◌+◌, ◌<◌, List, [], ◌∷◌, ◌++◌, length, Option, Some, refl, sym, ap, ap₂, subst, arith, inl, inr, ne_eqb}
+use Rattle.std.proofs.Common.{◌≡◌, ℕ, suc, ◌+◌, ◌<◌, List, [], ◌∷◌, ◌++◌, length, Option, Some}
+use Rattle.std.proofs.Common.{refl, sym, ap, ap₂, subst, arith, inl, inr, ne_eqb}
 use Rattle.std.specs.List.{slice_get}
 use Rattle.std.proofs.lemmas.Bool.{cases_eq}
 use Rattle.problem_rules.specs.Each.{Each}
@@ -35,8 +36,10 @@ stands_somewhere (i ∷ is) j h = elim (cases_eq i j) [
       record { place = suc w.place; is = w.is }
 ]
 
-pub stands_in : (cells : List Cell) (order : List ℕ) → IsLinked cells → IsPreorder cells (0 ∷ []) order → (j : ℕ) → j < length cells → StandsIn order j
-stands_in cells order linked p j lt = stands_somewhere order j (once cells linked order p (suc j) j (omega arith) lt)
+pub stands_in : (cells : List Cell) (order : List ℕ) → IsLinked cells
+    → IsPreorder cells (0 ∷ []) order → (j : ℕ) → j < length cells → StandsIn order j
+stands_in cells order linked p j lt =
+    stands_somewhere order j (once cells linked order p (suc j) j (omega arith) lt)
 
 -- ---- open leaves are shut
 
@@ -44,46 +47,73 @@ stands_in cells order linked p j lt = stands_somewhere order j (once cells linke
 abbrev pub leaf_told : Names → List (Option Shut) → ℕ → Leaf → ranks.Leaf
 leaf_told names ms i l = named_leaf (name_at names i) (shut_leaf (proof_of ms i) l)
 
-told_shut : (n : Option ℕ) (m : Option Shut) (e : End Leaf) → told_end (named_leaf n) (shut_end m e) ≡ told_end (λ (l : Leaf). named_leaf n (shut_leaf m l)) e
+told_shut : (n : Option ℕ) (m : Option Shut) (e : End Leaf)
+    → told_end (named_leaf n) (shut_end m e)
+    ≡ told_end (λ (l : Leaf). named_leaf n (shut_leaf m l)) e
 told_shut n m (branch w) = refl
 told_shut n m (leaf l) = refl
 
-module _ (names : Names) (ms : List (Option Shut)) (cells : List Cell) (linked : IsLinked cells) where
+module _ (names : Names) (ms : List (Option Shut)) (cells : List Cell)
+    (linked : IsLinked cells) where
   -- in the same order
-  same_order : (is order : List ℕ) → AreThere cells is → IsPreorder (shut_cells ms cells) is order → IsPreorder cells is order
+  same_order : (is order : List ℕ) → AreThere cells is → IsPreorder (shut_cells ms cells) is order
+      → IsPreorder cells is order
   same_order [] [] there p = tt
   same_order [] (k ∷ ks) there p = absurd p
   same_order (i ∷ is) [] there p = absurd p
   same_order (i ∷ is) (k ∷ ks) there p = (
     p.0,
-    same_order (children_at cells i ++ is) ks (there-append cells (children_at cells i) is (children_there cells linked i there.0) there.1)
-        (subst (λ (js : List ℕ). IsPreorder (shut_cells ms cells) (js ++ is) ks) (children_stay ms cells i there.0) p.1),
+    same_order (children_at cells i ++ is) ks
+        (there-append cells (children_at cells i) is (children_there cells linked i there.0)
+        there.1)
+        (subst (λ (js : List ℕ). IsPreorder (shut_cells ms cells) (js ++ is) ks)
+        (children_stay ms cells i there.0) p.1),
   )
 
-  pub shut_order : (order : List ℕ) → IsPreorder (shut_cells ms cells) (0 ∷ []) order → IsPreorder cells (0 ∷ []) order
+  pub shut_order : (order : List ℕ) → IsPreorder (shut_cells ms cells) (0 ∷ []) order
+      → IsPreorder cells (0 ∷ []) order
   shut_order order p = same_order (0 ∷ []) order (linked.some, tt) p
 
-  one_told : (i : ℕ) → i < length cells → named_node (name_at names i) (node_at (shut_cells ms cells) i) ≡ told_at (leaf_told names ms) cells i
+  one_told : (i : ℕ) → i < length cells
+      → named_node (name_at names i) (node_at (shut_cells ms cells) i)
+      ≡ told_at (leaf_told names ms) cells i
   one_told i lt =
-      subst (λ (c : Cell). named_node (name_at names i) (record { option = c.option; steps = c.steps; end = c.end }) ≡ told_at (leaf_told names ms) cells i) (sym (shut_at ms cells i lt))
-      (ap (λ (e : End ranks.Leaf). record { option = (cell_at cells i).option; steps = (cell_at cells i).steps; end = e }) (told_shut (name_at names i) (proof_of ms i) (cell_at cells i).end))
+      subst
+      (λ (c : Cell). named_node (name_at names i)
+      (record { option = c.option; steps = c.steps; end = c.end })
+      ≡ told_at (leaf_told names ms) cells i) (sym (shut_at ms cells i lt))
+      (ap (λ (e : End ranks.Leaf). record {
+        option = (cell_at cells i).option;
+        steps =
+            (cell_at cells i).steps;
+        end = e;
+      })
+      (told_shut (name_at names i) (proof_of ms i) (cell_at cells i).end))
 
-  all_told : (is order : List ℕ) → AreThere cells is → IsPreorder cells is order → named_tree (names_at names order) (tree_of (shut_cells ms cells) order) ≡ told_tree (leaf_told names ms) cells order
+  all_told : (is order : List ℕ) → AreThere cells is → IsPreorder cells is order
+      → named_tree (names_at names order) (tree_of (shut_cells ms cells) order)
+      ≡ told_tree (leaf_told names ms) cells order
   all_told [] [] there p = refl
   all_told [] (k ∷ ks) there p = absurd p
   all_told (i ∷ is) [] there p = absurd p
   all_told (i ∷ is) (k ∷ ks) there p =
       let here : k < length cells = subst (λ (j : ℕ). j < length cells) (sym p.0) there.0 in
       ap₂ (λ (t : TreeNode ranks.Leaf) (ts : ranked.Tree). t ∷ ts) (one_told k here)
-      (all_told (children_at cells i ++ is) ks (there-append cells (children_at cells i) is (children_there cells linked i there.0) there.1) p.1)
+      (all_told (children_at cells i ++ is) ks
+      (there-append cells (children_at cells i) is (children_there cells linked i there.0)
+      there.1) p.1)
 
-  pub named_is_told : (order : List ℕ) → IsPreorder cells (0 ∷ []) order → named_tree (names_at names order) (tree_of (shut_cells ms cells) order) ≡ told_tree (leaf_told names ms) cells order
+  pub named_is_told : (order : List ℕ) → IsPreorder cells (0 ∷ []) order
+      → named_tree (names_at names order) (tree_of (shut_cells ms cells) order)
+      ≡ told_tree (leaf_told names ms) cells order
   named_is_told order p = all_told (0 ∷ []) order (linked.some, tt) p
 
-pub length-names_at : (names : Names) (order : List ℕ) → length (names_at names order) ≡ length order
+pub length-names_at : (names : Names) (order : List ℕ)
+    → length (names_at names order) ≡ length order
 length-names_at names [] = refl
 length-names_at names (i ∷ is) = ap suc (length-names_at names is)
 
-pub each_name : (P : Option ℕ → Type 0) (names : Names) → ((i : ℕ) → P (name_at names i)) → (order : List ℕ) → Each P (names_at names order)
+pub each_name : (P : Option ℕ → Type 0) (names : Names) → ((i : ℕ) → P (name_at names i))
+    → (order : List ℕ) → Each P (names_at names order)
 each_name P names h [] = tt
 each_name P names h (i ∷ is) = (h i, each_name P names h is)

@@ -1,7 +1,9 @@
 -- The answer of a search: the tree, with its networks and marks, is ranked, lean, and spent if the
 -- search is.
 use Rattle.std.specs.Prelude.{IfOk}
-use Rattle.std.proofs.Common.{◌≡◌, ℕ, suc, ◌+◌, ◌-◌, ◌^◌, ◌<◌, ◌≤◌, Bool, true, List, [], ◌∷◌, length, Option, Some, None, Result, Ok, Err, refl, sym, ap, ap₂, ◌∙◌, subst, arith}
+use Rattle.std.proofs.Common.{◌≡◌, ℕ, suc, ◌+◌, ◌-◌, ◌^◌, ◌<◌, ◌≤◌, Bool, true, List, [], ◌∷◌}
+use Rattle.std.proofs.Common.{length, Option, Some, None, Result, Ok, Err, refl, sym, ap, ap₂, ◌∙◌}
+use Rattle.std.proofs.Common.{subst, arith}
 use Rattle.std.specs.List.{slice_get}
 use Rattle.std.proofs.lemmas.List.{length-map}
 use Rattle.number_sets.specs.Sets.{listed}
@@ -48,20 +50,26 @@ use Rattle.rank_search.specs.Naming.{Names, name_at, names_at, names_of, IsNamed
 use Rattle.rank_rules.specs.Leaf.{IsOpenLeaf}
 use Rattle.rank_search.specs.Told.{IsTelling, IsSpentTelling}
 use Rattle.rank_search.proofs.FewLemmas.{few_with_next}
-use Rattle.rank_search.proofs.NamedLeafLemmas.{ClosesAt, Closes, leaf_passes, still_open, told_open, told_unshut}
-use Rattle.rank_search.proofs.MarkLemmas.{named_leaf, marked_is, length-opened, opened_known, marks_numbered}
+use Rattle.rank_search.proofs.NamedLeafLemmas.{ClosesAt, Closes, leaf_passes, still_open, told_open}
+use Rattle.rank_search.proofs.NamedLeafLemmas.{told_unshut}
+use Rattle.rank_search.proofs.MarkLemmas.{named_leaf, marked_is, length-opened, opened_known}
+use Rattle.rank_search.proofs.MarkLemmas.{marks_numbered}
 use Rattle.rank_search.proofs.NameLemmas.{IsCountedName, counted_name}
 use Rattle.rank_search.proofs.NetworkLemmas.{each_there, knows_networks, networks_pass}
-use Rattle.rank_search.proofs.OrderLemmas.{leaf_told, shut_order, named_is_told, length-names_at, each_name}
+use Rattle.rank_search.proofs.OrderLemmas.{leaf_told, shut_order, named_is_told, length-names_at}
+use Rattle.rank_search.proofs.OrderLemmas.{each_name}
 use Rattle.rank_search.proofs.ToldTreeLemmas.{told_is_lean, told_stands, told_is_spent}
 
 -- ---- numbers are known
 
-knows_by : (p : Problem) (undercut : Option CostOver) (n : Node) (m : Shut) → ShutsNode p undercut n m → KnowsEnd p (leaf (shut_as m))
+knows_by : (p : Problem) (undercut : Option CostOver) (n : Node) (m : Shut)
+    → ShutsNode p undercut n m → KnowsEnd p (leaf (shut_as m))
 knows_by p undercut n (shuts.Bounded m) h = (h.scale, h.multipliers)
 knows_by p undercut n (shuts.Refuted ys) h = h.multipliers
 
-knows_shut : (p : Problem) (partial : Bool) (undercut : Option CostOver) (n : Node) (m : Option Shut) (e : End Leaf) → KnowsEnd p e → (e ≡ leaf untried → ClosesAt partial p undercut n m) → KnowsEnd p (shut_end m e)
+knows_shut : (p : Problem) (partial : Bool) (undercut : Option CostOver) (n : Node)
+    (m : Option Shut) (e : End Leaf) → KnowsEnd p e
+    → (e ≡ leaf untried → ClosesAt partial p undercut n m) → KnowsEnd p (shut_end m e)
 knows_shut p partial undercut n None (branch w) k h = k
 knows_shut p partial undercut n None (leaf l) k h = k
 knows_shut p partial undercut n (Some m) (branch w) k h = k
@@ -71,20 +79,29 @@ knows_shut p partial undercut n (Some m) (leaf (refuted ys)) k h = k
 knows_shut p partial undercut n (Some m) (leaf (bounded d ys)) k h = k
 knows_shut p partial undercut n (Some m) (leaf untried) k h = knows_by p undercut n m (h refl)
 
-module _ (p : Problem) (partial : Bool) (undercut : Option CostOver) (cells : List Cell) (known : AreKnown p cells) (ms : List (Option Shut)) (closes : Closes partial p undercut cells ms) where
+module _ (p : Problem) (partial : Bool) (undercut : Option CostOver) (cells : List Cell)
+    (known : AreKnown p cells) (ms : List (Option Shut))
+    (closes : Closes partial p undercut cells ms) where
   known_shut : AreKnown p (shut_cells ms cells)
   known_shut j lt =
       let there : j < length cells = let e = shut_length ms cells in omega (arith, lt, e) in
       subst (λ (d : Cell). KnowsCell p d) (sym (shut_at ms cells j there))
-      (known_end p (cell_at cells j) (as_shut (cell_at cells j) (shut_end (proof_of ms j) (cell_at cells j).end)) (known j there) refl refl
-      (knows_shut p partial undercut (place_of (cell_at cells j)) (proof_of ms j) (cell_at cells j).end (known j there).end (closes j there)))
+      (known_end p (cell_at cells j)
+      (as_shut (cell_at cells j) (shut_end (proof_of ms j) (cell_at cells j).end))
+      (known j there) refl refl
+      (knows_shut p partial undercut (place_of (cell_at cells j)) (proof_of ms j)
+      (cell_at cells j).end (known j there).end (closes j there)))
 
-head_is : (cells : List Cell) (order : List ℕ) → IsPreorder cells (0 ∷ []) order → slice_get order 0 ≡ Some 0
+head_is : (cells : List Cell) (order : List ℕ) → IsPreorder cells (0 ∷ []) order
+    → slice_get order 0 ≡ Some 0
 head_is cells [] h = absurd h
 head_is cells (k ∷ ks) h = ap (λ (i : ℕ). Some i) h.0
 
-module _ (p : Problem) (valid : IsValid p) (count : ℕ) (s : Growing) (fs : List FoundAt) (t : IsTreeKeptFor p (undercut_by count fs) s) (first : node_of s.start ≡ first_node) (best : AreBest p count s.pool.payloads fs)
-    (ms : List (Option Shut)) (wanted place : ℕ) (tree : Tree) (marks : List Mark) (of : IsNamedTree s.pool.payloads fs ms wanted tree marks place) where
+module _ (p : Problem) (valid : IsValid p) (count : ℕ) (s : Growing) (fs : List FoundAt)
+    (t : IsTreeKeptFor p (undercut_by count fs) s) (first : node_of s.start ≡ first_node)
+    (best : AreBest p count s.pool.payloads fs)
+    (ms : List (Option Shut)) (wanted place : ℕ) (tree : Tree) (marks : List Mark)
+    (of : IsNamedTree s.pool.payloads fs ms wanted tree marks place) where
   abbrev cells : List Cell
   cells = s.pool.payloads
 
@@ -103,47 +120,83 @@ module _ (p : Problem) (valid : IsValid p) (count : ℕ) (s : Growing) (fs : Lis
   marked_tree : marked marks tree ≡ told_tree told s.pool.payloads of.order
   marked_tree =
       let a : length (names_at names of.order) ≡ length of.order = length-names_at names of.order in
-      let b : length (tree_of (shut_cells ms cells) of.order) ≡ length of.order = length-map of.order (node_at (shut_cells ms cells)) in
+      let b : length (tree_of (shut_cells ms cells) of.order) ≡ length of.order =
+      length-map of.order (node_at (shut_cells ms cells)) in
       ap₂ (λ (ks : List Mark) (us : Tree). marked ks us) of.marks_are of.tree_is
-      ∙ (marked_is (names_at names of.order) (tree_of (shut_cells ms cells) of.order) (a ∙ sym b) ∙ named_is_told names ms cells linked of.order preorder)
+      ∙ (marked_is (names_at names of.order) (tree_of (shut_cells ms cells) of.order) (a ∙ sym b)
+      ∙ named_is_told names ms cells linked of.order preorder)
 
-  lean_plain : IsLean p IsUntried (undercut_by count fs) (node_of s.start) (tree_of s.pool.payloads of.order)
-  lean_plain = kept_is_lean p (node_of s.start) (claim_with s.best) (undercut_by count fs) t.last s.pool.payloads of.order t.kept preorder
+  lean_plain : IsLean p IsUntried (undercut_by count fs) (node_of s.start)
+      (tree_of s.pool.payloads of.order)
+  lean_plain =
+      kept_is_lean p (node_of s.start) (claim_with s.best) (undercut_by count fs) t.last
+      s.pool.payloads of.order t.kept preorder
 
   still : (i : ℕ) (l : Leaf) → IsOpenLeaf (told i l) → l ≡ untried
   still i l o = still_open (name_at names i) (proof_of ms i) l o
 
   lean : IsLean p IsOpenLeaf (undercut_by count fs) first_node (marked marks tree)
-  lean = subst (λ (n : Node). IsLean p IsOpenLeaf (undercut_by count fs) n (marked marks tree)) first
-      (subst (λ (w : ranked.Tree). IsLean p IsOpenLeaf (undercut_by count fs) (node_of s.start) w) (sym marked_tree)
-      (told_is_lean p (leaves.LeafPasses true p (claimed_cost (claim_with s.best))) (node_of s.start) s.pool.payloads linked t.kept.grown.fits of.order preorder told IsOpenLeaf still (undercut_by count fs) lean_plain))
+  lean =
+      subst (λ (n : Node). IsLean p IsOpenLeaf (undercut_by count fs) n (marked marks tree)) first
+      (subst (λ (w : ranked.Tree). IsLean p IsOpenLeaf (undercut_by count fs) (node_of s.start) w)
+      (sym marked_tree)
+      (told_is_lean p (leaves.LeafPasses true p (claimed_cost (claim_with s.best)))
+      (node_of s.start) s.pool.payloads linked t.kept.grown.fits of.order preorder told
+      IsOpenLeaf still (undercut_by count fs) lean_plain))
 
-  stands_plain : (k v : ℕ) → slice_get of.order k ≡ Some v → Stands (shape_of p) (node_of s.start ∷ []) (tree_of s.pool.payloads of.order) k (place_of (cell_at s.pool.payloads v)) (cell_at s.pool.payloads v).end
+  stands_plain : (k v : ℕ) → slice_get of.order k ≡ Some v
+      → Stands (shape_of p) (node_of s.start ∷ []) (tree_of s.pool.payloads of.order) k
+      (place_of (cell_at s.pool.payloads v)) (cell_at s.pool.payloads v).end
   stands_plain k v h =
-      cells_stand (shape_of p) (leaves.LeafPasses true p (claimed_cost (claim_with s.best))) (node_of s.start) s.pool.payloads linked t.kept.grown.fits (node_of s.start ∷ []) (0 ∷ []) of.order
-      (aligned_start (shape_of p) (leaves.LeafPasses true p (claimed_cost (claim_with s.best))) (node_of s.start) s.pool.payloads linked t.kept.grown.fits) preorder k v h
+      cells_stand (shape_of p) (leaves.LeafPasses true p (claimed_cost (claim_with s.best)))
+      (node_of s.start) s.pool.payloads linked t.kept.grown.fits (node_of s.start ∷ []) (0 ∷ [])
+      of.order
+      (aligned_start (shape_of p) (leaves.LeafPasses true p (claimed_cost (claim_with s.best)))
+      (node_of s.start) s.pool.payloads linked t.kept.grown.fits) preorder k v h
 
-  passes_plain : Pass (shape_of p) (leaves.LeafPasses true p (claimed_cost (claim_with s.best))) (node_of s.start ∷ []) (tree_of s.pool.payloads of.order)
+  passes_plain : Pass (shape_of p) (leaves.LeafPasses true p (claimed_cost (claim_with s.best)))
+      (node_of s.start ∷ []) (tree_of s.pool.payloads of.order)
   passes_plain =
-      passes (shape_of p) (leaves.LeafPasses true p (claimed_cost (claim_with s.best))) (node_of s.start) s.pool.payloads linked t.kept.grown.fits (node_of s.start ∷ []) (0 ∷ []) of.order
-      (aligned_start (shape_of p) (leaves.LeafPasses true p (claimed_cost (claim_with s.best))) (node_of s.start) s.pool.payloads linked t.kept.grown.fits) preorder
+      passes (shape_of p) (leaves.LeafPasses true p (claimed_cost (claim_with s.best)))
+      (node_of s.start) s.pool.payloads linked t.kept.grown.fits (node_of s.start ∷ []) (0 ∷ [])
+      of.order
+      (aligned_start (shape_of p) (leaves.LeafPasses true p (claimed_cost (claim_with s.best)))
+      (node_of s.start) s.pool.payloads linked t.kept.grown.fits) preorder
 
   -- ---- it proves what is answered
-  module _ (partial : Bool) (closes : Closes partial p (undercut_by count fs) s.pool.payloads ms) (sized : Each IsSized (networks_of fs)) (asked : 1 ≤ count) where
-    passes_told : Pass (shape_of p) (ranks.LeafPasses partial p (networks_of fs) (undercut_by count fs)) (node_of s.start ∷ []) (told_tree told s.pool.payloads of.order)
+  module _ (partial : Bool) (closes : Closes partial p (undercut_by count fs) s.pool.payloads ms)
+      (sized : Each IsSized (networks_of fs)) (asked : 1 ≤ count) where
+    passes_told : Pass (shape_of p)
+        (ranks.LeafPasses partial p (networks_of fs) (undercut_by count fs)) (node_of s.start ∷ [])
+        (told_tree told s.pool.payloads of.order)
     passes_told =
-        told_passes (shape_of p) (leaves.LeafPasses true p (claimed_cost (claim_with s.best))) (node_of s.start) s.pool.payloads linked t.kept.grown.fits told
+        told_passes (shape_of p) (leaves.LeafPasses true p (claimed_cost (claim_with s.best)))
+        (node_of s.start) s.pool.payloads linked t.kept.grown.fits told
         (ranks.LeafPasses partial p (networks_of fs) (undercut_by count fs))
-        (leaf_passes partial p count (node_of s.start) (claimed_cost (claim_with s.best)) s.pool.payloads t.kept.grown.fits fs best ms closes)
-        (node_of s.start ∷ []) (0 ∷ []) of.order (aligned_start (shape_of p) (leaves.LeafPasses true p (claimed_cost (claim_with s.best))) (node_of s.start) s.pool.payloads linked t.kept.grown.fits) preorder
+        (leaf_passes partial p count (node_of s.start) (claimed_cost (claim_with s.best))
+        s.pool.payloads t.kept.grown.fits fs best ms closes)
+        (node_of s.start ∷ []) (0 ∷ []) of.order
+        (aligned_start (shape_of p)
+        (leaves.LeafPasses true p (claimed_cost (claim_with s.best))) (node_of s.start)
+        s.pool.payloads linked t.kept.grown.fits) preorder
 
-    passes_marked : Pass (shape_of p) (ranks.LeafPasses partial p (networks_of fs) (undercut_by count fs)) (first_node ∷ []) (marked marks tree)
-    passes_marked = subst (λ (n : Node). Pass (shape_of p) (ranks.LeafPasses partial p (networks_of fs) (undercut_by count fs)) (n ∷ []) (marked marks tree)) first
-        (subst (λ (w : ranked.Tree). Pass (shape_of p) (ranks.LeafPasses partial p (networks_of fs) (undercut_by count fs)) (node_of s.start ∷ []) w) (sym marked_tree) passes_told)
+    passes_marked : Pass (shape_of p)
+        (ranks.LeafPasses partial p (networks_of fs) (undercut_by count fs)) (first_node ∷ [])
+        (marked marks tree)
+    passes_marked =
+        subst
+        (λ (n : Node). Pass (shape_of p)
+        (ranks.LeafPasses partial p (networks_of fs) (undercut_by count fs)) (n ∷ [])
+        (marked marks tree)) first
+        (subst
+        (λ (w : ranked.Tree). Pass (shape_of p)
+        (ranks.LeafPasses partial p (networks_of fs) (undercut_by count fs))
+        (node_of s.start ∷ []) w) (sym marked_tree) passes_told)
 
     passing : ArePassing p [] (networks_of fs)
     passing =
-        networks_pass p s.pool.payloads valid (node_of s.start) (claim_with s.best) t.kept.grown t.passes t.kept.sound of.order preorder fs
+        networks_pass p s.pool.payloads valid (node_of s.start) (claim_with s.best) t.kept.grown
+        t.passes t.kept.sound of.order preorder fs
         (each_there p s.pool.payloads fs best.there) best.apart best.rising
 
     known_cells : AreKnown p (shut_cells ms s.pool.payloads)
@@ -152,13 +205,19 @@ module _ (p : Problem) (valid : IsValid p) (count : ℕ) (s : Growing) (fs : Lis
     known_tree : KnowsTree p tree
     known_tree = subst (λ (w : Tree). KnowsTree p w) (sym of.tree_is)
         (opened_known p (names_at names of.order) (tree_of (shut_cells ms cells) of.order)
-        (knows_tree p (shut_cells ms cells) (shut_linked ms cells linked) known_cells of.order of.is_preorder))
+        (knows_tree p (shut_cells ms cells) (shut_linked ms cells linked) known_cells of.order
+        of.is_preorder))
 
     few : length tree < 2 ^ 32 - 1
     few =
-        let a : length tree ≡ length (tree_of (shut_cells ms cells) of.order) = ap (λ (w : Tree). length w) of.tree_is ∙ length-opened (names_at names of.order) (tree_of (shut_cells ms cells) of.order) in
-        let shut : length (shut_cells ms cells) < 2 ^ 32 - 1 = subst (λ n. n < 2 ^ 32 - 1) (sym (shut_length ms cells)) t.numbered in
-        subst (λ n. n < 2 ^ 32 - 1) (sym a) (few_nodes p (shut_cells ms cells) (shut_linked ms cells linked) known_cells of.order of.is_preorder shut)
+        let a : length tree ≡ length (tree_of (shut_cells ms cells) of.order) =
+        ap (λ (w : Tree). length w) of.tree_is
+        ∙ length-opened (names_at names of.order) (tree_of (shut_cells ms cells) of.order) in
+        let shut : length (shut_cells ms cells) < 2 ^ 32 - 1 =
+        subst (λ n. n < 2 ^ 32 - 1) (sym (shut_length ms cells)) t.numbered in
+        subst (λ n. n < 2 ^ 32 - 1) (sym a)
+        (few_nodes p (shut_cells ms cells) (shut_linked ms cells linked) known_cells of.order
+        of.is_preorder shut)
 
     pub is_telling : IsTelling partial p count (networks_of fs) tree marks
     is_telling = record {
@@ -166,52 +225,96 @@ module _ (p : Problem) (valid : IsValid p) (count : ℕ) (s : Growing) (fs : Lis
       lean = lean;
       counted = record {
         asked = asked;
-        within = let e : length (networks_of fs) ≡ length fs = length-map fs (λ (f : FoundAt). f.network) in let b = best.few in omega (arith, e, b);
+        within = let e : length (networks_of fs) ≡ length fs =
+            length-map fs (λ (f : FoundAt). f.network) in let b = best.few in omega (arith, e, b);
         numbered = subst (λ (ks : List Mark). AreNumbered ks) (sym of.marks_are)
-            (marks_numbered (names_at names of.order) (tree_of (shut_cells ms cells) of.order) (each_name IsCountedName names (counted_name (length s.pool.payloads) fs) of.order));
+            (marks_numbered (names_at names of.order) (tree_of (shut_cells ms cells) of.order)
+            (each_name IsCountedName names (counted_name (length s.pool.payloads) fs)
+            of.order));
       };
-      of_networks = knows_networks p s.pool.payloads fs (each_there p s.pool.payloads fs best.there) sized;
+      of_networks =
+          knows_networks p s.pool.payloads fs (each_there p s.pool.payloads fs best.there) sized;
       of_tree = known_tree;
       few = few;
     }
 
   -- ---- an open leaf that nothing shuts
   module _ (there : wanted < length s.pool.payloads) (unshut : proof_of ms wanted ≡ None) where
-    stands_told : (cell_at s.pool.payloads wanted).end ≡ leaf untried → IsOpenAt p IsOpenLeaf (node_of s.start) (told_tree told s.pool.payloads of.order) place (place_of (cell_at s.pool.payloads wanted))
+    stands_told : (cell_at s.pool.payloads wanted).end ≡ leaf untried
+        → IsOpenAt p IsOpenLeaf (node_of s.start) (told_tree told s.pool.payloads of.order) place
+        (place_of (cell_at s.pool.payloads wanted))
     stands_told is =
-        told_stands p (leaves.LeafPasses true p (claimed_cost (claim_with s.best))) (node_of s.start) s.pool.payloads linked t.kept.grown.fits of.order preorder told IsOpenLeaf still
+        told_stands p (leaves.LeafPasses true p (claimed_cost (claim_with s.best)))
+        (node_of s.start) s.pool.payloads linked t.kept.grown.fits of.order preorder told
+        IsOpenLeaf still
         wanted place there of.stands is
-        (subst (λ (m : Option Shut). IsOpenLeaf (named_leaf (name_at names wanted) (shut_leaf m untried))) (sym unshut) (told_open (name_at names wanted)))
+        (subst
+        (λ (m : Option Shut). IsOpenLeaf
+        (named_leaf (name_at names wanted) (shut_leaf m untried))) (sym unshut)
+        (told_open (name_at names wanted)))
 
-    pub stands_open : (cell_at s.pool.payloads wanted).end ≡ leaf untried → IsOpenAt p IsOpenLeaf first_node (marked marks tree) place (place_of (cell_at s.pool.payloads wanted))
-    stands_open is = subst (λ (n : Node). IsOpenAt p IsOpenLeaf n (marked marks tree) place (place_of (cell_at s.pool.payloads wanted))) first
-        (subst (λ (w : ranked.Tree). IsOpenAt p IsOpenLeaf (node_of s.start) w place (place_of (cell_at s.pool.payloads wanted))) (sym marked_tree) (stands_told is))
+    pub stands_open : (cell_at s.pool.payloads wanted).end ≡ leaf untried
+        → IsOpenAt p IsOpenLeaf first_node (marked marks tree) place
+        (place_of (cell_at s.pool.payloads wanted))
+    stands_open is =
+        subst
+        (λ (n : Node). IsOpenAt p IsOpenLeaf n (marked marks tree) place
+        (place_of (cell_at s.pool.payloads wanted))) first
+        (subst
+        (λ (w : ranked.Tree). IsOpenAt p IsOpenLeaf (node_of s.start) w place
+        (place_of (cell_at s.pool.payloads wanted))) (sym marked_tree) (stands_told is))
 
     module _ (options : ℕ) (h : IsSpentFor p (undercut_by count fs) s ms wanted options) where
-      pending : (j : ℕ) → j < length s.pool.payloads → (cell_at s.pool.payloads j).end ≡ leaf untried → IsOpenLeaf (told j untried) → IsPending p (place_of (cell_at s.pool.payloads j))
+      pending : (j : ℕ) → j < length s.pool.payloads
+          → (cell_at s.pool.payloads j).end ≡ leaf untried → IsOpenLeaf (told j untried)
+          → IsPending p (place_of (cell_at s.pool.payloads j))
       pending j lt is o = h.pending j lt is (told_unshut (name_at names j) (proof_of ms j) o)
 
-      spent : IsSpent p IsOpenLeaf (undercut_by count fs) first_node (marked marks tree) place options s.budget
-      spent = subst (λ (n : Node). IsSpent p IsOpenLeaf (undercut_by count fs) n (marked marks tree) place options s.budget) first
-          (subst (λ (w : ranked.Tree). IsSpent p IsOpenLeaf (undercut_by count fs) (node_of s.start) w place options s.budget) (sym marked_tree)
-          (told_is_spent p (leaves.LeafPasses true p (claimed_cost (claim_with s.best))) (node_of s.start) s.pool.payloads linked t.kept.grown.fits of.order preorder told IsOpenLeaf still
-          (undercut_by count fs) wanted place options s.budget (stands_told h.can.is_open) h.may h.least pending h.count_is h.over))
+      spent : IsSpent p IsOpenLeaf (undercut_by count fs) first_node (marked marks tree) place
+          options s.budget
+      spent =
+          subst
+          (λ (n : Node). IsSpent p IsOpenLeaf (undercut_by count fs) n (marked marks tree) place
+          options s.budget) first
+          (subst
+          (λ (w : ranked.Tree). IsSpent p IsOpenLeaf (undercut_by count fs) (node_of s.start) w
+          place options s.budget) (sym marked_tree)
+          (told_is_spent p (leaves.LeafPasses true p (claimed_cost (claim_with s.best)))
+          (node_of s.start) s.pool.payloads linked t.kept.grown.fits of.order preorder told
+          IsOpenLeaf still
+          (undercut_by count fs) wanted place options s.budget (stands_told h.can.is_open) h.may
+          h.least pending h.count_is h.over))
 
       exceeds : s.budget < length (tree_of s.pool.payloads of.order) + options
       exceeds =
-          let a : length (tree_of s.pool.payloads of.order) ≡ length of.order = length-map of.order (node_at s.pool.payloads) in
+          let a : length (tree_of s.pool.payloads of.order) ≡ length of.order =
+          length-map of.order (node_at s.pool.payloads) in
           let b = preorder_has_all s.pool.payloads of.order linked preorder in
           let o = h.over in
           omega (arith, a, b, o)
 
       below_limit : IsBelowLimit p s.budget
       below_limit = λ all union.
-          let leaf_there : Stands (shape_of p) (node_of s.start ∷ []) (tree_of s.pool.payloads of.order) place (place_of (cell_at s.pool.payloads wanted)) (leaf untried)
-          = subst (λ (e : End Leaf). Stands (shape_of p) (node_of s.start ∷ []) (tree_of s.pool.payloads of.order) place (place_of (cell_at s.pool.payloads wanted)) e) h.can.is_open (stands_plain place wanted of.stands) in
-          let most = few_with_next (shape_of p) (proper_if_valid p valid) all union (leaves.LeafPasses true p (claimed_cost (claim_with s.best))) (node_of s.start) (tree_of s.pool.payloads of.order) passes_plain
-          lean_plain.reduced lean_plain.splits (place_of (cell_at s.pool.payloads 0)) (cell_at s.pool.payloads 0).end (stands_plain 0 0 (head_is s.pool.payloads of.order preorder)) (t.kept.sound 0 linked.some)
-          place (place_of (cell_at s.pool.payloads wanted)) untried leaf_there h.can.reduced h.way h.can.may h.can.splits in
-          under_limit s.budget (length (tree_of s.pool.payloads of.order)) options (length (options_at (shape_of p) (place_of (cell_at s.pool.payloads wanted)) h.way)) (2 ^ suc (length (listed (shape_of p).units all)))
+          let leaf_there : Stands (shape_of p) (node_of s.start ∷ [])
+          (tree_of s.pool.payloads of.order) place (place_of (cell_at s.pool.payloads wanted))
+          (leaf untried)
+          = subst
+          (λ (e : End Leaf). Stands (shape_of p) (node_of s.start ∷ [])
+          (tree_of s.pool.payloads of.order) place (place_of (cell_at s.pool.payloads wanted))
+          e) h.can.is_open (stands_plain place wanted of.stands) in
+          let most =
+          few_with_next (shape_of p) (proper_if_valid p valid) all union
+          (leaves.LeafPasses true p (claimed_cost (claim_with s.best))) (node_of s.start)
+          (tree_of s.pool.payloads of.order) passes_plain
+          lean_plain.reduced lean_plain.splits (place_of (cell_at s.pool.payloads 0))
+          (cell_at s.pool.payloads 0).end
+          (stands_plain 0 0 (head_is s.pool.payloads of.order preorder))
+          (t.kept.sound 0 linked.some)
+          place (place_of (cell_at s.pool.payloads wanted)) untried leaf_there h.can.reduced h.way
+          h.can.may h.can.splits in
+          under_limit s.budget (length (tree_of s.pool.payloads of.order)) options
+          (length (options_at (shape_of p) (place_of (cell_at s.pool.payloads wanted)) h.way))
+          (2 ^ suc (length (listed (shape_of p).units all)))
           exceeds h.as_many most
         where
           under_limit : (b n c k m : ℕ) → b < n + c → c ≡ k → n + k < m → b < m
@@ -222,6 +325,7 @@ module _ (p : Problem) (valid : IsValid p) (count : ℕ) (s : Growing) (fs : Lis
 
 -- ---- three facts of what is answered
 
-pub with_three : {T E : Type 0} {A B C G : T → Type 0} (r : Result T E) → ((t : T) → A t → B t → C t → G t) → IfOk r A → IfOk r B → IfOk r C → IfOk r G
+pub with_three : {T E : Type 0} {A B C G : T → Type 0} (r : Result T E)
+    → ((t : T) → A t → B t → C t → G t) → IfOk r A → IfOk r B → IfOk r C → IfOk r G
 with_three (Ok t) f a b c = f t a b c
 with_three (Err e) f a b c = tt

@@ -20,18 +20,51 @@ use Rattle.rank_search.specs.Told.{IsTelling, IsSpentTelling}
 use Rattle.rank_search.specs.Ranked.{IsRankedBy}
 use Rattle.rank_search.specs.declared.outcome.Ranked.TheVariants.{Whole, Spent, Past}
 
-module _ (Stops : PastPlaces) (p : Problem) (asked count budget : ℕ) (same : asked ≡ count) (ws : List Network) (tree : Tree) (marks : List Mark) where
-  pub whole_ranked : IsTelling false p count ws tree marks → IsRankedBy Stops p count budget (Whole (record { count = asked; networks = ws; tree = tree; marks = marks; tail = whole }))
+module _ (Stops : PastPlaces) (p : Problem) (asked count budget : ℕ) (same : asked ≡ count)
+    (ws : List Network) (tree : Tree) (marks : List Mark) where
+  pub whole_ranked : IsTelling false p count ws tree marks
+      → IsRankedBy Stops p count budget
+      (Whole (record { count = asked; networks = ws; tree = tree; marks = marks; tail = whole }))
   whole_ranked t = (refl, record { count_is = same; tells = t })
 
-  pub spent_ranked : (place options : ℕ) → IsTelling true p count ws tree marks → IsSpentTelling p count ws tree marks place options budget
-      → IsRankedBy Stops p count budget (Spent (record { count = asked; networks = ws; tree = tree; marks = marks; tail = spent place options }))
-  spent_ranked place options t s = record { ranking = record { count_is = same; tells = t }; next = place; options = options; tail_is = refl; is_spent = s }
+  pub spent_ranked : (place options : ℕ) → IsTelling true p count ws tree marks
+      → IsSpentTelling p count ws tree marks place options budget
+      → IsRankedBy Stops p count budget
+      (Spent
+      (record {
+        count = asked;
+        networks = ws;
+        tree = tree;
+        marks = marks;
+        tail =
+            spent place options;
+      }))
+  spent_ranked place options t s =
+      record {
+        ranking = record { count_is = same; tells = t };
+        next = place;
+        options =
+            options;
+        tail_is = refl;
+        is_spent = s;
+      }
 
-  pub past_ranked : (place : ℕ) (s : Growing) (h : StoppedLeaf) → IsTelling true p count ws tree marks → IsStoppedAt Stops p s h.leaf h.stop
+  pub past_ranked : (place : ℕ) (s : Growing) (h : StoppedLeaf)
+      → IsTelling true p count ws tree marks → IsStoppedAt Stops p s h.leaf h.stop
       → IsSound (shape_of p) (place_of (cell_at s.pool.payloads h.leaf))
-      → ((cell_at s.pool.payloads h.leaf).end ≡ leaf untried → IsOpenAt p IsOpenLeaf first_node (marked marks tree) place (place_of (cell_at s.pool.payloads h.leaf)))
-      → IsRankedBy Stops p count budget (Past (record { count = asked; networks = ws; tree = tree; marks = marks; tail = past place h.stop.nonbasic h.stop.place }))
+      → ((cell_at s.pool.payloads h.leaf).end ≡ leaf untried
+      → IsOpenAt p IsOpenLeaf first_node (marked marks tree) place
+      (place_of (cell_at s.pool.payloads h.leaf)))
+      → IsRankedBy Stops p count budget
+      (Past
+      (record {
+        count = asked;
+        networks = ws;
+        tree = tree;
+        marks = marks;
+        tail =
+            past place h.stop.nonbasic h.stop.place;
+      }))
   past_ranked place s h t stopped sound stands = record {
     ranking = record { count_is = same; tells = t };
     node = place;

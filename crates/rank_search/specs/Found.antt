@@ -52,7 +52,9 @@ pub record IsFoundThere (p : Problem) (cells : List Cell) (f : FoundAt) : Type 0
 abbrev pub IsListedOrBeaten : Problem → ℕ → List FoundAt → List Cell → ℕ → Type 0
 IsListedOrBeaten p count fs cells j =
     (d : ℤ) (ys : List ℤ) → (cell_at cells j).end ≡ leaf (bounded d ys)
-    → IsOfLeaf j fs ⊎ ((length fs ≡ count) × IsBounded p (last_cost (networks_of fs)) (place_of (cell_at cells j)) d ys)
+    → IsOfLeaf j fs
+    ⊎ ((length fs ≡ count)
+    × IsBounded p (last_cost (networks_of fs)) (place_of (cell_at cells j)) d ys)
 
 -- the networks are the best of those that were found at the leaves of these cells, as many as are
 -- asked for at most, best first

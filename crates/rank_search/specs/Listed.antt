@@ -1,6 +1,7 @@
 -- The list of the best networks as a value: how many are asked for, those that it has, and what
 -- becomes of it if one more is found.
-use Rattle.std.specs.Prelude.{◌≡◌, ℕ, suc, ◌≤◌, pos, ◌≤ℤ◌, ◌<ℤ◌, ◌*ℤ◌, List, [], ◌∷◌, ◌++◌, length, take, Option, Some, None}
+use Rattle.std.specs.Prelude.{◌≡◌, ℕ, suc, ◌≤◌, pos, ◌≤ℤ◌, ◌<ℤ◌, ◌*ℤ◌, List, [], ◌∷◌, ◌++◌, length}
+use Rattle.std.specs.Prelude.{take, Option, Some, None}
 use Rattle.tree_rules.specs.Claim.{Network}
 use Rattle.rank_rules.specs.Networks.{IsNoCheaper}
 use Rattle.rank_search.specs.Found.{FoundAt, AreRising}
@@ -59,7 +60,8 @@ IsSomeAdded old new leaf (Some w) = IsAdded old new (record { network = w; leaf 
 -- leaf
 abbrev pub AreAdded : Listed → Listed → ℕ → List (Option Network) → Type 0
 AreAdded old new first [] = new ≡ old
-AreAdded old new first (w ∷ ws) = (mid : Listed) × IsSomeAdded old mid first w × AreAdded mid new (suc first) ws
+AreAdded old new first (w ∷ ws) = (mid : Listed) × IsSomeAdded old mid first w
+    × AreAdded mid new (suc first) ws
 
 -- the first few of the networks are added in turn, and no other
 abbrev pub IsFrontAdded : Listed → Listed → ℕ → List (Option Network) → Type 0

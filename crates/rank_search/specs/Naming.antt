@@ -1,6 +1,7 @@
 -- The tree of a search as a ranked one: a bounded leaf at which one of the networks was found names
 -- that network, and is in the ordinary tree an open leaf with a mark.
-use Rattle.std.specs.Prelude.{◌≡◌, ℕ, suc, ◌<◌, List, [], ◌∷◌, ◌++◌, map, length, slice_set, replicate, get_or, Option, Some, None}
+use Rattle.std.specs.Prelude.{◌≡◌, ℕ, suc, ◌<◌, List, [], ◌∷◌, ◌++◌, map, length, slice_set}
+use Rattle.std.specs.Prelude.{replicate, get_or, Option, Some, None}
 use Rattle.std.specs.List.{slice_get}
 use Rattle.tree_rules.specs.Tree.{End, branch, leaf, TreeNode}
 use Rattle.tree_rules.specs.Leaf.{Leaf, dead, clash, refuted, bounded, untried}
@@ -89,9 +90,12 @@ marks_of (Some m) = mark_of m ∷ []
 -- The nodes are those of all cells in preorder. Their open leaves are shut by the items at their
 -- numbers, and their named leaves are open leaves with these marks. The cell `wanted` is the node
 -- `place` there.
-pub record IsNamedTree (cells : List Cell) (fs : List FoundAt) (proofs : List (Option Shut)) (wanted : ℕ) (tree : Tree) (marks : List Mark) (place : ℕ) : Type 0 where
+pub record IsNamedTree (cells : List Cell) (fs : List FoundAt) (proofs : List (Option Shut))
+    (wanted : ℕ) (tree : Tree) (marks : List Mark) (place : ℕ) : Type 0 where
   pub order : List ℕ
   pub is_preorder : IsPreorder (shut_cells proofs cells) (0 ∷ []) order
   pub stands : slice_get order place ≡ Some wanted
-  pub tree_is : tree ≡ opened (names_at (names_of (length cells) fs) order) (tree_of (shut_cells proofs cells) order)
-  pub marks_are : marks ≡ marks_in (names_at (names_of (length cells) fs) order) (tree_of (shut_cells proofs cells) order)
+  pub tree_is : tree ≡ opened (names_at (names_of (length cells) fs) order)
+      (tree_of (shut_cells proofs cells) order)
+  pub marks_are : marks ≡ marks_in (names_at (names_of (length cells) fs) order)
+      (tree_of (shut_cells proofs cells) order)

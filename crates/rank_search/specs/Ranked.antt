@@ -37,7 +37,8 @@ pub record IsPastRank (Stops : PastPlaces) (p : Problem) (count : ℕ) (t : Text
   pub nonbasic : List Column
   pub place : Place
   pub tail_is : t.tail ≡ past node nonbasic place
-  pub is_past : IsPast p IsOpenLeaf first_node (marked t.marks t.tree) (λ n. Stops p n nonbasic place) node
+  pub is_past : IsPast p IsOpenLeaf first_node (marked t.marks t.tree)
+      (λ n. Stops p n nonbasic place) node
 
 -- `Stops` says at which places an evaluator of nodes overflows
 abbrev pub IsRankedBy : PastPlaces → Problem → ℕ → ℕ → Ranked → Type 0

@@ -17,7 +17,8 @@ use Rattle.rank_rules.specs.Leaf.{IsOpenLeaf}
 
 -- So many networks were asked for, and these with the tree and its marks are a ranked tree, whole
 -- or partial, and lean. All numbers are the problem's.
-pub record IsTelling (partial : Bool) (p : Problem) (count : ℕ) (ws : List Network) (tree : Tree) (marks : List Mark) : Type 0 where
+pub record IsTelling (partial : Bool) (p : Problem) (count : ℕ) (ws : List Network) (tree : Tree)
+    (marks : List Mark) : Type 0 where
   pub proves : Proves partial p (record { count = count; networks = ws; tree = marked marks tree })
   pub lean : IsLean p IsOpenLeaf (to_undercut count ws) first_node (marked marks tree)
   pub counted : IsCounted count ws marks
@@ -26,6 +27,8 @@ pub record IsTelling (partial : Bool) (p : Problem) (count : ℕ) (ws : List Net
   pub few : length tree < 2 ^ 32 - 1
 
 -- the leaf at the place is branched next, into so many children, for which the budget does not last
-pub record IsSpentTelling (p : Problem) (count : ℕ) (ws : List Network) (tree : Tree) (marks : List Mark) (place options budget : ℕ) : Type 0 where
-  pub spent : IsSpent p IsOpenLeaf (to_undercut count ws) first_node (marked marks tree) place options budget
+pub record IsSpentTelling (p : Problem) (count : ℕ) (ws : List Network) (tree : Tree)
+    (marks : List Mark) (place options budget : ℕ) : Type 0 where
+  pub spent : IsSpent p IsOpenLeaf (to_undercut count ws) first_node (marked marks tree) place
+      options budget
   pub below_limit : IsBelowLimit p budget

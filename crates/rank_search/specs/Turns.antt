@@ -21,19 +21,22 @@ pub record IsRankTree (p : Problem) (budget : ℕ) (s : Growing) (l : Listed) : 
   pub best : AreBest p l.count s.pool.payloads l.found
 
 -- and each open leaf has its data stored, or one stops the search
-pub record IsRanking (Past : PastPlaces) (p : Problem) (budget : ℕ) (s : Growing) (l : Listed) : Type 0 where
+pub record IsRanking (Past : PastPlaces) (p : Problem) (budget : ℕ) (s : Growing)
+    (l : Listed) : Type 0 where
   pub start : node_of s.start ≡ first_node
   pub budget_is : s.budget ≡ budget
   pub going : GoesOnFor Past p (undercut_by l.count l.found) s s.stop
   pub best : AreBest p l.count s.pool.payloads l.found
 
 -- the search ends in this way
-pub record IsRankEnd (Past : PastPlaces) (p : Problem) (budget : ℕ) (s : Growing) (l : Listed) (ending : Ending) : Type 0 where
+pub record IsRankEnd (Past : PastPlaces) (p : Problem) (budget : ℕ) (s : Growing) (l : Listed)
+    (ending : Ending) : Type 0 where
   pub tree : IsRankTree p budget s l
   pub ends : EndsWith Past p s (undercut_by l.count l.found) ending
 
 -- it goes on with more nodes
-pub record IsMore (Past : PastPlaces) (p : Problem) (budget nodes : ℕ) (s : Growing) (l : Listed) : Type 0 where
+pub record IsMore (Past : PastPlaces) (p : Problem) (budget nodes : ℕ) (s : Growing)
+    (l : Listed) : Type 0 where
   pub ranking : IsRanking Past p budget s l
   pub more : nodes < length s.pool.payloads
 

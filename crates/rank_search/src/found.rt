@@ -1,8 +1,10 @@
 //! The networks that were found, best first.
-ghost use Rattle.std.specs.Prelude.{◌≡◌, ◌≤◌, ◌+◌, ◌<◌, ◌^◌, [], length, take, drop, OnOk, OnErr, option_copied};
+ghost use Rattle.std.specs.Prelude.{◌≡◌, ◌≤◌, ◌+◌, ◌<◌, ◌^◌, [], length, take, drop, OnOk, OnErr};
+ghost use Rattle.std.specs.Prelude.{option_copied};
 ghost use Rattle.node_evaluation.specs.Looks.{cost_of};
 ghost use Rattle.rank_search.specs.Found.{undercut_by};
-ghost use Rattle.rank_search.specs.Listed.{IsListed, IsAdded, IsSomeAdded, AreAdded, IsFrontAdded, AreNoDearer, AreDearer};
+ghost use Rattle.rank_search.specs.Listed.{IsListed, IsAdded, IsSomeAdded, AreAdded, IsFrontAdded};
+ghost use Rattle.rank_search.specs.Listed.{AreNoDearer, AreDearer};
 
 use branch_tree::Network;
 use node_evaluation::costs_no_more;
@@ -109,7 +111,8 @@ impl FoundNetworks {
     /// more than are asked for, the last one drops out. After `Err`, which comes if memory is
     /// refused, all is as before.
     pub fn add(&mut self, network: Network, leaf: u32) -> Result<(), AllocError>
-        ensures added { OnOk result (IsAdded self.old self.new (record { network = network; leaf = leaf })) }
+        ensures added { OnOk result
+            (IsAdded self.old self.new (record { network = network; leaf = leaf })) }
         ensures same { OnErr result (self.new ≡ self.old) }
     {
         network.is_sized();

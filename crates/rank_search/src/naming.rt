@@ -6,7 +6,8 @@ ghost use Rattle.tree_rules.specs.Tree.{IsTree};
 ghost use Rattle.ranked_tree.specs.View.{mark_of};
 ghost use Rattle.search_tree.specs.Cells.{IsLinked, cell_at};
 ghost use Rattle.rank_search.specs.Found.{networks_of};
-ghost use Rattle.rank_search.specs.Naming.{AreWithin, IsNamedTree, names_of, name_at, names_at, opened, opened_node, marks_in, marks_at, marks_of};
+ghost use Rattle.rank_search.specs.Naming.{AreWithin, IsNamedTree, names_of, name_at, names_at};
+ghost use Rattle.rank_search.specs.Naming.{opened, opened_node, marks_in, marks_at, marks_of};
 
 use crate::found::FoundAt;
 use branch_tree::{End, Tree, TreeNode};
@@ -78,8 +79,10 @@ fn take_marks(
     names: &[Option<u32>],
 ) -> Result<Vec<Mark>, AllocError>
     requires as_many { length nodes.old ≡ length order.now }
-    ensures nodes { IfOk result (λ marks. nodes.new ≡ opened (names_at names.now order.now) nodes.old) }
-    ensures marks { IfOk result (λ marks. map mark_of marks.items ≡ marks_in (names_at names.now order.now) nodes.old) }
+    ensures nodes { IfOk result
+        (λ marks. nodes.new ≡ opened (names_at names.now order.now) nodes.old) }
+    ensures marks { IfOk result
+        (λ marks. map mark_of marks.items ≡ marks_in (names_at names.now order.now) nodes.old) }
 {
     let mut marks = Vec::new(alloc);
     'naming: for (at, number) in order.iter().enumerate() {
@@ -107,7 +110,9 @@ pub(crate) fn named_tree(
     requires counted { nodes ≡ length pool.now.payloads }
     requires within { AreWithin nodes found.now }
     requires few { length found.now < 2 ^ 32 }
-    ensures tree { IfOk result (λ t. IsNamedTree pool.now.payloads found.now proofs.now leaf t.tree (map mark_of t.marks.items) t.place) }
+    ensures tree { IfOk result
+        (λ t. IsNamedTree pool.now.payloads found.now proofs.now leaf t.tree
+        (map mark_of t.marks.items) t.place) }
     ensures sized { IfOk result (λ t. Each IsSized (networks_of found.now)) }
 {
     search_tree::preorder_is_tree();

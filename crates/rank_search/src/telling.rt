@@ -1,5 +1,6 @@
 //! The answer of a search: its networks, with its tree as a ranked one.
-ghost use Rattle.std.specs.Prelude.{◌≡◌, ◌<◌, ◌≤◌, ◌^◌, ℕ, true, false, [], map, length, slice_index_or, None, IfOk};
+ghost use Rattle.std.specs.Prelude.{◌≡◌, ◌<◌, ◌≤◌, ◌^◌, ℕ, true, false, [], map, length};
+ghost use Rattle.std.specs.Prelude.{slice_index_or, None, IfOk};
 ghost use Rattle.problem_rules.specs.Each.{Each};
 ghost use Rattle.tree_rules.specs.Claim.{IsSized};
 ghost use Rattle.tree_rules.specs.Tree as trees;
@@ -72,7 +73,9 @@ fn tell(
     requires within { AreWithin growing.now.nodes found.found }
     ensures asked { 1 ≤ found.count }
     ensures networks { IfOk result (λ t. t.networks.items ≡ networks_of found.found) }
-    ensures tree { IfOk result (λ t. IsNamedTree growing.now.pool.payloads found.found proofs.now leaf t.tree (map mark_of t.marks.items) t.place) }
+    ensures tree { IfOk result
+        (λ t. IsNamedTree growing.now.pool.payloads found.found proofs.now leaf t.tree
+        (map mark_of t.marks.items) t.place) }
     ensures sized { IfOk result (λ t. Each IsSized (networks_of found.found)) }
 {
     are_numbered(&found);
@@ -107,7 +110,9 @@ pub fn tell_whole(
     requires best { AreBest site.now found.count growing.now.pool.payloads found.found }
     requires shut { ShutAll site.now growing.now (undercut_by found.count found.found) proofs.now }
     ensures networks { IfOk result (λ t. t.networks.items ≡ networks_of found.found) }
-    ensures tells { IfOk result (λ t. IsTelling false site.now found.count t.networks.items t.tree (map mark_of t.marks.items)) }
+    ensures tells { IfOk result
+        (λ t. IsTelling false site.now found.count t.networks.items t.tree
+        (map mark_of t.marks.items)) }
 {
     site.problem();
     tell(alloc, growing, found, proofs, 0)
@@ -130,11 +135,19 @@ pub fn tell_stopped(
     requires shut { ShutSome site.now growing.now (undercut_by found.count found.found) proofs.now }
     requires stays { slice_index_or proofs.now leaf None ≡ None }
     ensures networks { IfOk result (λ t. t.networks.items ≡ networks_of found.found) }
-    ensures tells { IfOk result (λ t. IsTelling true site.now found.count t.networks.items t.tree (map mark_of t.marks.items)) }
-    ensures open { IfOk result (λ t. (cell_at growing.now.pool.payloads leaf).end ≡ trees.leaf untried
-        → IsOpenAt site.now IsOpenLeaf first_node (marked (map mark_of t.marks.items) t.tree) t.place (place_of (cell_at growing.now.pool.payloads leaf))) }
-    ensures spent { IfOk result (λ t. (options : ℕ) → IsSpentFor site.now (undercut_by found.count found.found) growing.now proofs.now leaf options
-        → IsSpentTelling site.now found.count t.networks.items t.tree (map mark_of t.marks.items) t.place options growing.now.budget) }
+    ensures tells { IfOk result
+        (λ t. IsTelling true site.now found.count t.networks.items t.tree
+        (map mark_of t.marks.items)) }
+    ensures open { IfOk result
+        (λ t. (cell_at growing.now.pool.payloads leaf).end ≡ trees.leaf untried
+        → IsOpenAt site.now IsOpenLeaf first_node (marked (map mark_of t.marks.items) t.tree)
+        t.place (place_of (cell_at growing.now.pool.payloads leaf))) }
+    ensures spent { IfOk result
+        (λ t. (options : ℕ)
+        → IsSpentFor site.now (undercut_by found.count found.found) growing.now proofs.now leaf
+        options
+        → IsSpentTelling site.now found.count t.networks.items t.tree (map mark_of t.marks.items)
+        t.place options growing.now.budget) }
 {
     site.problem();
     tell(alloc, growing, found, proofs, leaf)

@@ -19,7 +19,14 @@ use std::alloc::{AllocError, Global};
 /// The answer, with the place at which the search stopped.
 fn text_of(count: u32, told: Told, tail: Tail) -> RankText
     requires { IsCounted count told.networks.items (map mark_of told.marks.items) }
-    ensures { result ≡ record { count = count; networks = told.networks.items; tree = told.tree; marks = map mark_of told.marks.items; tail = tail_of tail } }
+    ensures { result ≡ record {
+      count = count;
+      networks = told.networks.items;
+      tree =
+          told.tree;
+      marks = map mark_of told.marks.items;
+      tail = tail_of tail;
+    } }
 {
     RankText::of(count, told.networks, told.tree, told.marks, tail)
 }

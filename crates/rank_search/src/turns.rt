@@ -30,7 +30,9 @@ fn branch_next<E: Evaluator>(
     requires goes_on { growing.old.stop ≡ None }
     requires next { IsNextLeaf growing.old (undercut_by found.old.count found.old.found) leaf }
     requires fits { FitsBudget growing.old leaf }
-    ensures more { OnOk result (IsMore E.past site.now growing.old.budget (length growing.old.pool.payloads) growing.new found.new) }
+    ensures more { OnOk result
+        (IsMore E.past site.now growing.old.budget (length growing.old.pool.payloads) growing.new
+        found.new) }
     ensures count { OnOk result (found.new.count ≡ found.old.count) }
     ensures own { E.values site.now workspace.new.evaluator }
     ensures makers { workspace.new.makers.makers ≡ workspace.old.makers.makers }
@@ -58,7 +60,10 @@ fn go_on<E: Evaluator>(
     requires makers { AreMakersOf (shape_of site.now) workspace.old.makers.makers }
     requires ranking { IsRanking E.past site.now growing.old.budget growing.old found.old }
     requires goes_on { growing.old.stop ≡ None }
-    ensures holds { IfOk result (TurnHolds E.past site.now growing.old.budget (length growing.old.pool.payloads) growing.new found.new) }
+    ensures holds { IfOk result
+        (TurnHolds E.past site.now growing.old.budget (length growing.old.pool.payloads)
+        growing.new
+        found.new) }
     ensures count { OnOk result (found.new.count ≡ found.old.count) }
     ensures own { E.values site.now workspace.new.evaluator }
     ensures makers { workspace.new.makers.makers ≡ workspace.old.makers.makers }
@@ -91,7 +96,10 @@ fn turn<E: Evaluator>(
     requires own { E.values site.now workspace.old.evaluator }
     requires makers { AreMakersOf (shape_of site.now) workspace.old.makers.makers }
     requires ranking { IsRanking E.past site.now growing.old.budget growing.old found.old }
-    ensures holds { IfOk result (TurnHolds E.past site.now growing.old.budget (length growing.old.pool.payloads) growing.new found.new) }
+    ensures holds { IfOk result
+        (TurnHolds E.past site.now growing.old.budget (length growing.old.pool.payloads)
+        growing.new
+        found.new) }
     ensures count { OnOk result (found.new.count ≡ found.old.count) }
     ensures own { E.values site.now workspace.new.evaluator }
     ensures makers { workspace.new.makers.makers ≡ workspace.old.makers.makers }
@@ -113,7 +121,8 @@ pub(crate) fn run<E: Evaluator, W: Watch>(
     requires own { E.values site.now workspace.old.evaluator }
     requires makers { AreMakersOf (shape_of site.now) workspace.old.makers.makers }
     requires ranking { IsRanking E.past site.now growing.old.budget growing.old found.old }
-    ensures ends { IfOk result (IsRankEnd E.past site.now growing.old.budget growing.new found.new) }
+    ensures ends { IfOk result
+        (IsRankEnd E.past site.now growing.old.budget growing.new found.new) }
     ensures count { OnOk result (found.new.count ≡ found.old.count) }
     ensures own { E.values site.now workspace.new.evaluator }
 {

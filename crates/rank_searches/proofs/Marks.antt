@@ -6,13 +6,15 @@ use Rattle.tree_rules.specs.Tree.{TreeNode, End, branch, leaf}
 use Rattle.tree_rules.specs.Leaf as leaves
 use Rattle.tree_rules.specs.Accepted.{Tree}
 use Rattle.rank_rules.specs.Ranked as ranked
-use Rattle.rank_rules.specs.Marked.{Mark, marked, marked_node, marked_end, first_mark, other_marks, marks_behind}
+use Rattle.rank_rules.specs.Marked.{Mark, marked, marked_node, marked_end, first_mark, other_marks}
+use Rattle.rank_rules.specs.Marked.{marks_behind}
 use Rattle.rank_rules.specs.Text.{AreNumbered}
 use Rattle.rank_text.specs.Fits.{opens, opens_at, FitsMark}
 use Rattle.rank_searches.specs.Normal.{with_mark, marks_for, IsMarkInRange}
 
 -- as many marks as there are open leaves
-with_mark_length : (ms : List Mark) (e : End leaves.Leaf) (behind : List Mark) → length (with_mark ms e behind) ≡ opens_at e + length behind
+with_mark_length : (ms : List Mark) (e : End leaves.Leaf) (behind : List Mark)
+    → length (with_mark ms e behind) ≡ opens_at e + length behind
 with_mark_length ms (branch w) behind = omega arith
 with_mark_length ms (leaf (leaves.dead x)) behind = omega arith
 with_mark_length ms (leaf (leaves.clash k)) behind = omega arith
@@ -23,10 +25,12 @@ with_mark_length ms (leaf leaves.untried) behind = omega arith
 pub marks_for_length : (ts : Tree) (ms : List Mark) → length (marks_for ts ms) ≡ opens ts
 marks_for_length [] ms = refl
 marks_for_length (t ∷ ts) ms =
-    with_mark_length ms t.end (marks_for ts (marks_behind ms t.end)) ∙ ap (λ (n : ℕ). opens_at t.end + n) (marks_for_length ts (marks_behind ms t.end))
+    with_mark_length ms t.end (marks_for ts (marks_behind ms t.end))
+    ∙ ap (λ (n : ℕ). opens_at t.end + n) (marks_for_length ts (marks_behind ms t.end))
 
 -- the same ends
-same_end : (ms : List Mark) (e : End leaves.Leaf) (behind : List Mark) → marked_end (with_mark ms e behind) e ≡ marked_end ms e
+same_end : (ms : List Mark) (e : End leaves.Leaf) (behind : List Mark)
+    → marked_end (with_mark ms e behind) e ≡ marked_end ms e
 same_end ms (branch w) behind = refl
 same_end ms (leaf (leaves.dead x)) behind = refl
 same_end ms (leaf (leaves.clash k)) behind = refl
@@ -34,7 +38,8 @@ same_end ms (leaf (leaves.refuted ys)) behind = refl
 same_end ms (leaf (leaves.bounded d ys)) behind = refl
 same_end ms (leaf leaves.untried) behind = refl
 
-same_behind : (ms : List Mark) (e : End leaves.Leaf) (behind : List Mark) → marks_behind (with_mark ms e behind) e ≡ behind
+same_behind : (ms : List Mark) (e : End leaves.Leaf) (behind : List Mark)
+    → marks_behind (with_mark ms e behind) e ≡ behind
 same_behind ms (branch w) behind = refl
 same_behind ms (leaf (leaves.dead x)) behind = refl
 same_behind ms (leaf (leaves.clash k)) behind = refl
@@ -47,8 +52,12 @@ pub same_tree : (ts : Tree) (ms : List Mark) → marked (marks_for ts ms) ts ≡
 same_tree [] ms = refl
 same_tree (t ∷ ts) ms =
     let rest : List Mark = marks_for ts (marks_behind ms t.end) in
-    let ends : marked_end (with_mark ms t.end rest) t.end ≡ marked_end ms t.end = same_end ms t.end rest in
-    let behind : marked (marks_behind (with_mark ms t.end rest) t.end) ts ≡ marked (marks_behind ms t.end) ts = ap (λ (ns : List Mark). marked ns ts) (same_behind ms t.end rest) ∙ same_tree ts (marks_behind ms t.end) in
+    let ends : marked_end (with_mark ms t.end rest) t.end ≡ marked_end ms t.end =
+    same_end ms t.end rest in
+    let behind : marked (marks_behind (with_mark ms t.end rest) t.end) ts
+    ≡ marked (marks_behind ms t.end) ts =
+    ap (λ (ns : List Mark). marked ns ts) (same_behind ms t.end rest)
+    ∙ same_tree ts (marks_behind ms t.end) in
     λ i. record { option = t.option; steps = t.steps; end = ends i } ∷ behind i
 
 -- ---- numbers
@@ -63,7 +72,8 @@ others_numbered [] h = tt
 others_numbered (None ∷ ms) h = h
 others_numbered (Some m ∷ ms) h = h.1
 
-behind_numbered : (ms : List Mark) (e : End leaves.Leaf) → AreNumbered ms → AreNumbered (marks_behind ms e)
+behind_numbered : (ms : List Mark) (e : End leaves.Leaf) → AreNumbered ms
+    → AreNumbered (marks_behind ms e)
 behind_numbered ms (branch w) h = h
 behind_numbered ms (leaf (leaves.dead x)) h = h
 behind_numbered ms (leaf (leaves.clash k)) h = h
@@ -84,7 +94,8 @@ others_kept : (ms : List Mark) → Each IsMarkInRange ms → Each IsMarkInRange 
 others_kept [] kept = tt
 others_kept (m ∷ ms) kept = kept.1
 
-behind_kept : (ms : List Mark) (e : End leaves.Leaf) → Each IsMarkInRange ms → Each IsMarkInRange (marks_behind ms e)
+behind_kept : (ms : List Mark) (e : End leaves.Leaf) → Each IsMarkInRange ms
+    → Each IsMarkInRange (marks_behind ms e)
 behind_kept ms (branch w) h = h
 behind_kept ms (leaf (leaves.dead x)) h = h
 behind_kept ms (leaf (leaves.clash k)) h = h
@@ -92,16 +103,20 @@ behind_kept ms (leaf (leaves.refuted ys)) h = h
 behind_kept ms (leaf (leaves.bounded d ys)) h = h
 behind_kept ms (leaf leaves.untried) h = others_kept ms h
 
-with_mark_fits : (ms : List Mark) (e : End leaves.Leaf) (behind : List Mark) → AreNumbered ms → Each IsMarkInRange ms → Each FitsMark behind → Each FitsMark (with_mark ms e behind)
+with_mark_fits : (ms : List Mark) (e : End leaves.Leaf) (behind : List Mark) → AreNumbered ms
+    → Each IsMarkInRange ms → Each FitsMark behind → Each FitsMark (with_mark ms e behind)
 with_mark_fits ms (branch w) behind numbered kept fits = fits
 with_mark_fits ms (leaf (leaves.dead x)) behind numbered kept fits = fits
 with_mark_fits ms (leaf (leaves.clash k)) behind numbered kept fits = fits
 with_mark_fits ms (leaf (leaves.refuted ys)) behind numbered kept fits = fits
 with_mark_fits ms (leaf (leaves.bounded d ys)) behind numbered kept fits = fits
-with_mark_fits ms (leaf leaves.untried) behind numbered kept fits = (first_fits ms numbered kept, fits)
+with_mark_fits ms (leaf leaves.untried) behind numbered kept fits =
+    (first_fits ms numbered kept, fits)
 
-pub marks_for_fit : (ts : Tree) (ms : List Mark) → AreNumbered ms → Each IsMarkInRange ms → Each FitsMark (marks_for ts ms)
+pub marks_for_fit : (ts : Tree) (ms : List Mark) → AreNumbered ms → Each IsMarkInRange ms
+    → Each FitsMark (marks_for ts ms)
 marks_for_fit [] ms numbered kept = tt
 marks_for_fit (t ∷ ts) ms numbered kept =
     with_mark_fits ms t.end (marks_for ts (marks_behind ms t.end)) numbered kept
-    (marks_for_fit ts (marks_behind ms t.end) (behind_numbered ms t.end numbered) (behind_kept ms t.end kept))
+    (marks_for_fit ts (marks_behind ms t.end) (behind_numbered ms t.end numbered)
+    (behind_kept ms t.end kept))

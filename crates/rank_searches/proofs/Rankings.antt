@@ -1,5 +1,6 @@
 -- What a search for the best networks found, as a ranking with its text.
-use Rattle.std.proofs.Common.{◌≡◌, ◌<◌, ◌^◌, ◌++◌, ℕ, Bool, true, false, List, [], ◌∷◌, Some, Ok, length, flat_map, decimal, sym, ap, subst, ◌∙◌, arith}
+use Rattle.std.proofs.Common.{◌≡◌, ◌<◌, ◌^◌, ◌++◌, ℕ, Bool, true, false, List, [], ◌∷◌, Some, Ok}
+use Rattle.std.proofs.Common.{length, flat_map, decimal, sym, ap, subst, ◌∙◌, arith}
 use Rattle.problem_rules.specs.Each.{Each}
 use Rattle.problem_rules.specs.Problem.{Problem}
 use Rattle.problem_rules.specs.Validity.{IsValid}
@@ -23,7 +24,8 @@ use Rattle.tree_text_laws.specs.Fits.{FitsNetwork, CountsTail}
 use Rattle.ranked_tree.specs.Known.{KnowsNetwork}
 use Rattle.rank_text.specs.Known.{KnowsText}
 use Rattle.rank_rules.specs.Read.{read_text}
-use Rattle.rank_rules.specs.Spelling.{rank_text, rank_text_lines, file_type, count_word, networks_word, tree_lines}
+use Rattle.rank_rules.specs.Spelling.{rank_text, rank_text_lines, file_type, count_word}
+use Rattle.rank_rules.specs.Spelling.{networks_word, tree_lines}
 use Rattle.rank_text.specs.Fits.{Fits}
 use Rattle.rank_rules.specs.Leaf.{IsOpenLeaf}
 use Rattle.rank_search.specs.declared.outcome.Ranked.{Ranked}
@@ -48,11 +50,15 @@ some_is P a b e h = subst P (let e' : a ≡ b = cc in e') h
 -- ---- the text
 
 -- lines can have networks that are known and kept
-networks_fit : (p : Problem) (ws : List Network) → Each (KnowsNetwork p) ws → Each IsKept ws → Each (FitsNetwork p) ws
+networks_fit : (p : Problem) (ws : List Network) → Each (KnowsNetwork p) ws → Each IsKept ws
+    → Each (FitsNetwork p) ws
 networks_fit p [] known kept = tt
-networks_fit p (w ∷ ws) known kept = (record { known = known.0; kept = kept.0 }, networks_fit p ws known.1 kept.1)
+networks_fit p (w ∷ ws) known kept =
+    (record { known = known.0; kept = kept.0 }, networks_fit p ws known.1 kept.1)
 
-pub fits : (p : Problem) (t : Text) → KnowsText p t → IsTree t.tree → IsCounted t.count t.networks t.marks → t.count < 2 ^ 32 → length t.tree < 2 ^ 32 → Each IsKept t.networks → Each IsMarkInRange t.marks → CountsTail t.tail → Fits p (normal t)
+pub fits : (p : Problem) (t : Text) → KnowsText p t → IsTree t.tree
+    → IsCounted t.count t.networks t.marks → t.count < 2 ^ 32 → length t.tree < 2 ^ 32
+    → Each IsKept t.networks → Each IsMarkInRange t.marks → CountsTail t.tail → Fits p (normal t)
 fits p t known whole counted held few kept ranged tail =
     let asked = counted.asked in
     record {
@@ -71,20 +77,28 @@ lines_with p t tree =
     (file_type ∷ [])
     ∷ (count_word ∷ decimal t.count ∷ [])
     ∷ (networks_word ∷ decimal (length t.networks) ∷ [])
-    ∷ (flat_map (trees.network_lines p) t.networks ++ (tree_lines p tree ++ trees.tail_lines p t.tail))
+    ∷ (flat_map (trees.network_lines p) t.networks
+    ++ (tree_lines p tree ++ trees.tail_lines p t.tail))
 
 same_lines : (p : Problem) (t : Text) → rank_text_lines p (normal t) ≡ rank_text_lines p t
 same_lines p t = ap (lines_with p t) (same_tree t.tree t.marks)
 
-pub are_text : (p : Problem) (t : Text) (lines : List (List ℕ)) → read_text p (rank_text p (normal t)) ≡ Ok (normal t) → lines ≡ spelled (rank_text_lines p t) → AreTextOf p (normal t) lines
+pub are_text : (p : Problem) (t : Text) (lines : List (List ℕ))
+    → read_text p (rank_text p (normal t)) ≡ Ok (normal t) → lines ≡ spelled (rank_text_lines p t)
+    → AreTextOf p (normal t) lines
 are_text p t lines reads text =
-    let own : lines ≡ spelled (rank_text_lines p (normal t)) = text ∙ ap spelled (sym (same_lines p t)) in
+    let own : lines ≡ spelled (rank_text_lines p (normal t)) =
+    text ∙ ap spelled (sym (same_lines p t)) in
     record {
       text = own;
-      reads = ap (λ (bytes : List ℕ). read_text p bytes) (ap text_of own ∙ sym (spelled_text (rank_text_lines p (normal t)))) ∙ reads;
+      reads =
+          ap (λ (bytes : List ℕ). read_text p bytes)
+          (ap text_of own ∙ sym (spelled_text (rank_text_lines p (normal t)))) ∙ reads;
     }
 
-pub says : (p : Problem) (t : Text) (status : Status) → status ≡ status_of t.tail → read_text p (rank_text p (normal t)) ≡ Ok (normal t) → (s : Status) (lines : List (List ℕ)) → OneAnswer status (rank_text_lines p t) s lines → RankingSays p t s lines
+pub says : (p : Problem) (t : Text) (status : Status) → status ≡ status_of t.tail
+    → read_text p (rank_text p (normal t)) ≡ Ok (normal t) → (s : Status) (lines : List (List ℕ))
+    → OneAnswer status (rank_text_lines p t) s lines → RankingSays p t s lines
 says p t status is reads s lines h = (h.0 ∙ is, are_text p t lines reads h.1)
 
 -- ---- a ranking can be printed
@@ -93,15 +107,26 @@ pub record CanPrint (p : Problem) (t : Text) : Type 0 where
   pub known : KnowsText p t
   pub few : length t.tree < 2 ^ 32
 
-known_text : (partial : Bool) (p : Problem) (count : ℕ) (t : Text) → IsRankingFor partial p count t → KnowsTail p t.tail → CanPrint p t
+known_text : (partial : Bool) (p : Problem) (count : ℕ) (t : Text) → IsRankingFor partial p count t
+    → KnowsTail p t.tail → CanPrint p t
 known_text partial p count t h tail =
     let few = h.tells.few in
-    record { known = record { networks = h.tells.of_networks; tree = h.tells.of_tree; tail = tail }; few = omega (arith, few) }
+    record {
+      known = record { networks = h.tells.of_networks; tree = h.tells.of_tree; tail = tail };
+      few = omega (arith, few);
+    }
 
-pub can_print : (p : Problem) (count budget : ℕ) (r : Ranked) → IsRankedTo p count budget r → (t : Text) → ranking_found r ≡ Some t → CanPrint p t
-can_print p count budget (found.Whole t) h u e = some_is (CanPrint p) t u e (known_text false p count t h.1 (subst (KnowsTail p) (sym h.0) tt))
-can_print p count budget (found.Spent t) h u e = some_is (CanPrint p) t u e (known_text true p count t h.ranking (subst (KnowsTail p) (sym h.tail_is) tt))
-can_print p count budget (found.Past t) h u e = some_is (CanPrint p) t u e (known_text true p count t h.ranking (subst (KnowsTail p) (sym h.tail_is) (h.is_past.past.columns, h.is_past.past.known)))
+pub can_print : (p : Problem) (count budget : ℕ) (r : Ranked) → IsRankedTo p count budget r
+    → (t : Text) → ranking_found r ≡ Some t → CanPrint p t
+can_print p count budget (found.Whole t) h u e =
+    some_is (CanPrint p) t u e (known_text false p count t h.1 (subst (KnowsTail p) (sym h.0) tt))
+can_print p count budget (found.Spent t) h u e =
+    some_is (CanPrint p) t u e
+    (known_text true p count t h.ranking (subst (KnowsTail p) (sym h.tail_is) tt))
+can_print p count budget (found.Past t) h u e =
+    some_is (CanPrint p) t u e
+    (known_text true p count t h.ranking
+    (subst (KnowsTail p) (sym h.tail_is) (h.is_past.past.columns, h.is_past.past.known)))
 can_print p count budget found.Memory h u e = absurd cc
 
 -- ---- what holds of it
@@ -115,36 +140,70 @@ module _ (p : Problem) (count : ℕ) (t : Text) (count_is : t.count ≡ count) w
 
   lists : (partial : Bool) → IsRankingFor partial p count t → Lists partial count p (normal t)
   lists partial h =
-      let proves : Proves partial p (ranking_with t.count t.networks (marked t.marks t.tree)) = subst (λ (c : ℕ). Proves partial p (ranking_with c t.networks (marked t.marks t.tree))) (sym count_is) h.tells.proves in
-      let lean : IsLean p IsOpenLeaf (to_undercut t.count t.networks) first_node (marked t.marks t.tree) = subst (λ (c : ℕ). IsLean p IsOpenLeaf (to_undercut c t.networks) first_node (marked t.marks t.tree)) (sym count_is) h.tells.lean in
+      let proves : Proves partial p (ranking_with t.count t.networks (marked t.marks t.tree)) =
+      subst (λ (c : ℕ). Proves partial p (ranking_with c t.networks (marked t.marks t.tree)))
+      (sym count_is) h.tells.proves in
+      let lean : IsLean p IsOpenLeaf (to_undercut t.count t.networks) first_node
+      (marked t.marks t.tree) =
+      subst
+      (λ (c : ℕ). IsLean p IsOpenLeaf (to_undercut c t.networks) first_node
+      (marked t.marks t.tree)) (sym count_is) h.tells.lean in
       record {
         count_is = count_is;
-        proves = subst (λ (tree : ranked.Tree). Proves partial p (ranking_with t.count t.networks tree)) own_tree proves;
-        lean = subst (λ (tree : ranked.Tree). IsLean p IsOpenLeaf (to_undercut t.count t.networks) first_node tree) own_tree lean;
+        proves =
+            subst (λ (tree : ranked.Tree). Proves partial p (ranking_with t.count t.networks tree))
+            own_tree proves;
+        lean =
+            subst
+            (λ (tree : ranked.Tree). IsLean p IsOpenLeaf (to_undercut t.count t.networks) first_node
+            tree) own_tree lean;
       }
 
-  spent_there : (next options budget : ℕ) → IsSpent p IsOpenLeaf (to_undercut count t.networks) first_node (marked t.marks t.tree) next options budget → IsSpent p IsOpenLeaf (to_undercut t.count t.networks) first_node (marked (marks_for t.tree t.marks) t.tree) next options budget
+  spent_there : (next options budget : ℕ)
+      → IsSpent p IsOpenLeaf (to_undercut count t.networks) first_node (marked t.marks t.tree) next
+      options budget
+      → IsSpent p IsOpenLeaf (to_undercut t.count t.networks) first_node
+      (marked (marks_for t.tree t.marks) t.tree) next options budget
   spent_there next options budget h =
-      subst (λ (tree : ranked.Tree). IsSpent p IsOpenLeaf (to_undercut t.count t.networks) first_node tree next options budget) own_tree
-      (subst (λ (c : ℕ). IsSpent p IsOpenLeaf (to_undercut c t.networks) first_node (marked t.marks t.tree) next options budget) (sym count_is) h)
+      subst
+      (λ (tree : ranked.Tree). IsSpent p IsOpenLeaf (to_undercut t.count t.networks) first_node
+      tree next options budget) own_tree
+      (subst
+      (λ (c : ℕ). IsSpent p IsOpenLeaf (to_undercut c t.networks) first_node
+      (marked t.marks t.tree) next options budget) (sym count_is) h)
 
-module _ (listed : ListedAreLeast) (full : OthersCostEnough) (fewer : OthersHaveNone) (p : Problem) (valid : IsValid p) where
+module _ (listed : ListedAreLeast) (full : OthersCostEnough) (fewer : OthersHaveNone) (p : Problem)
+    (valid : IsValid p) where
   abbrev HoldsOf : ℕ → ℕ → Text → Type 0
   HoldsOf count budget t = Holds count budget p (normal t) t.tail
 
-  pub holds : (count budget : ℕ) (r : Ranked) → IsRankedTo p count budget r → (t : Text) → ranking_found r ≡ Some t → Holds count budget p (normal t) t.tail
+  pub holds : (count budget : ℕ) (r : Ranked) → IsRankedTo p count budget r → (t : Text)
+      → ranking_found r ≡ Some t → Holds count budget p (normal t) t.tail
   holds count budget (found.Whole t) h u e =
       let all : Lists false count p (normal t) = lists p count t h.1.count_is false h.1 in
-      some_is (HoldsOf count budget) t u e (subst (λ (tail : tails.Tail). Holds count budget p (normal t) tail) (sym h.0) (record { lists = all; best = are_best listed full fewer p valid (normal t) all.proves }))
+      some_is (HoldsOf count budget) t u e
+      (subst (λ (tail : tails.Tail). Holds count budget p (normal t) tail) (sym h.0)
+      (record { lists = all; best = are_best listed full fewer p valid (normal t) all.proves }))
   holds count budget (found.Spent t) h u e =
-      some_is (HoldsOf count budget) t u e (subst (λ (tail : tails.Tail). Holds count budget p (normal t) tail) (sym h.tail_is)
-      (lists p count t h.ranking.count_is true h.ranking, spent_there p count t h.ranking.count_is h.next h.options budget h.is_spent.spent, h.is_spent.below_limit))
-  holds count budget (found.Past t) h u e =
-      some_is (HoldsOf count budget) t u e (subst (λ (tail : tails.Tail). Holds count budget p (normal t) tail) (sym h.tail_is) (
+      some_is (HoldsOf count budget) t u e
+      (subst (λ (tail : tails.Tail). Holds count budget p (normal t) tail) (sym h.tail_is) (
         lists p count t h.ranking.count_is true h.ranking,
-        subst (λ (tree : ranked.Tree). IsPast p IsOpenLeaf first_node tree (λ n. IsPastAt p n h.nonbasic h.place) h.node) (sym (same_tree t.tree t.marks)) h.is_past,
+        spent_there p count t h.ranking.count_is h.next h.options budget h.is_spent.spent,
+        h.is_spent.below_limit,
+      ))
+  holds count budget (found.Past t) h u e =
+      some_is (HoldsOf count budget) t u e
+      (subst (λ (tail : tails.Tail). Holds count budget p (normal t) tail) (sym h.tail_is) (
+        lists p count t h.ranking.count_is true h.ranking,
+        subst
+            (λ (tree : ranked.Tree). IsPast p IsOpenLeaf first_node tree
+            (λ n. IsPastAt p n h.nonbasic h.place) h.node) (sym (same_tree t.tree t.marks))
+            h.is_past,
       ))
   holds count budget found.Memory h u e = absurd cc
 
-  pub found_works : (count budget : ℕ) (r : Ranked) → IsRankedTo p count budget r → (s : Status) (lines : List (List ℕ)) → FoundSays p r s lines → RankWork count budget p s lines
-  found_works count budget r h s lines said = (normal said.0, said.2.0, holds count budget r h said.0 said.1, said.2.1)
+  pub found_works : (count budget : ℕ) (r : Ranked) → IsRankedTo p count budget r
+      → (s : Status) (lines : List (List ℕ)) → FoundSays p r s lines
+      → RankWork count budget p s lines
+  found_works count budget r h s lines said =
+      (normal said.0, said.2.0, holds count budget r h said.0 said.1, said.2.1)

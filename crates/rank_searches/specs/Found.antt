@@ -21,4 +21,5 @@ abbrev pub RankingSays : Problem → Text → Status → List (List ℕ) → Typ
 RankingSays p t status lines = (status ≡ status_of t.tail) × AreTextOf p (normal t) lines
 
 abbrev pub FoundSays : Problem → Ranked → Status → List (List ℕ) → Type 0
-FoundSays p ranked status lines = (t : Text) × (ranking_found ranked ≡ Some t) × RankingSays p t status lines
+FoundSays p ranked status lines = (t : Text) × (ranking_found ranked ≡ Some t)
+    × RankingSays p t status lines

@@ -23,7 +23,15 @@ marks_for [] ms = []
 marks_for (t ∷ ts) ms = with_mark ms t.end (marks_for ts (marks_behind ms t.end))
 
 abbrev pub normal : Text → Text
-normal t = record { count = t.count; networks = t.networks; tree = t.tree; marks = marks_for t.tree t.marks; tail = t.tail }
+normal t =
+    record {
+      count = t.count;
+      networks = t.networks;
+      tree = t.tree;
+      marks =
+          marks_for t.tree t.marks;
+      tail = t.tail;
+    }
 
 -- the numbers of a mark are those of the code's types
 abbrev pub IsMarkInRange : Mark → Type 0

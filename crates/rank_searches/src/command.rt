@@ -57,7 +57,9 @@ pub fn rank<F: Shelf, K: Sink, E: Sink, W: Watch>(
     requires within { count ≤ 1000 }
     requires some { 1 ≤ effort.budget }
     requires few { effort.budget ≤ 1000000 }
-    ensures ends { Ends (FileSays (RankWork count effort.budget) file.now (F.state shelf.old) (F.state shelf.new)) out.old out.new result }
+    ensures ends { Ends
+        (FileSays (RankWork count effort.budget) file.now (F.state shelf.old) (F.state shelf.new))
+        out.old out.new result }
     ensures keeps { Keeps (F.state shelf.old) (F.state shelf.new) }
 {
     match problem_of(alloc, shelf, out, file) {

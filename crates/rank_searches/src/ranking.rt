@@ -79,7 +79,8 @@ fn count_is_held(text: &RankText)
 fn reads_back(problem: &Problem, text: &RankText)
     requires known { KnowsText problem.now text.now }
     requires few { length text.now.tree < 2 ^ 32 }
-    ensures { read_text problem.now (rank_text problem.now (normal text.now)) ≡ Ok (normal text.now) }
+    ensures { read_text problem.now (rank_text problem.now (normal text.now))
+        ≡ Ok (normal text.now) }
 {
     problem.is_valid();
     text.is_counted();

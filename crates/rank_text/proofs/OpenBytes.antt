@@ -1,5 +1,7 @@
 -- A text is made of its lines, also with `open` in place of each line that names a network.
-use Rattle.std.proofs.Common.{◌≡◌, ◌≤◌, Bool, true, false, cond, ℕ, List, [], ◌∷◌, ◌++◌, map, flat_map, length, take, drop, refl, sym, ap, ◌∙◌, append_assoc, append-nil, if◌then◌else◌}
+use Rattle.std.proofs.Common.{◌≡◌, ◌≤◌, Bool, true, false, cond, ℕ, List, [], ◌∷◌, ◌++◌, map}
+use Rattle.std.proofs.Common.{flat_map, length, take, drop, refl, sym, ap, ◌∙◌, append_assoc}
+use Rattle.std.proofs.Common.{append-nil, if◌then◌else◌}
 use Rattle.std.specs.List.{list_any, slice_split, onto_first}
 use Rattle.std.proofs.lemmas.Bool.{or_from}
 use Rattle.std.proofs.lemmas.List.{length-take-le}
@@ -25,13 +27,16 @@ pieces_clear : (bytes : List ℕ) → Each IsClear (slice_split is_feed bytes)
 pieces_clear [] = (refl, tt)
 pieces_clear (c ∷ cs) = at (is_feed c) refl (slice_split is_feed cs) (pieces_clear cs)
   where
-    at : (b : Bool) → is_feed c ≡ b → (pieces : List (List ℕ)) → Each IsClear pieces → Each IsClear (cond b ([] ∷ pieces) (onto_first c pieces))
+    at : (b : Bool) → is_feed c ≡ b → (pieces : List (List ℕ)) → Each IsClear pieces
+        → Each IsClear (cond b ([] ∷ pieces) (onto_first c pieces))
     at true e pieces each = (refl, each)
     at false e [] each = (or_from (is_feed c) false e refl, tt)
-    at false e (piece ∷ pieces) each = (or_from (is_feed c) (list_any is_feed piece) e each.0, each.1)
+    at false e (piece ∷ pieces) each =
+        (or_from (is_feed c) (list_any is_feed piece) e each.0, each.1)
 
 -- a line that has ended, in front of others
-front_line : (text : List ℕ) (lines : List Line) → IsClear text → lines_of (bytes_of lines) ≡ lines → lines_of ((text ++ 10 ∷ []) ++ bytes_of lines) ≡ record { text = text; ended = true } ∷ lines
+front_line : (text : List ℕ) (lines : List Line) → IsClear text → lines_of (bytes_of lines) ≡ lines
+    → lines_of ((text ++ 10 ∷ []) ++ bytes_of lines) ≡ record { text = text; ended = true } ∷ lines
 front_line text lines clear rest =
     ap lines_of (append_assoc text (10 ∷ []) (bytes_of lines))
     ∙ ap lines_from (split_at is_feed text 10 (bytes_of lines) clear refl)
@@ -42,22 +47,30 @@ front_line text lines clear rest =
 abbrev opened_as : Bool → Line → Line
 opened_as named line = if named then record { text = word_text Open; ended = line.ended } else line
 
-front_opened : (named : Bool) (text : List ℕ) (lines : List Line) → IsClear text → lines_of (bytes_of lines) ≡ lines
-    → lines_of (line_bytes (opened_as named (record { text = text; ended = true })) ++ bytes_of lines) ≡ opened_as named (record { text = text; ended = true }) ∷ lines
+front_opened : (named : Bool) (text : List ℕ) (lines : List Line) → IsClear text
+    → lines_of (bytes_of lines) ≡ lines
+    → lines_of
+    (line_bytes (opened_as named (record { text = text; ended = true })) ++ bytes_of lines)
+    ≡ opened_as named (record { text = text; ended = true }) ∷ lines
 front_opened true text lines clear rest = front_line (word_text Open) lines refl rest
 front_opened false text lines clear rest = front_line text lines clear rest
 
 last_opened : (named : Bool) (c : ℕ) (cs : List ℕ) → IsClear (c ∷ cs)
-    → lines_of (line_bytes (opened_as named (record { text = c ∷ cs; ended = false })) ++ []) ≡ opened_as named (record { text = c ∷ cs; ended = false }) ∷ []
+    → lines_of (line_bytes (opened_as named (record { text = c ∷ cs; ended = false })) ++ [])
+    ≡ opened_as named (record { text = c ∷ cs; ended = false }) ∷ []
 last_opened true c cs clear = refl
-last_opened false c cs clear = ap lines_of (append-nil (c ∷ cs)) ∙ ap lines_from (split_none is_feed (c ∷ cs) clear)
+last_opened false c cs clear = ap lines_of (append-nil (c ∷ cs))
+    ∙ ap lines_from (split_none is_feed (c ∷ cs) clear)
 
-opened_again : (pieces : List (List ℕ)) → Each IsClear pieces → lines_of (bytes_of (map opened (lines_from pieces))) ≡ map opened (lines_from pieces)
+opened_again : (pieces : List (List ℕ)) → Each IsClear pieces
+    → lines_of (bytes_of (map opened (lines_from pieces))) ≡ map opened (lines_from pieces)
 opened_again [] each = refl
 opened_again ([] ∷ []) each = refl
-opened_again ((c ∷ cs) ∷ []) each = last_opened (begins_by named_word (record { text = c ∷ cs; ended = false })) c cs each.0
+opened_again ((c ∷ cs) ∷ []) each =
+    last_opened (begins_by named_word (record { text = c ∷ cs; ended = false })) c cs each.0
 opened_again (piece ∷ next ∷ pieces) each =
-    front_opened (begins_by named_word (record { text = piece; ended = true })) piece (map opened (lines_from (next ∷ pieces))) each.0 (opened_again (next ∷ pieces) each.1)
+    front_opened (begins_by named_word (record { text = piece; ended = true })) piece
+    (map opened (lines_from (next ∷ pieces))) each.0 (opened_again (next ∷ pieces) each.1)
 
 -- ---- a text that is made line by line
 
@@ -66,14 +79,18 @@ abbrev pub opened_from : List ℕ → ℕ → List ℕ
 opened_from bytes at = bytes_of (unknown_line ∷ map opened (lines_of (drop at bytes)))
 
 -- before the first line
-pub text_begun : (bytes made : List ℕ) (at : ℕ) → made ≡ take at bytes ++ line_bytes unknown_line → made ++ bytes_of (map opened (lines_of (drop at bytes))) ≡ take at bytes ++ opened_from bytes at
+pub text_begun : (bytes made : List ℕ) (at : ℕ) → made ≡ take at bytes ++ line_bytes unknown_line
+    → made ++ bytes_of (map opened (lines_of (drop at bytes))) ≡ take at bytes
+    ++ opened_from bytes at
 text_begun bytes made at is =
     ap (λ (bs : List ℕ). bs ++ bytes_of (map opened (lines_of (drop at bytes)))) is
-    ∙ append_assoc (take at bytes) (line_bytes unknown_line) (bytes_of (map opened (lines_of (drop at bytes))))
+    ∙ append_assoc (take at bytes) (line_bytes unknown_line)
+    (bytes_of (map opened (lines_of (drop at bytes))))
 
 -- one line more
 pub text_on : (made next : List ℕ) (left rest : List Line) (line : Line) (whole : List ℕ)
-    → made ++ bytes_of (map opened left) ≡ whole → left ≡ line ∷ rest → next ≡ made ++ line_bytes (opened line) → next ++ bytes_of (map opened rest) ≡ whole
+    → made ++ bytes_of (map opened left) ≡ whole → left ≡ line ∷ rest
+    → next ≡ made ++ line_bytes (opened line) → next ++ bytes_of (map opened rest) ≡ whole
 text_on made next left rest line whole e cut is =
     ap (λ (bs : List ℕ). bs ++ bytes_of (map opened rest)) is
     ∙ append_assoc made (line_bytes (opened line)) (bytes_of (map opened rest))
@@ -81,12 +98,16 @@ text_on made next left rest line whole e cut is =
     ∙ e
 
 -- no line is left
-pub text_done : (bytes made : List ℕ) (at : ℕ) (left : List Line) → at ≤ length bytes → made ++ bytes_of (map opened left) ≡ take at bytes ++ opened_from bytes at → left ≡ []
+pub text_done : (bytes made : List ℕ) (at : ℕ) (left : List Line) → at ≤ length bytes
+    → made ++ bytes_of (map opened left) ≡ take at bytes ++ opened_from bytes at → left ≡ []
     → lines_of (drop at made) ≡ unknown_line ∷ map opened (lines_of (drop at bytes))
 text_done bytes made at left within e none =
     let front : length (take at bytes) ≡ at = length-take-le at bytes within in
     let lines : List Line = map opened (lines_of (drop at bytes)) in
-    ap (λ (bs : List ℕ). lines_of (drop at bs)) (sym (append-nil made) ∙ ap (λ (ls : List Line). made ++ bytes_of (map opened ls)) (sym none) ∙ e)
+    ap (λ (bs : List ℕ). lines_of (drop at bs))
+    (sym (append-nil made)
+    ∙ ap (λ (ls : List Line). made ++ bytes_of (map opened ls)) (sym none) ∙ e)
     ∙ ap (λ (n : ℕ). lines_of (drop n (take at bytes ++ opened_from bytes at))) (sym front)
     ∙ ap lines_of (drop-append_seam (take at bytes) (opened_from bytes at))
-    ∙ front_line (word_text Unknown) lines refl (opened_again (slice_split is_feed (drop at bytes)) (pieces_clear (drop at bytes)))
+    ∙ front_line (word_text Unknown) lines refl
+    (opened_again (slice_split is_feed (drop at bytes)) (pieces_clear (drop at bytes)))

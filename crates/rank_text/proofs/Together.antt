@@ -1,5 +1,7 @@
 -- What is read of the parts of a text is joined.
-use Rattle.std.proofs.Common.{◌≡◌, ◌<◌, ◌≤◌, ◌-◌, ℕ, suc, List, [], ◌∷◌, ◌++◌, drop, map, Option, Some, None, IfSome, IfNone, Result, Ok, Err, refl, sym, ap, ap₂, ◌∙◌, arith, append-nil}
+use Rattle.std.proofs.Common.{◌≡◌, ◌<◌, ◌≤◌, ◌-◌, ℕ, suc, List, [], ◌∷◌, ◌++◌, drop, map, Option}
+use Rattle.std.proofs.Common.{Some, None, IfSome, IfNone, Result, Ok, Err, refl, sym, ap, ap₂, ◌∙◌}
+use Rattle.std.proofs.Common.{arith, append-nil}
 use Rattle.problem_rules.specs.Problem.{Problem}
 use Rattle.tree_rules.specs.Accepted.{Tree}
 use Rattle.tree_rules.specs.Tail.{Tail}
@@ -9,7 +11,8 @@ use Rattle.tree_text_rules.specs.Line.{Line, lines_of, word_named}
 use Rattle.tree_text_rules.specs.LineRead as reads
 use Rattle.tree_text_rules.specs.LineRead.{opening_read}
 use Rattle.tree_text_rules.specs.Read as rules
-use Rattle.tree_text_rules.specs.Read.{Fault, Taken, Certificate, on_line, then_read, network_taken, claim_behind, tree_taken, tail_taken}
+use Rattle.tree_text_rules.specs.Read.{Fault, Taken, Certificate, on_line, then_read, network_taken}
+use Rattle.tree_text_rules.specs.Read.{claim_behind, tree_taken, tail_taken}
 use Rattle.tree_text_rules.specs.declared.TreeKind.{TreeKind}
 use Rattle.text_lines.specs.Tells.{Tells}
 use Rattle.text_lines.specs.declared.fault.TextFault.{TextFault}
@@ -17,20 +20,25 @@ use Rattle.text_lines.specs.declared.fault.TextFault.TheVariants.{At, Memory}
 use Rattle.rank_rules.specs.Marked.{Mark}
 use Rattle.rank_rules.specs.Text.{Text}
 use Rattle.rank_rules.specs.Opened.{opened, unknown_line, marks_taken, so_far}
-use Rattle.rank_rules.specs.Read.{Grown, with_network, with_tail, networks_taken, grown_taken, earlier, put_together, behind_networks}
+use Rattle.rank_rules.specs.Read.{Grown, with_network, with_tail, networks_taken, grown_taken}
+use Rattle.rank_rules.specs.Read.{earlier, put_together, behind_networks}
 
 -- ---- networks
 
 -- networks in front of those that are read next
-abbrev pub with_networks : List Network → Result (Taken (List Network)) Fault → Result (Taken (List Network)) Fault
+abbrev pub with_networks : List Network → Result (Taken (List Network)) Fault
+    → Result (Taken (List Network)) Fault
 with_networks [] read = read
 with_networks (w ∷ ws) read = with_network w (with_networks ws read)
 
-last_network : (ws : List Network) (w : Network) (read : Result (Taken (List Network)) Fault) → with_networks (ws ++ w ∷ []) read ≡ with_networks ws (with_network w read)
+last_network : (ws : List Network) (w : Network) (read : Result (Taken (List Network)) Fault)
+    → with_networks (ws ++ w ∷ []) read ≡ with_networks ws (with_network w read)
 last_network [] w read = refl
 last_network (v ∷ vs) w read = ap (with_network v) (last_network vs w read)
 
-networks_done : (ws : List Network) (number : ℕ) (lines : List Line) → with_networks ws (Ok (record { what = []; number = number; behind = lines })) ≡ Ok (record { what = ws; number = number; behind = lines })
+networks_done : (ws : List Network) (number : ℕ) (lines : List Line)
+    → with_networks ws (Ok (record { what = []; number = number; behind = lines }))
+    ≡ Ok (record { what = ws; number = number; behind = lines })
 networks_done [] number lines = refl
 networks_done (w ∷ ws) number lines = ap (with_network w) (networks_done ws number lines)
 
@@ -38,23 +46,35 @@ networks_fail : (ws : List Network) (fault : Fault) → with_networks ws (Err fa
 networks_fail [] fault = refl
 networks_fail (w ∷ ws) fault = ap (with_network w) (networks_fail ws fault)
 
-module _ (p : Problem) (whole : Result (Taken (List Network)) Fault) (ws : List Network) (left number : ℕ) (lines : List Line) (leads : with_networks ws (networks_taken p left number lines) ≡ whole) where
+module _ (p : Problem) (whole : Result (Taken (List Network)) Fault) (ws : List Network)
+    (left number : ℕ) (lines : List Line)
+    (leads : with_networks ws (networks_taken p left number lines) ≡ whole) where
   -- the next network is read, and after it the others
   abbrev next_then : Result (Taken Network) Fault → Result (Taken (List Network)) Fault
-  next_then r = with_networks ws (then_read r (λ w number lines. with_network w (networks_taken p (left - 1) number lines)))
+  next_then r =
+      with_networks ws
+      (then_read r (λ w number lines. with_network w (networks_taken p (left - 1) number lines)))
 
   at_network : 0 < left → next_then (network_taken p number lines) ≡ whole
-  at_network some = ap (λ (n : ℕ). with_networks ws (networks_taken p n number lines)) (let q : suc (left - 1) ≡ left = omega (arith, some) in q) ∙ leads
+  at_network some =
+      ap (λ (n : ℕ). with_networks ws (networks_taken p n number lines))
+      (let q : suc (left - 1) ≡ left = omega (arith, some) in q) ∙ leads
 
-  pub network_on : 0 < left → (t : Taken Network) → network_taken p number lines ≡ Ok t → with_networks (ws ++ t.what ∷ []) (networks_taken p (left - 1) t.number t.behind) ≡ whole
-  network_on some t e = last_network ws t.what (networks_taken p (left - 1) t.number t.behind) ∙ ap next_then (sym e) ∙ at_network some
+  pub network_on : 0 < left → (t : Taken Network) → network_taken p number lines ≡ Ok t
+      → with_networks (ws ++ t.what ∷ []) (networks_taken p (left - 1) t.number t.behind) ≡ whole
+  network_on some t e = last_network ws t.what (networks_taken p (left - 1) t.number t.behind)
+      ∙ ap next_then (sym e) ∙ at_network some
 
-  pub network_bad : 0 < left → (fault : TextFault TreeKind) → Tells (network_taken p number lines) fault → Tells whole fault
+  pub network_bad : 0 < left → (fault : TextFault TreeKind)
+      → Tells (network_taken p number lines) fault → Tells whole fault
   network_bad some Memory h = tt
-  network_bad some (At line kind) h = sym (at_network some) ∙ ap next_then h ∙ networks_fail ws (line, kind)
+  network_bad some (At line kind) h = sym (at_network some) ∙ ap next_then h
+      ∙ networks_fail ws (line, kind)
 
   pub networks_whole : left ≡ 0 → whole ≡ Ok (record { what = ws; number = number; behind = lines })
-  networks_whole e = sym leads ∙ ap (λ (n : ℕ). with_networks ws (networks_taken p n number lines)) e ∙ networks_done ws number lines
+  networks_whole e = sym leads
+      ∙ ap (λ (n : ℕ). with_networks ws (networks_taken p n number lines)) e
+      ∙ networks_done ws number lines
 
 -- ---- after the networks
 
@@ -63,55 +83,79 @@ abbrev grown_of : Result Certificate Fault → Result Grown Fault
 grown_of (Ok c) = Ok (record { tree = c.tree; tail = c.tail })
 grown_of (Err fault) = Err fault
 
-tail_grown : (tree : Tree) (r : Result Tail Fault) → grown_of (rules.with_tail claims.unknown tree r) ≡ with_tail tree r
+tail_grown : (tree : Tree) (r : Result Tail Fault)
+    → grown_of (rules.with_tail claims.unknown tree r) ≡ with_tail tree r
 tail_grown tree (Ok tail) = refl
 tail_grown tree (Err fault) = refl
 
 tree_grown : (p : Problem) (r : Result (Taken Tree) Fault)
-    → grown_of (then_read r (λ tree number lines. rules.with_tail claims.unknown tree (tail_taken p number lines))) ≡ then_read r (λ tree number lines. with_tail tree (tail_taken p number lines))
+    → grown_of
+    (then_read r
+    (λ tree number lines. rules.with_tail claims.unknown tree (tail_taken p number lines)))
+    ≡ then_read r (λ tree number lines. with_tail tree (tail_taken p number lines))
 tree_grown p (Ok taken) = tail_grown taken.what (tail_taken p taken.number taken.behind)
 tree_grown p (Err fault) = refl
 
-claims_nothing : (p : Problem) (number : ℕ) (lines : List Line) → grown_of (rules.rest_taken p number (unknown_line ∷ lines)) ≡ grown_taken p (suc number) lines
+claims_nothing : (p : Problem) (number : ℕ) (lines : List Line)
+    → grown_of (rules.rest_taken p number (unknown_line ∷ lines)) ≡ grown_taken p (suc number) lines
 unfolding word_named
 claims_nothing p number lines =
     let unknown : opening_read p unknown_line ≡ Ok reads.unknown = refl in
-    ap (λ (r : Result reads.Opening TreeKind). grown_of (then_read (on_line number r (λ opening. claim_behind opening (suc number) lines)) (λ claim number lines.
-    then_read (tree_taken p number lines) (λ tree number lines. rules.with_tail claim tree (tail_taken p number lines))))) unknown
+    ap (λ (r : Result reads.Opening TreeKind). grown_of
+    (then_read (on_line number r (λ opening. claim_behind opening (suc number) lines))
+    (λ claim number lines.
+    then_read (tree_taken p number lines)
+    (λ tree number lines. rules.with_tail claim tree (tail_taken p number lines))))) unknown
     ∙ tree_grown p (tree_taken p (suc number) lines)
 
 -- the marks of a text of open leaves, and what is read of its lines
-module _ (p : Problem) (count : ℕ) (ws : List Network) (number : ℕ) (lines : List Line) (ms : List Mark) (fault : Option Fault) (place : ℕ) (made text : List ℕ)
-    (marks : so_far ms fault (Ok []) ≡ marks_taken number lines) (text_is : lines_of (drop place text) ≡ unknown_line ∷ map opened lines) (made_is : made ≡ text) (some : 1 ≤ number) where
+module _ (p : Problem) (count : ℕ) (ws : List Network) (number : ℕ) (lines : List Line)
+    (ms : List Mark) (fault : Option Fault) (place : ℕ) (made text : List ℕ)
+    (marks : so_far ms fault (Ok []) ≡ marks_taken number lines)
+    (text_is : lines_of (drop place text) ≡ unknown_line ∷ map opened lines)
+    (made_is : made ≡ text) (some : 1 ≤ number) where
   abbrev IsRead : Result Certificate Fault → Type 0
   IsRead r = rules.rest_taken p (number - 1) (lines_of (drop place made)) ≡ r
 
-  grown_read : (r : Result Certificate Fault) → IsRead r → grown_taken p number (map opened lines) ≡ grown_of r
+  grown_read : (r : Result Certificate Fault) → IsRead r
+      → grown_taken p number (map opened lines) ≡ grown_of r
   grown_read r e =
-      ap (λ (n : ℕ). grown_taken p n (map opened lines)) (let q : number ≡ suc (number - 1) = omega (arith, some) in q)
+      ap (λ (n : ℕ). grown_taken p n (map opened lines))
+      (let q : number ≡ suc (number - 1) = omega (arith, some) in q)
       ∙ sym (claims_nothing p (number - 1) (map opened lines))
-      ∙ ap (λ (all : List Line). grown_of (rules.rest_taken p (number - 1) all)) (sym (ap (λ (bs : List ℕ). lines_of (drop place bs)) made_is ∙ text_is))
+      ∙ ap (λ (all : List Line). grown_of (rules.rest_taken p (number - 1) all))
+      (sym (ap (λ (bs : List ℕ). lines_of (drop place bs)) made_is ∙ text_is))
       ∙ ap grown_of e
 
   abbrev Stands : Result Text Fault → Type 0
   Stands r = behind_networks p count ws number lines ≡ r
 
-  together : (f : Option Fault) (r : Result Certificate Fault) → fault ≡ f → IsRead r → Stands (put_together count ws (so_far ms f (Ok [])) (grown_of r))
-  together f r is e = ap₂ (λ (m : Result (List Mark) Fault) (g : Result Grown Fault). put_together count ws m g) (sym marks ∙ ap (λ (f : Option Fault). so_far ms f (Ok [])) is) (grown_read r e)
+  together : (f : Option Fault) (r : Result Certificate Fault) → fault ≡ f → IsRead r
+      → Stands (put_together count ws (so_far ms f (Ok [])) (grown_of r))
+  together f r is e =
+      ap₂ (λ (m : Result (List Mark) Fault) (g : Result Grown Fault). put_together count ws m g)
+      (sym marks ∙ ap (λ (f : Option Fault). so_far ms f (Ok [])) is) (grown_read r e)
 
   -- without a fault of a line that names a network the marks are whole
-  unmarred : (r : Result Certificate Fault) → fault ≡ None → IsRead r → Stands (put_together count ws (Ok ms) (grown_of r))
-  unmarred r is e = together None r is e ∙ ap (λ (xs : List Mark). put_together count ws (Ok xs) (grown_of r)) (append-nil ms)
+  unmarred : (r : Result Certificate Fault) → fault ≡ None → IsRead r
+      → Stands (put_together count ws (Ok ms) (grown_of r))
+  unmarred r is e = together None r is e
+      ∙ ap (λ (xs : List Mark). put_together count ws (Ok xs) (grown_of r)) (append-nil ms)
 
-  pub both_ok : (c : Certificate) → fault ≡ None → IsRead (Ok c) → Stands (Ok (record { count = count; networks = ws; tree = c.tree; marks = ms; tail = c.tail }))
+  pub both_ok : (c : Certificate) → fault ≡ None → IsRead (Ok c)
+      → Stands
+      (Ok (record { count = count; networks = ws; tree = c.tree; marks = ms; tail = c.tail }))
   both_ok c none e = unmarred (Ok c) none e
 
   pub named_bad : (c : Certificate) (f : Fault) → fault ≡ Some f → IsRead (Ok c) → Stands (Err f)
   named_bad c f is e = together (Some f) (Ok c) is e
 
-  pub both_bad : (other told : Fault) → IsRead (Err other) → IfSome fault (λ f. told ≡ earlier f other) → IfNone fault (told ≡ other) → Stands (Err told)
+  pub both_bad : (other told : Fault) → IsRead (Err other)
+      → IfSome fault (λ f. told ≡ earlier f other) → IfNone fault (told ≡ other) → Stands (Err told)
   both_bad other told e some none = at fault refl some none
     where
-      at : (f : Option Fault) → fault ≡ f → IfSome f (λ f. told ≡ earlier f other) → IfNone f (told ≡ other) → Stands (Err told)
+      at : (f : Option Fault) → fault ≡ f → IfSome f (λ f. told ≡ earlier f other)
+          → IfNone f (told ≡ other) → Stands (Err told)
       at None is some none = unmarred (Err other) is e ∙ ap (λ (f : Fault). Err f) (sym none)
-      at (Some f) is some none = together (Some f) (Err other) is e ∙ ap (λ (f : Fault). Err f) (sym some)
+      at (Some f) is some none = together (Some f) (Err other) is e
+          ∙ ap (λ (f : Fault). Err f) (sym some)

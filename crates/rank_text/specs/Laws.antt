@@ -9,7 +9,8 @@ use Rattle.rank_text.specs.Fits.{Fits}
 
 -- The text of a ranking that fits a valid problem has no fault, and stands for the ranking.
 abbrev pub SpelledRanksRead : Type 0
-SpelledRanksRead = (p : Problem) → IsValid p → (t : Text) → Fits p t → read_text p (rank_text p t) ≡ Ok t
+SpelledRanksRead = (p : Problem) → IsValid p → (t : Text) → Fits p t
+    → read_text p (rank_text p t) ≡ Ok t
 
 -- A text without a fault is the one text of what it stands for, which fits the problem.
 pub record IsSpelled (p : Problem) (bytes : List ℕ) (t : Text) : Type 0 where
@@ -17,4 +18,5 @@ pub record IsSpelled (p : Problem) (bytes : List ℕ) (t : Text) : Type 0 where
   pub fits : Fits p t
 
 abbrev pub ReadRanksAreSpelled : Type 0
-ReadRanksAreSpelled = (p : Problem) → IsValid p → (bytes : List ℕ) (t : Text) → read_text p bytes ≡ Ok t → IsSpelled p bytes t
+ReadRanksAreSpelled = (p : Problem) → IsValid p → (bytes : List ℕ) (t : Text)
+    → read_text p bytes ≡ Ok t → IsSpelled p bytes t

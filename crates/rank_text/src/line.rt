@@ -18,7 +18,11 @@ pub fn count_line(line: &mut String, word: &str, count: u32) -> Result<(), Alloc
 
 /// The end of a leaf that names a network.
 pub fn named_line(line: &mut String, network: u32, scaled: &Scaled) -> Result<(), AllocError>
-    ensures { OnOk result (string_bytes line.new ≡ joined 32 (named_word ∷ decimal network ∷ signed_decimal scaled.now.d ∷ map signed_decimal scaled.now.ys)) }
+    ensures { OnOk result
+        (string_bytes line.new
+        ≡ joined 32
+        (named_word ∷ decimal network ∷ signed_decimal scaled.now.d
+        ∷ map signed_decimal scaled.now.ys)) }
 {
     begin(line, "named")?;
     push_count(line, network)?;

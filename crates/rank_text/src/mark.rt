@@ -22,8 +22,11 @@ fn scaled_fields(
     problem: &Problem,
     fields: Option<&[u8]>,
 ) -> Result<Scaled, LineFault>
-    ensures ok { IfOk result (λ s. one_and_more rules.number_of rules.number_of (tokens_in fields.entry) ≡ Ok (s.d, s.ys)) }
-    ensures fault { IfErr result (TellsLine (one_and_more rules.number_of rules.number_of (tokens_in fields.entry))) }
+    ensures ok { IfOk result
+        (λ s. one_and_more rules.number_of rules.number_of (tokens_in fields.entry)
+        ≡ Ok (s.d, s.ys)) }
+    ensures fault { IfErr result
+        (TellsLine (one_and_more rules.number_of rules.number_of (tokens_in fields.entry))) }
 {
     let parts = LineParts {
         formed: true,
@@ -45,8 +48,13 @@ fn named_fields(
     network: Result<u32, TreeKind>,
     behind: Option<&[u8]>,
 ) -> Result<Mark, LineFault>
-    ensures ok { IfOk result (λ m. mark_with network (one_and_more rules.number_of rules.number_of (tokens_in behind.entry)) ≡ Ok (mark_of m)) }
-    ensures fault { IfErr result (TellsLine (mark_with network (one_and_more rules.number_of rules.number_of (tokens_in behind.entry)))) }
+    ensures ok { IfOk result
+        (λ m. mark_with network
+        (one_and_more rules.number_of rules.number_of (tokens_in behind.entry)) ≡ Ok (mark_of m)) }
+    ensures fault { IfErr result
+        (TellsLine
+        (mark_with network
+        (one_and_more rules.number_of rules.number_of (tokens_in behind.entry)))) }
 {
     match (network, scaled_fields(alloc, problem, behind)) {
         (_, Err(LineFault::Memory)) => Err(LineFault::Memory),

@@ -25,12 +25,15 @@ pub fn read_networks(
 ) -> Result<(Vec<Network>, Cut), TreeFault>
     requires cut { IsCut bytes.now cut }
     requires few { length bytes.now < 2 ^ 32 - 1 }
-    ensures ok { IfOk result (λ found. networks_taken problem.now count cut.line (lines_at bytes.now cut) ≡ Ok (taken found.0.items bytes.now found.1)) }
+    ensures ok { IfOk result
+        (λ found. networks_taken problem.now count cut.line (lines_at bytes.now cut)
+        ≡ Ok (taken found.0.items bytes.now found.1)) }
     ensures later { IfOk result (λ found. cut.line ≤ found.1.line) }
     ensures reached { IfOk result (λ found. IsReached bytes.now cut found.1) }
     ensures count { IfOk result (λ found. length found.0.items ≡ count) }
     ensures known { IfOk result (λ found. Each (KnowsNetwork problem.now) found.0.items) }
-    ensures fault { IfErr result (Tells (networks_taken problem.now count cut.line (lines_at bytes.now cut))) }
+    ensures fault { IfErr result
+        (Tells (networks_taken problem.now count cut.line (lines_at bytes.now cut))) }
 {
     problem.is_valid();
     networks_are_taken();

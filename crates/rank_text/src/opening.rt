@@ -1,9 +1,14 @@
 //! A tree text made of the lines of a ranked tree and its tail, which claims nothing.
-ghost use Rattle.std.specs.Prelude.{◌≡◌, ◌≤◌, ◌<◌, ◌-◌, ◌^◌, ◌++◌, ◌∷◌, [], Ok, IfOk, OnOk, length, map};
+ghost use Rattle.std.specs.Prelude.{◌≡◌, ◌≤◌, ◌<◌, ◌-◌, ◌^◌, ◌++◌, ◌∷◌, [], Ok, IfOk};
+ghost use Rattle.std.specs.Prelude.{OnOk};
+ghost use Rattle.std.specs.Prelude.{length};
+ghost use Rattle.std.specs.Prelude.{map};
 ghost use Rattle.tree_reading.specs.View.{line_of};
 ghost use Rattle.tree_reading.specs.Place.{IsCut, lines_at};
 ghost use Rattle.ranked_tree.specs.View.{mark_of};
-ghost use Rattle.rank_rules.specs.Opened.{begins_by, opened, unknown_line, line_bytes, marks_taken, so_far};
+ghost use Rattle.rank_rules.specs.Opened.{begins_by, opened, unknown_line, line_bytes};
+ghost use Rattle.rank_rules.specs.Opened.{marks_taken};
+ghost use Rattle.rank_rules.specs.Opened.{so_far};
 ghost use Rattle.rank_rules.specs.Spelling.{named_word};
 ghost use Rattle.rank_text.specs.Takes.{TakesMark};
 
@@ -30,7 +35,8 @@ pub struct OpenText {
 // Appends the bytes of the line, or those of `open` in its place.
 fn push_opened(bytes: &mut Vec<u8>, line: &Line, is_named: bool) -> Result<(), AllocError>
     requires { is_named ≡ begins_by named_word (line_of line.now) }
-    ensures { OnOk result (bytes.new.items ≡ bytes.old.items ++ line_bytes (opened (line_of line.now))) }
+    ensures { OnOk result
+        (bytes.new.items ≡ bytes.old.items ++ line_bytes (opened (line_of line.now))) }
 {
     if is_named {
         bytes.extend_from_slice(b"open")?;
@@ -55,7 +61,9 @@ fn take_mark(
     is_named: bool,
 ) -> Result<Option<(u32, TreeKind)>, AllocError>
     requires { is_named ≡ begins_by named_word (line_of line.now) }
-    ensures { IfOk result (TakesMark (map mark_of marks.old.items) fault number (line_of line.now) (map mark_of marks.new.items)) }
+    ensures { IfOk result
+        (TakesMark (map mark_of marks.old.items) fault number (line_of line.now)
+        (map mark_of marks.new.items)) }
 {
     match fault {
         Some(found) => Ok(Some(found)),
@@ -88,10 +96,14 @@ pub fn open_lines(
 ) -> Result<OpenText, AllocError>
     requires cut { IsCut bytes.now cut }
     requires few { length bytes.now < 2 ^ 32 - 1 }
-    ensures lines { IfOk result (λ t. lines_at t.bytes.items cut ≡ unknown_line ∷ map opened (lines_at bytes.now cut)) }
+    ensures lines { IfOk result
+        (λ t. lines_at t.bytes.items cut ≡ unknown_line
+        ∷ map opened (lines_at bytes.now cut)) }
     ensures some { IfOk result (λ t. cut.at ≤ length t.bytes.items) }
     ensures few { IfOk result (λ t. length t.bytes.items < 2 ^ 32 - 1) }
-    ensures marks { IfOk result (λ t. so_far (map mark_of t.marks.items) t.fault (Ok []) ≡ marks_taken cut.line (lines_at bytes.now cut)) }
+    ensures marks { IfOk result
+        (λ t. so_far (map mark_of t.marks.items) t.fault (Ok [])
+        ≡ marks_taken cut.line (lines_at bytes.now cut)) }
 {
     let mut opened = bytes[..cut.at].to_vec(alloc)?;
     opened.extend_from_slice(b"unknown\n")?;

@@ -6,11 +6,13 @@ ghost use Rattle.branch_tree.specs.View.{end_of};
 ghost use Rattle.tree_rules.specs.Tree.{leaf};
 ghost use Rattle.tree_text_rules.specs.Spelling as trees;
 ghost use Rattle.tree_text.specs.Prints.{Prints};
-ghost use Rattle.rank_rules.specs.Marked.{marked, marked_node, marked_end, marked_leaf, marks_behind};
+ghost use Rattle.rank_rules.specs.Marked.{marked, marked_node, marked_end, marked_leaf};
+ghost use Rattle.rank_rules.specs.Marked.{marks_behind};
 ghost use Rattle.ranked_tree.specs.View.{mark_of};
 ghost use Rattle.ranked_tree.specs.Known.{KnowsNetwork};
 ghost use Rattle.rank_text.specs.Known.{KnowsText};
-ghost use Rattle.rank_rules.specs.Spelling.{count_word, networks_word, file_type, end_line, node_lines, tree_lines, rank_text_lines};
+ghost use Rattle.rank_rules.specs.Spelling.{count_word, networks_word, file_type, end_line};
+ghost use Rattle.rank_rules.specs.Spelling.{node_lines, tree_lines, rank_text_lines};
 
 use crate::line::{count_line, named_line};
 use branch_tree::{End, Network, TreeNode};
@@ -21,7 +23,8 @@ use std::alloc::Global;
 use tree_text::{PrintFault, begin, print_end, print_head, print_network, print_tail, put_line};
 
 fn put_count<K: Sink>(alloc: Global, word: &str, count: u32, out: &mut K) -> Result<(), PrintFault>
-    ensures prints { Prints ((word.now ∷ decimal count ∷ []) ∷ []) (K.state out.old) (K.state out.new) result }
+    ensures prints { Prints ((word.now ∷ decimal count ∷ []) ∷ []) (K.state out.old)
+        (K.state out.new) result }
     ensures later { (K.state out.old).faults ≤ (K.state out.new).faults }
 {
     let mut line = String::new(alloc);
@@ -31,7 +34,10 @@ fn put_count<K: Sink>(alloc: Global, word: &str, count: u32, out: &mut K) -> Res
 
 // The first three lines.
 fn put_front<K: Sink>(alloc: Global, text: &RankText, out: &mut K) -> Result<(), PrintFault>
-    ensures prints { Prints ((file_type ∷ []) ∷ (count_word ∷ decimal text.now.count ∷ []) ∷ (networks_word ∷ decimal (length text.now.networks) ∷ []) ∷ []) (K.state out.old) (K.state out.new) result }
+    ensures prints { Prints
+        ((file_type ∷ []) ∷ (count_word ∷ decimal text.now.count ∷ [])
+        ∷ (networks_word ∷ decimal (length text.now.networks) ∷ []) ∷ []) (K.state out.old)
+        (K.state out.new) result }
     ensures later { (K.state out.old).faults ≤ (K.state out.new).faults }
 {
     text.is_counted();
@@ -49,7 +55,8 @@ fn put_networks<K: Sink>(
     out: &mut K,
 ) -> Result<(), PrintFault>
     requires known { Each (KnowsNetwork problem.now) networks.now }
-    ensures prints { Prints (flat_map (trees.network_lines problem.now) networks.now) (K.state out.old) (K.state out.new) result }
+    ensures prints { Prints (flat_map (trees.network_lines problem.now) networks.now)
+        (K.state out.old) (K.state out.new) result }
     ensures later { (K.state out.old).faults ≤ (K.state out.new).faults }
 {
     'printing: for network in networks {
@@ -65,7 +72,8 @@ fn put_mark<K: Sink>(
     mark: &Mark,
     out: &mut K,
 ) -> Result<(), PrintFault>
-    ensures prints { Prints (end_line problem.now (leaf (marked_leaf (mark_of mark.now))) ∷ []) (K.state out.old) (K.state out.new) result }
+    ensures prints { Prints (end_line problem.now (leaf (marked_leaf (mark_of mark.now))) ∷ [])
+        (K.state out.old) (K.state out.new) result }
     ensures later { (K.state out.old).faults ≤ (K.state out.new).faults }
 {
     match mark {
@@ -88,7 +96,9 @@ fn put_end<K: Sink>(
     out: &mut K,
 ) -> Result<(), PrintFault>
     requires known { KnowsEnd problem.now (end_of end.now) }
-    ensures prints { Prints (end_line problem.now (marked_end (map mark_of marks.now) (end_of end.now)) ∷ []) (K.state out.old) (K.state out.new) result }
+    ensures prints { Prints
+        (end_line problem.now (marked_end (map mark_of marks.now) (end_of end.now)) ∷ [])
+        (K.state out.old) (K.state out.new) result }
     ensures later { (K.state out.old).faults ≤ (K.state out.new).faults }
 {
     match end {
@@ -108,7 +118,8 @@ fn put_node<K: Sink>(
     out: &mut K,
 ) -> Result<(), PrintFault>
     requires known { KnowsNode problem.now node.now }
-    ensures prints { Prints (node_lines problem.now (marked_node (map mark_of marks.now) node.now)) (K.state out.old) (K.state out.new) result }
+    ensures prints { Prints (node_lines problem.now (marked_node (map mark_of marks.now) node.now))
+        (K.state out.old) (K.state out.new) result }
     ensures later { (K.state out.old).faults ≤ (K.state out.new).faults }
 {
     print_head(alloc, problem, node.option, node.steps.steps(), out)?;
@@ -136,7 +147,8 @@ fn put_nodes<K: Sink>(
     out: &mut K,
 ) -> Result<(), PrintFault>
     requires known { KnowsTree problem.now nodes.now }
-    ensures prints { Prints (tree_lines problem.now (marked (map mark_of marks.now) nodes.now)) (K.state out.old) (K.state out.new) result }
+    ensures prints { Prints (tree_lines problem.now (marked (map mark_of marks.now) nodes.now))
+        (K.state out.old) (K.state out.new) result }
     ensures later { (K.state out.old).faults ≤ (K.state out.new).faults }
 {
     let mut rest = marks;
@@ -157,7 +169,8 @@ pub fn print_rank<K: Sink>(
     out: &mut K,
 ) -> Result<(), PrintFault>
     requires known { KnowsText problem.now text.now }
-    ensures prints { Prints (rank_text_lines problem.now text.now) (K.state out.old) (K.state out.new) result }
+    ensures prints { Prints (rank_text_lines problem.now text.now) (K.state out.old)
+        (K.state out.new) result }
     ensures later { (K.state out.old).faults ≤ (K.state out.new).faults }
 {
     put_front(alloc, text, out)?;

@@ -1,5 +1,6 @@
 //! Whole texts.
-ghost use Rattle.std.specs.Prelude.{◌≡◌, ◌≤◌, ◌<◌, ◌-◌, ◌^◌, Ok, IfOk, IfErr, IfSome, IfNone, length};
+ghost use Rattle.std.specs.Prelude.{◌≡◌, ◌≤◌, ◌<◌, ◌-◌, ◌^◌, Ok, IfOk, IfErr, IfSome, IfNone};
+ghost use Rattle.std.specs.Prelude.{length};
 ghost use Rattle.problem_rules.specs.Each.{Each};
 ghost use Rattle.tree_reading.specs.Place.{IsCut, lines_at};
 ghost use Rattle.text_lines.specs.Tells.{Tells};
@@ -46,10 +47,14 @@ fn read_behind(
     requires asked { 1 ≤ count }
     requires within { length networks.items ≤ count }
     requires known { Each (KnowsNetwork problem.now) networks.items }
-    ensures read { IfOk result (λ t. behind_networks problem.now count networks.items cut.line (lines_at bytes.now cut) ≡ Ok t) }
+    ensures read { IfOk result
+        (λ t. behind_networks problem.now count networks.items cut.line (lines_at bytes.now cut)
+        ≡ Ok t) }
     ensures few { IfOk result (λ t. length t.tree < 2 ^ 32) }
     ensures known { IfOk result (KnowsText problem.now) }
-    ensures fault { IfErr result (Tells (behind_networks problem.now count networks.items cut.line (lines_at bytes.now cut))) }
+    ensures fault { IfErr result
+        (Tells
+        (behind_networks problem.now count networks.items cut.line (lines_at bytes.now cut))) }
 {
     problem.is_valid();
     trees_are_taken();
@@ -88,10 +93,12 @@ fn read_listed(
     requires few { length bytes.now < 2 ^ 32 - 1 }
     requires numbered { 1 ≤ cut.line }
     requires asked { 1 ≤ count }
-    ensures read { IfOk result (λ t. listed_taken problem.now count cut.line (lines_at bytes.now cut) ≡ Ok t) }
+    ensures read { IfOk result
+        (λ t. listed_taken problem.now count cut.line (lines_at bytes.now cut) ≡ Ok t) }
     ensures few { IfOk result (λ t. length t.tree < 2 ^ 32) }
     ensures known { IfOk result (KnowsText problem.now) }
-    ensures fault { IfErr result (Tells (listed_taken problem.now count cut.line (lines_at bytes.now cut))) }
+    ensures fault { IfErr result
+        (Tells (listed_taken problem.now count cut.line (lines_at bytes.now cut))) }
 {
     let Some((line, first)) = line_at(bytes, cut) else {
         return Err(kind_at(cut, TreeKind::BadLine));
@@ -114,10 +121,12 @@ fn read_counted(
 ) -> Result<RankText, TreeFault>
     requires cut { IsCut bytes.now cut }
     requires few { length bytes.now < 2 ^ 32 - 1 }
-    ensures read { IfOk result (λ t. rest_taken problem.now cut.line (lines_at bytes.now cut) ≡ Ok t) }
+    ensures read { IfOk result
+        (λ t. rest_taken problem.now cut.line (lines_at bytes.now cut) ≡ Ok t) }
     ensures few { IfOk result (λ t. length t.tree < 2 ^ 32) }
     ensures known { IfOk result (KnowsText problem.now) }
-    ensures fault { IfErr result (Tells (rest_taken problem.now cut.line (lines_at bytes.now cut))) }
+    ensures fault { IfErr result
+        (Tells (rest_taken problem.now cut.line (lines_at bytes.now cut))) }
 {
     let Some((line, behind)) = line_at(bytes, cut) else {
         return Err(kind_at(cut, TreeKind::BadLine));

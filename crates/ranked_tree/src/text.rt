@@ -29,7 +29,14 @@ impl Model for RankText {
 
     ghost Value = { specs.Text };
 
-    ghost view = { λ t. record { count = t.count; networks = t.networks.items; tree = t.tree; marks = map mark_of t.marks.items; tail = tail_of t.tail } };
+    ghost view = { λ t. record {
+      count = t.count;
+      networks = t.networks.items;
+      tree =
+          t.tree;
+      marks = map mark_of t.marks.items;
+      tail = tail_of t.tail;
+    } };
 
     ghost invariant = { λ t. specs.IsCounted t.count t.networks.items (map mark_of t.marks.items) };
 }
@@ -44,7 +51,15 @@ impl RankText {
         tail: Tail,
     ) -> RankText
         requires { IsCounted count networks.items (map mark_of marks.items) }
-        ensures { result ≡ record { count = count; networks = networks.items; tree = tree; marks = map mark_of marks.items; tail = tail_of tail } }
+        ensures { result
+            ≡ record {
+              count = count;
+              networks = networks.items;
+              tree = tree;
+              marks =
+                  map mark_of marks.items;
+              tail = tail_of tail;
+            } }
     {
         RankText {
             count,

@@ -11,9 +11,16 @@ use Rattle.flow_rules.specs.FeasibleSteps.{units_at, balance_steps}
 use Rattle.tree_rules.specs.Claim.{Network, IsFeasible, size_in}
 use Rattle.pns_tables.proofs.FlowLemmas.{material_in_range}
 
-pub material_known : (p : Problem) (w : Network) (j : ℕ) → has (materials_of (net_of p) (has w.units)) j ≡ true → j < length p.materials
-material_known p w j h = has_below (length p.materials) (materials_of (net_of p) (has w.units)) j (AreBelow-listed (length p.materials) (mats (shape_of p) (has w.units))) h
+pub material_known : (p : Problem) (w : Network) (j : ℕ)
+    → has (materials_of (net_of p) (has w.units)) j ≡ true → j < length p.materials
+material_known p w j h =
+    has_below (length p.materials) (materials_of (net_of p) (has w.units)) j
+    (AreBelow-listed (length p.materials) (mats (shape_of p) (has w.units))) h
 
-pub steps_in_range : (p : Problem) (w : Network) (j : ℕ) → IsFeasible p w → has (materials_of (net_of p) (has w.units)) j ≡ true
-    → AreInRange (balance_steps (net_of p) (size_in w) j (units_at (net_of p) (has w.units) j) (pos 0))
-steps_in_range p w j f h = material_in_range (net_of p) (has w.units) (size_in w) (materials_of (net_of p) (has w.units)) j f.balances h
+pub steps_in_range : (p : Problem) (w : Network) (j : ℕ) → IsFeasible p w
+    → has (materials_of (net_of p) (has w.units)) j ≡ true
+    → AreInRange
+    (balance_steps (net_of p) (size_in w) j (units_at (net_of p) (has w.units) j) (pos 0))
+steps_in_range p w j f h =
+    material_in_range (net_of p) (has w.units) (size_in w) (materials_of (net_of p) (has w.units)) j
+    f.balances h

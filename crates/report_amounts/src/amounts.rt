@@ -5,7 +5,9 @@ ghost use Rattle.number_sets.specs.Sets.{has};
 ghost use Rattle.problem_rules.specs.Problem.{unit_at};
 ghost use Rattle.flow_rules.specs.Net.{million};
 ghost use Rattle.report_rules.specs.Number.{sum_of};
-ghost use Rattle.report_rules.specs.Amounts.{quotient, sized, size, fixed, proportional, once, investment, unit_total, made_rate, used_rate, made_by, used_by, amount, unit_sum};
+ghost use Rattle.report_rules.specs.Amounts.{quotient, sized, size, fixed, proportional, once};
+ghost use Rattle.report_rules.specs.Amounts.{investment, unit_total, made_rate, used_rate, made_by};
+ghost use Rattle.report_rules.specs.Amounts.{used_by, amount, unit_sum};
 
 use crate::number::Number;
 use branch_tree::Network;

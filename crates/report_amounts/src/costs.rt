@@ -27,7 +27,8 @@ pub fn material_of(problem: &Problem, j: u32) -> &Material
 pub fn flow_at(problem: &Problem, network: &Network, j: u32) -> i128
     requires feasible { IsFeasible problem.now network.now }
     requires material { has (materials_of (net_of problem.now) (has network.now.units)) j ≡ true }
-    ensures value { result ≡ balance (net_of problem.now) (has network.now.units) (size_in network.now) j }
+    ensures value { result ≡ balance (net_of problem.now) (has network.now.units)
+        (size_in network.now) j }
     ensures in_range { InRange result }
 {
     flow_of(problem, network, j)

@@ -1,7 +1,10 @@
 //! Fractions, or none if a number overflows.
-ghost use Rattle.std.specs.Prelude.{◌≡◌, ◌++◌, ◌∷◌, [], ◌<ℤ◌, ◌*ℤ◌, ◌≤◌, ◌^◌, ◌*◌, ◌+◌, ◌/◌, ◌%◌, None, Some, pos, decimal, OnOk, option_map, string_bytes};
+ghost use Rattle.std.specs.Prelude.{◌≡◌, ◌++◌, ◌∷◌, [], ◌<ℤ◌, ◌*ℤ◌, ◌≤◌, ◌^◌, ◌*◌, ◌+◌, ◌/◌, ◌%◌};
+ghost use Rattle.std.specs.Prelude.{None, Some, pos, decimal, OnOk, option_map, string_bytes};
 ghost use Rattle.integer_laws.specs.Range.{InRange};
-ghost use Rattle.report_rules.specs.Number.{of, nothing, lowest, kept, times, plus, above, below, half_of, doubled_text, number_with, places_of, number_text, thousandths_text, share_text};
+ghost use Rattle.report_rules.specs.Number.{of, nothing, lowest, kept, times, plus, above, below};
+ghost use Rattle.report_rules.specs.Number.{half_of, doubled_text, number_with, places_of};
+ghost use Rattle.report_rules.specs.Number.{number_text, thousandths_text, share_text};
 
 use decimals::{places_behind, push_signed, scale_of};
 use frac128::Frac;
@@ -104,7 +107,8 @@ impl Number {
 
     fn push_doubled(&self, text: &mut String, places: u32, scale: u64) -> Result<(), AllocError>
         requires { scale ≡ 10 ^ places }
-        ensures { OnOk result (string_bytes text.new ≡ string_bytes text.old ++ doubled_text places self.now) }
+        ensures { OnOk result
+            (string_bytes text.new ≡ string_bytes text.old ++ doubled_text places self.now) }
     {
         match self.fraction {
             None => text.push_str("past"),
@@ -116,7 +120,8 @@ impl Number {
     /// 10^places.
     fn push_with(&self, text: &mut String, places: u32, scale: u64) -> Result<(), AllocError>
         requires { scale ≡ 10 ^ places }
-        ensures { OnOk result (string_bytes text.new ≡ string_bytes text.old ++ number_with places self.now) }
+        ensures { OnOk result
+            (string_bytes text.new ≡ string_bytes text.old ++ number_with places self.now) }
     {
         let doubled = self.times(&Number::of(2 * i128::from(scale), 1));
         doubled.push_doubled(text, places, scale)
@@ -124,7 +129,8 @@ impl Number {
 
     /// Appends the number with six digits if it has more, or `past` if there is none.
     pub fn push(&self, text: &mut String) -> Result<(), AllocError>
-        ensures { OnOk result (string_bytes text.new ≡ string_bytes text.old ++ number_text self.now) }
+        ensures { OnOk result
+            (string_bytes text.new ≡ string_bytes text.old ++ number_text self.now) }
     {
         match self.fraction {
             None => text.push_str("past"),
@@ -136,7 +142,8 @@ impl Number {
     }
 
     fn push_thousandths(&self, text: &mut String) -> Result<(), AllocError>
-        ensures { OnOk result (string_bytes text.new ≡ string_bytes text.old ++ thousandths_text self.now) }
+        ensures { OnOk result
+            (string_bytes text.new ≡ string_bytes text.old ++ thousandths_text self.now) }
     {
         match self.fraction {
             None => text.push_str("past"),
@@ -146,7 +153,8 @@ impl Number {
 
     /// Appends the share in per cent, or `past` if there is none.
     pub fn push_share(&self, text: &mut String) -> Result<(), AllocError>
-        ensures { OnOk result (string_bytes text.new ≡ string_bytes text.old ++ share_text self.now) }
+        ensures { OnOk result
+            (string_bytes text.new ≡ string_bytes text.old ++ share_text self.now) }
     {
         let doubled = self.times(&Number::of(2000, 1));
         doubled.push_thousandths(text)
@@ -154,7 +162,8 @@ impl Number {
 }
 
 fn product(left: &Frac, right: &Frac) -> Number
-    ensures { result ≡ kept (lowest (left.now.num *ℤ right.now.num) (left.now.den *ℤ right.now.den)) }
+    ensures { result
+        ≡ kept (lowest (left.now.num *ℤ right.now.num) (left.now.den *ℤ right.now.den)) }
 {
     match left.mul(right) {
         Ok(product) => Number {
@@ -165,7 +174,8 @@ fn product(left: &Frac, right: &Frac) -> Number
 }
 
 fn sum(left: &Frac, right: &Frac) -> Number
-    ensures { result ≡ plus (Some (record { num = left.now.num; den = left.now.den })) (Some (record { num = right.now.num; den = right.now.den })) }
+    ensures { result ≡ plus (Some (record { num = left.now.num; den = left.now.den }))
+        (Some (record { num = right.now.num; den = right.now.den })) }
 {
     match left.add(right) {
         Ok(sum) => Number {
@@ -223,7 +233,9 @@ fn push_fraction(
     fraction: &Frac,
 ) -> Result<(), AllocError>
     requires { scale ≡ 10 ^ places }
-    ensures { OnOk result (string_bytes text.new ≡ string_bytes text.old ++ doubled_text places (Some (record { num = fraction.now.num; den = fraction.now.den }))) }
+    ensures { OnOk result
+        (string_bytes text.new ≡ string_bytes text.old
+        ++ doubled_text places (Some (record { num = fraction.now.num; den = fraction.now.den }))) }
 {
     let negative = fraction.num() < 0;
     push_signed(text, places, scale, negative, half_of(fraction))
@@ -231,7 +243,9 @@ fn push_fraction(
 
 /// Tenths with their one place.
 fn push_tenths(text: &mut String, tenths: u128) -> Result<(), AllocError>
-    ensures { OnOk result (string_bytes text.new ≡ string_bytes text.old ++ (decimal (tenths / 10) ++ 46 ∷ (48 + tenths % 10) ∷ [])) }
+    ensures { OnOk result
+        (string_bytes text.new ≡ string_bytes text.old
+        ++ (decimal (tenths / 10) ++ 46 ∷ (48 + tenths % 10) ∷ [])) }
 {
     let whole = tenths / 10;
     let rest = (tenths % 10) as u8;

@@ -1,8 +1,10 @@
--- Rows of cells as lines whose columns stand under each other. A column of words stands to the left. In a column of numbers the points
--- stand under each other: what stands before a point is as wide as the widest such text of the column, and so is what stands from the
--- point on, and all is as wide as the heading at least. Columns are parted by two spaces, and no line ends with a space. A column that
--- tells nothing is left out.
-use Rattle.std.specs.Prelude.{ℕ, ◌+◌, ◌-◌, ◌==◌, ◌&&◌, ◌||◌, not, nat_lt, Bool, true, false, List, [], ◌∷◌, ◌++◌, map, length, replicate, slice_index_or, if◌then◌else◌}
+-- Rows of cells as lines with aligned columns. A column of words is aligned to the left. In a
+-- column of numbers all points are below each other: what is before a point is as wide as the
+-- widest such text of the column, and so is what is from the point on; the whole is at least as
+-- wide as the heading. Columns are separated by two spaces, and no line ends with a space. A column
+-- with nothing but 0, `-` and empty cells is left out, but for columns of sums.
+use Rattle.std.specs.Prelude.{ℕ, ◌+◌, ◌-◌, ◌==◌, ◌&&◌, ◌||◌, not, nat_lt, Bool, true, false, List}
+use Rattle.std.specs.Prelude.{[], ◌∷◌, ◌++◌, map, length, replicate, slice_index_or, if◌then◌else◌}
 use Rattle.std.specs.List.{position_or_len}
 use Rattle.report_rules.specs.declared.column.Sort.{Sort}
 use Rattle.report_rules.specs.declared.column.Sort.TheVariants.{Words, Numbers, Sums}
@@ -12,11 +14,11 @@ use Rattle.report_rules.specs.declared.column.Measure.TheVariants.{Whole, Front,
 abbrev pub spaces : ℕ → List ℕ
 spaces n = replicate n 32
 
--- a cell of a row, empty where it has none there
+-- a cell of a row, which is empty if the row has none there
 abbrev pub cell_at : ℕ → List (List ℕ) → List ℕ
 cell_at k row = slice_index_or row k []
 
--- how much stands before the point
+-- the length of the text before the point
 abbrev pub front_of : List ℕ → ℕ
 front_of cell = position_or_len (λ c. c == 46) cell
 
@@ -28,7 +30,7 @@ measured Back cell = length cell - front_of cell
 abbrev pub greater : ℕ → ℕ → ℕ
 greater m n = if nat_lt m n then n else m
 
--- the greatest measure of the cells in column k, n at least
+-- the greatest measure of the cells in column k, at least n
 abbrev pub widest : Measure → ℕ → ℕ → List (List (List ℕ)) → ℕ
 widest m k n [] = n
 widest m k n (row ∷ rows) = widest m k (greater n (measured m (cell_at k row))) rows
@@ -36,18 +38,19 @@ widest m k n (row ∷ rows) = widest m k (greater n (measured m (cell_at k row))
 abbrev pub is_nothing : ℕ → Bool
 is_nothing c = c == 48 || (c == 45 || c == 46)
 
--- a cell of 0, of `-`, or of nothing: it has no other bytes than `0`, `-` and the point
+-- whether a cell shows nothing but 0, `-` or nothing: it has no other bytes than `0`, `-` and the
+-- point
 abbrev pub tells_nothing : List ℕ → Bool
 tells_nothing [] = true
 tells_nothing (c ∷ cs) = is_nothing c && tells_nothing cs
 
--- so are all cells in column k
+-- whether this is so for all cells in column k
 abbrev pub all_tell_nothing : ℕ → List (List (List ℕ)) → Bool
 all_tell_nothing k [] = true
 all_tell_nothing k (row ∷ rows) = tells_nothing (cell_at k row) && all_tell_nothing k rows
 
--- What stands in a column and how wide it is: before the point, from the point on, and what is left of the heading's width; and whether
--- the column is kept. A column of words is all before the point.
+-- The sort of a column, how wide it is before the point and from the point on, how much wider its
+-- heading is, and whether it is kept. A column of words is all before the point.
 pub record Column : Type 0 where
   pub sort : Sort
   pub front : ℕ
@@ -77,44 +80,52 @@ column_at Sums k heading rows = numbers_at Sums k heading rows true
 
 abbrev pub columns_from : ℕ → List Sort → List (List ℕ) → List (List (List ℕ)) → List Column
 columns_from k [] heading rows = []
-columns_from k (s ∷ ss) heading rows = column_at s k heading rows ∷ columns_from (k + 1) ss heading rows
+columns_from k (s ∷ ss) heading rows =
+    column_at s k heading rows ∷ columns_from (k + 1) ss heading rows
 
 abbrev pub by_sort : {A : Type 0} → Sort → A → A → A
 by_sort Words x y = x
 by_sort Numbers x y = y
 by_sort Sums x y = y
 
--- the spaces before a number or its heading, which stands to the right, and those behind a word, its heading or a number
+-- the spaces before a number or its heading, which are aligned to the right, and those after a
+-- word, its heading or a number
 abbrev pub before : Bool → Column → List ℕ → List ℕ
-before true c cell = by_sort c.sort [] (spaces (c.front - length cell) ++ spaces (c.back - (length cell - c.front)))
+before true c cell =
+    by_sort c.sort [] (spaces (c.front - length cell) ++ spaces (c.back - (length cell - c.front)))
 before false c cell = by_sort c.sort [] (spaces c.room ++ spaces (c.front - front_of cell))
 
 abbrev pub behind : Bool → Column → List ℕ → List ℕ
 behind true c cell = by_sort c.sort (spaces (c.front - length cell)) []
-behind false c cell = by_sort c.sort (spaces (c.front - length cell)) (spaces (c.back - (length cell - front_of cell)))
+behind false c cell =
+    by_sort c.sort (spaces (c.front - length cell))
+    (spaces (c.back - (length cell - front_of cell)))
 
--- a cell behind its gap; of an empty cell nothing is written, and the gap stays
+-- a cell after its gap; for an empty cell nothing is written, and the gap stays
 abbrev pub shown : List ℕ → List ℕ → List ℕ
 shown gap cell = if length cell == 0 then [] else gap ++ cell
 
 abbrev pub gap_left : List ℕ → List ℕ → List ℕ
 gap_left gap cell = if length cell == 0 then gap else []
 
--- a cell of a column, as a heading or not, behind a gap; and the gap behind it
+-- a cell of a column, as a heading or not, after a gap; and the gap after it
 abbrev pub cell_text : Bool → Column → List ℕ → List ℕ → List ℕ
 cell_text heading c gap cell = if c.kept then shown (gap ++ before heading c cell) cell else []
 
 abbrev pub gap_behind : Bool → Column → List ℕ → List ℕ → List ℕ
 gap_behind heading c gap cell =
-    if c.kept then gap_left (gap ++ before heading c cell) cell ++ (behind heading c cell ++ 32 ∷ 32 ∷ []) else gap
+    if c.kept then gap_left (gap ++ before heading c cell) cell
+    ++ (behind heading c cell ++ 32 ∷ 32 ∷ []) else gap
 
--- the cells from column k on behind a gap
+-- the cells from column k on, after a gap
 abbrev pub line_text : Bool → ℕ → List ℕ → List Column → List (List ℕ) → List ℕ
 line_text heading k gap [] row = []
 line_text heading k gap (c ∷ cs) row =
-    cell_text heading c gap (cell_at k row) ++ line_text heading (k + 1) (gap_behind heading c gap (cell_at k row)) cs row
+    cell_text heading c gap (cell_at k row)
+    ++ line_text heading (k + 1) (gap_behind heading c gap (cell_at k row)) cs row
 
 -- a table: its headings and its rows
 abbrev pub table_lines : List Sort → List (List ℕ) → List (List (List ℕ)) → List (List ℕ)
 table_lines sorts heading rows =
-    line_text true 0 [] (columns_from 0 sorts heading rows) heading ∷ map (line_text false 0 [] (columns_from 0 sorts heading rows)) rows
+    line_text true 0 [] (columns_from 0 sorts heading rows) heading
+    ∷ map (line_text false 0 [] (columns_from 0 sorts heading rows)) rows

@@ -1,6 +1,7 @@
--- The numbers of a claimed network for one year, in money and in the units of the problem. Numbers of the problem are millionths, and the
--- size of a unit is its claimed number in millionths over d: so a product of both is in 10^-12 over d. Each number is one product of a
--- claimed number over d, or a sum of such products, formed before any rounding.
+-- The numbers of the network of a claim for one year, in money and in the units of the problem.
+-- Numbers of the problem are millionths. The size of a unit is its number in the claim over d, in
+-- millionths; so the product of both is in 10^-12 over d. Each number is one product of a number of
+-- the claim over d, or a sum of such products, formed before any rounding.
 use Rattle.std.specs.Prelude.{ℕ, List, ℤ, pos, neg_ℤ, int_lt, if◌then◌else◌}
 use Rattle.number_sets.specs.Sets.{has}
 use Rattle.problem_rules.specs.Problem.{Problem, unit_at, material_at, rate_of}
@@ -9,24 +10,26 @@ use Rattle.flow_rules.specs.Flows.{balance}
 use Rattle.tree_rules.specs.Claim.{Network, size_in}
 use Rattle.report_rules.specs.Number.{Number, of, times, plus, above, below, sum_of}
 use Rattle.report_rules.specs.declared.amount.UnitAmount.{UnitAmount}
-use Rattle.report_rules.specs.declared.amount.UnitAmount.TheVariants.{Fixed, Proportional, Investment, Total, Once, Made, Used}
+use Rattle.report_rules.specs.declared.amount.UnitAmount.TheVariants.{Fixed, Proportional}
+use Rattle.report_rules.specs.declared.amount.UnitAmount.TheVariants.{Investment, Total, Once, Made}
+use Rattle.report_rules.specs.declared.amount.UnitAmount.TheVariants.{Used}
 use Rattle.report_rules.specs.declared.cost_part.CostPart.{CostPart}
 use Rattle.report_rules.specs.declared.cost_part.CostPart.TheVariants.{All, Costs, Incomes}
 
--- the fraction of two numbers, the second above 0
+-- the fraction of two numbers, of which the second is above 0
 unfoldable pub quotient : ℤ → ℤ → Number
 quotient num den = of num den
 
 -- ---- of units
 
--- the claimed number of unit i over d, times a number over another
+-- the number of unit i in the claim over d, times a number over another
 abbrev pub sized : Network → ℕ → ℤ → ℤ → Number
 sized w i num den = times (quotient (size_in w i) w.d) (quotient num den)
 
 abbrev pub size : Network → ℕ → Number
 size w i = sized w i (pos 1) million
 
--- of its upper bound
+-- its size as a share of its upper bound
 abbrev pub share : Problem → Network → ℕ → Number
 share p w i = sized w i (pos 1) (unit_at p i).upper
 
@@ -36,9 +39,11 @@ fixed p i = quotient (unit_at p i).fix million
 abbrev pub proportional : Problem → Network → ℕ → Number
 proportional p w i = sized w i (unit_at p i).proportional trillion
 
--- the investment, paid once, and the part of one year of the payout period
+-- the investment, paid once; and its part for one year of the payout period
 abbrev pub once : Problem → Network → ℕ → Number
-once p w i = plus (quotient (unit_at p i).investment_fix million) (sized w i (unit_at p i).investment_proportional trillion)
+once p w i =
+    plus (quotient (unit_at p i).investment_fix million)
+    (sized w i (unit_at p i).investment_proportional trillion)
 
 abbrev pub investment : Problem → Network → ℕ → Number
 investment p w i = times (once p w i) (quotient (pos 1) p.payout)
@@ -46,8 +51,9 @@ investment p w i = times (once p w i) (quotient (pos 1) p.payout)
 abbrev pub unit_total : Problem → Network → ℕ → Number
 unit_total p w i = plus (plus (fixed p i) (proportional p w i)) (investment p w i)
 
--- What unit i makes of material j, and what it uses of it. It does one alone, so that its rate of the material, less that of the other
--- side, is the one rate where it is above 0, and turned the other where it is below 0.
+-- The rates at which unit i makes material j and at which it uses it. A unit does only one of the
+-- two. So the difference of the rates is the rate of making if it is not below 0, and else minus
+-- the rate of using.
 abbrev pub made_rate : ℤ → ℤ
 made_rate rate = if int_lt rate (pos 0) then pos 0 else rate
 
@@ -77,7 +83,8 @@ unit_sum what p w = sum_of (amount what p w) w.units
 
 -- what the network makes of material j less what it uses of it, times a number over another
 abbrev pub flowing : Problem → Network → ℕ → ℤ → ℤ → Number
-flowing p w j num den = times (quotient (balance (net_of p) (has w.units) (size_in w) j) w.d) (quotient num den)
+flowing p w j num den =
+    times (quotient (balance (net_of p) (has w.units) (size_in w) j) w.d) (quotient num den)
 
 abbrev pub net : Problem → Network → ℕ → Number
 net p w j = flowing p w j (pos 1) trillion
@@ -85,11 +92,11 @@ net p w j = flowing p w j (pos 1) trillion
 abbrev pub price : Problem → ℕ → Number
 price p j = quotient (material_at p j).price million
 
--- below 0 where what is left over is sold
+-- the cost of material j: below 0 if what is left over is sold
 abbrev pub cost : Problem → Network → ℕ → Number
 cost p w j = flowing p w j (neg_ℤ (material_at p j).price) (pos 1000000000000000000)
 
--- a cost itself, where it is above 0 alone, and where it is below 0 alone
+-- a cost, the cost if it is above 0, or the cost if it is below 0
 abbrev pub part_of : CostPart → Number → Number
 part_of All n = n
 part_of Costs n = above n

@@ -1,6 +1,8 @@
--- The report of a claimed network: a head, three tables and a foot, parted by empty lines. Numbers have six digits where they have
--- more; the whole part is never cut.
-use Rattle.std.specs.Prelude.{ℕ, ◌*◌, ◌&&◌, Bool, false, not, List, [], ◌∷◌, ◌++◌, map, flat_map, length, ℤ, pos, neg_ℤ, ◌*ℤ◌, cond, unsigned_abs, int_lt, codes, decimal, if◌then◌else◌}
+-- The report of the network of a claim: a head, three tables and a foot, separated by empty lines.
+-- Numbers have six digits if they have more; the whole part is never shortened.
+use Rattle.std.specs.Prelude.{ℕ, ◌*◌, ◌&&◌, Bool, false, not, List, [], ◌∷◌, ◌++◌, map, flat_map}
+use Rattle.std.specs.Prelude.{length, ℤ, pos, neg_ℤ, ◌*ℤ◌, cond, unsigned_abs, int_lt, codes}
+use Rattle.std.specs.Prelude.{decimal, if◌then◌else◌}
 use Rattle.std.specs.Ordering.{int_eq}
 use Rattle.number_sets.specs.Sets.{has, listed}
 use Rattle.problem_rules.specs.Problem.{Problem, unit_at, material_at, is_raw_material}
@@ -13,20 +15,23 @@ use Rattle.report_rules.specs.declared.column.Sort.{Sort}
 use Rattle.report_rules.specs.declared.column.Sort.TheVariants.{Words, Numbers, Sums}
 use Rattle.report_rules.specs.Aligned.{table_lines}
 use Rattle.report_rules.specs.Number.{Number, number_text, share_text}
-use Rattle.report_rules.specs.declared.amount.UnitAmount.TheVariants.{Fixed, Proportional, Investment, Total, Once, Made, Used}
+use Rattle.report_rules.specs.declared.amount.UnitAmount.TheVariants.{Fixed, Proportional}
+use Rattle.report_rules.specs.declared.amount.UnitAmount.TheVariants.{Investment, Total, Once, Made}
+use Rattle.report_rules.specs.declared.amount.UnitAmount.TheVariants.{Used}
 use Rattle.report_rules.specs.declared.cost_part.CostPart.TheVariants.{All, Costs, Incomes}
 use Rattle.report_rules.specs.Amounts.{size, share, amount, unit_sum, net, price, cost, cost_sum}
 
 -- ---- head
 
--- a count behind words
+-- words and then a count
 abbrev pub counted : List ℕ → ℕ → List ℕ
 counted words n = words ++ decimal n
 
 abbrev pub network_line : Problem → Network → List ℕ
 network_line p w =
     counted (codes "Claimed network: ") (length w.units) ++ (counted (codes " of ") (length p.units)
-    ++ (counted (codes " units, ") (length (materials_of (net_of p) (has w.units))) ++ (counted (codes " of ") (length p.materials)
+    ++ (counted (codes " units, ") (length (materials_of (net_of p) (has w.units)))
+    ++ (counted (codes " of ") (length p.materials)
     ++ counted (codes " materials, payout period ") (unsigned_abs p.payout))))
 
 abbrev pub head_lines : Problem → Network → List (List ℕ)
@@ -39,48 +44,59 @@ head_lines p w =
 unfoldable pub number_cell : Number → List ℕ
 number_cell n = number_text n
 
--- 1000000000 in millionths: a bound that stands for none
+-- 10^9 in millionths: a bound that means that there is no bound
 abbrev pub no_bound : ℤ
 no_bound = pos 1000000000000000
 
--- of the upper bound, where that is above 0 and a bound
+-- the share of the upper bound, if that is above 0 and means a bound
 abbrev pub share_cell : Problem → Network → ℕ → List ℕ
 share_cell p w i =
-    if int_lt (pos 0) (unit_at p i).upper && not (int_eq (unit_at p i).upper no_bound) then share_text (share p w i) else 45 ∷ []
+    if int_lt (pos 0) (unit_at p i).upper && not (int_eq (unit_at p i).upper no_bound)
+    then share_text (share p w i) else 45 ∷ []
 
--- where a number over d is at one of its bounds: both are one, or it is at the upper one, or at a lower one that is not 0; else whether it is idle
+-- At which of its bounds a number over d is: both are equal, or it is at the upper one, or at a
+-- lower one that is not 0; else whether it is idle.
 unfoldable pub idle_words : Bool → List ℕ
 idle_words idle = if idle then codes "idle" else codes "-"
 
 unfoldable pub least_words : Bool → ℤ → ℤ → ℤ → List ℕ
-least_words idle lower z d = if int_eq lower (pos 0) then idle_words idle else if int_eq z (lower *ℤ d) then codes "min" else idle_words idle
+least_words idle lower z d =
+    if int_eq lower (pos 0) then idle_words idle else if int_eq z (lower *ℤ d) then codes "min"
+    else idle_words idle
 
 unfoldable pub most_words : Bool → ℤ → ℤ → ℤ → ℤ → List ℕ
-most_words idle lower upper z d = if int_eq z (upper *ℤ d) then codes "max" else least_words idle lower z d
+most_words idle lower upper z d =
+    if int_eq z (upper *ℤ d) then codes "max" else least_words idle lower z d
 
 unfoldable pub limit_words : Bool → ℤ → ℤ → ℤ → ℤ → List ℕ
-limit_words idle lower upper z d = if int_eq lower upper then codes "fixed" else most_words idle lower upper z d
+limit_words idle lower upper z d =
+    if int_eq lower upper then codes "fixed" else most_words idle lower upper z d
 
--- the words, but where the number is as large as a bound that stands for none
+-- the words, unless the number is as large as a bound that means no bound
 unfoldable pub unbounded_or : ℤ → ℤ → ℤ → List ℕ → List ℕ
 unbounded_or none z d words = if int_eq z (none *ℤ d) then codes "UNBOUNDED?" else words
 
--- of a unit its size, of a material what is left over of it, or of a raw material what is bought
+-- of a unit the size counts, of a raw material what is bought, and of another material what is left
+-- over
 abbrev pub unit_limit : Problem → Network → ℕ → List ℕ
 unit_limit p w i =
     unbounded_or no_bound (size_in w i) w.d
-    (limit_words (int_eq (size_in w i) (pos 0)) (unit_at p i).lower (unit_at p i).upper (size_in w i) w.d)
+    (limit_words (int_eq (size_in w i) (pos 0)) (unit_at p i).lower (unit_at p i).upper
+    (size_in w i) w.d)
 
 abbrev pub bought_or_left : Bool → ℤ → ℤ
 bought_or_left raw z = if raw then neg_ℤ z else z
 
 abbrev pub turned_flow : Problem → Network → ℕ → ℤ
-turned_flow p w j = bought_or_left (is_raw_material (material_at p j).kind) (balance (net_of p) (has w.units) (size_in w) j)
+turned_flow p w j =
+    bought_or_left (is_raw_material (material_at p j).kind)
+    (balance (net_of p) (has w.units) (size_in w) j)
 
 abbrev pub material_limit : Problem → Network → ℕ → List ℕ
 material_limit p w j =
     unbounded_or (million *ℤ no_bound) (turned_flow p w j) w.d
-    (limit_words false (million *ℤ (material_at p j).lower) (million *ℤ (material_at p j).upper) (turned_flow p w j) w.d)
+    (limit_words false (million *ℤ (material_at p j).lower) (million *ℤ (material_at p j).upper)
+    (turned_flow p w j) w.d)
 
 -- the lines of a table and an empty one
 unfoldable pub table_and_gap : List Sort → List (List ℕ) → List (List (List ℕ)) → List (List ℕ)
@@ -89,20 +105,24 @@ table_and_gap sorts heading rows = table_lines sorts heading rows ++ [] ∷ []
 -- ---- units
 
 abbrev pub unit_heading : List (List ℕ)
-unit_heading = codes "unit" ∷ codes "size" ∷ codes "share %" ∷ codes "limit" ∷ codes "fixed" ∷ codes "proportional" ∷ codes "investment" ∷ codes "total" ∷ []
+unit_heading = codes "unit" ∷ codes "size" ∷ codes "share %" ∷ codes "limit" ∷ codes "fixed"
+    ∷ codes "proportional" ∷ codes "investment" ∷ codes "total" ∷ []
 
 abbrev pub unit_sorts : List Sort
 unit_sorts = Words ∷ Numbers ∷ Numbers ∷ Words ∷ Numbers ∷ Numbers ∷ Numbers ∷ Numbers ∷ []
 
 abbrev pub unit_row : Problem → Network → ℕ → List (List ℕ)
 unit_row p w i =
-    (unit_at p i).name ∷ number_cell (size w i) ∷ share_cell p w i ∷ unit_limit p w i ∷ number_cell (amount Fixed p w i)
-    ∷ number_cell (amount Proportional p w i) ∷ number_cell (amount Investment p w i) ∷ number_cell (amount Total p w i) ∷ []
+    (unit_at p i).name ∷ number_cell (size w i) ∷ share_cell p w i ∷ unit_limit p w i
+    ∷ number_cell (amount Fixed p w i)
+    ∷ number_cell (amount Proportional p w i) ∷ number_cell (amount Investment p w i)
+    ∷ number_cell (amount Total p w i) ∷ []
 
 abbrev pub all_units_row : Problem → Network → List (List ℕ)
 all_units_row p w =
     codes "all units" ∷ [] ∷ [] ∷ [] ∷ number_cell (unit_sum Fixed p w)
-    ∷ number_cell (unit_sum Proportional p w) ∷ number_cell (unit_sum Investment p w) ∷ number_cell (unit_sum Total p w) ∷ []
+    ∷ number_cell (unit_sum Proportional p w) ∷ number_cell (unit_sum Investment p w)
+    ∷ number_cell (unit_sum Total p w) ∷ []
 
 abbrev pub unit_rows : Problem → Network → List (List (List ℕ))
 unit_rows p w = map (unit_row p w) w.units ++ all_units_row p w ∷ []
@@ -113,21 +133,26 @@ unit_lines p w = table_and_gap unit_sorts unit_heading (unit_rows p w)
 -- ---- materials
 
 abbrev pub material_heading : List (List ℕ)
-material_heading = codes "material" ∷ codes "kind" ∷ codes "made" ∷ codes "used" ∷ codes "net" ∷ codes "limit" ∷ codes "price" ∷ codes "cost" ∷ []
+material_heading = codes "material" ∷ codes "kind" ∷ codes "made" ∷ codes "used" ∷ codes "net"
+    ∷ codes "limit" ∷ codes "price" ∷ codes "cost" ∷ []
 
 abbrev pub material_sorts : List Sort
 material_sorts = Words ∷ Words ∷ Numbers ∷ Numbers ∷ Numbers ∷ Words ∷ Numbers ∷ Numbers ∷ []
 
 abbrev pub material_row : Problem → Network → ℕ → List (List ℕ)
 material_row p w j =
-    (material_at p j).name ∷ kind_word (material_at p j).kind ∷ number_cell (unit_sum (Made j) p w) ∷ number_cell (unit_sum (Used j) p w)
-    ∷ number_cell (net p w j) ∷ material_limit p w j ∷ number_cell (price p j) ∷ number_cell (cost p w j) ∷ []
+    (material_at p j).name ∷ kind_word (material_at p j).kind ∷ number_cell (unit_sum (Made j) p w)
+    ∷ number_cell (unit_sum (Used j) p w)
+    ∷ number_cell (net p w j) ∷ material_limit p w j ∷ number_cell (price p j)
+    ∷ number_cell (cost p w j) ∷ []
 
 abbrev pub all_materials_row : Problem → Network → List (List ℕ)
-all_materials_row p w = codes "all materials" ∷ [] ∷ [] ∷ [] ∷ [] ∷ [] ∷ [] ∷ number_cell (cost_sum All p w) ∷ []
+all_materials_row p w =
+    codes "all materials" ∷ [] ∷ [] ∷ [] ∷ [] ∷ [] ∷ [] ∷ number_cell (cost_sum All p w) ∷ []
 
 abbrev pub material_rows : Problem → Network → List (List (List ℕ))
-material_rows p w = map (material_row p w) (materials_of (net_of p) (has w.units)) ++ all_materials_row p w ∷ []
+material_rows p w = map (material_row p w) (materials_of (net_of p) (has w.units))
+    ++ all_materials_row p w ∷ []
 
 abbrev pub material_lines : Problem → Network → List (List ℕ)
 material_lines p w = table_and_gap material_sorts material_heading (material_rows p w)
@@ -143,7 +168,7 @@ money_sorts = Words ∷ Sums ∷ []
 abbrev pub money_row : List ℕ → Number → List (List ℕ)
 money_row words n = words ∷ number_cell n ∷ []
 
--- the claimed cost over d and the payout period is in 10^-18
+-- the cost of the claim over d and the payout period is in 10^-18
 unfoldable pub total_cell : Problem → Network → List ℕ
 total_cell p w = six_digits w.cost (1000000000000000000 * unsigned_abs p.payout * unsigned_abs w.d)
 
@@ -155,8 +180,10 @@ total_row p w = total_words w.cost ∷ total_cell p w ∷ []
 
 abbrev pub money_rows : Problem → Network → List (List (List ℕ))
 money_rows p w =
-    money_row (codes "fixed costs") (unit_sum Fixed p w) ∷ money_row (codes "proportional costs") (unit_sum Proportional p w)
-    ∷ money_row (codes "investment costs") (unit_sum Investment p w) ∷ money_row (codes "material costs") (cost_sum Costs p w)
+    money_row (codes "fixed costs") (unit_sum Fixed p w)
+    ∷ money_row (codes "proportional costs") (unit_sum Proportional p w)
+    ∷ money_row (codes "investment costs") (unit_sum Investment p w)
+    ∷ money_row (codes "material costs") (cost_sum Costs p w)
     ∷ money_row (codes "material incomes") (cost_sum Incomes p w) ∷ total_row p w ∷ []
 
 abbrev pub money_lines : Problem → Network → List (List ℕ)
@@ -187,4 +214,6 @@ foot_lines p w = once_line p w ∷ left_out_line p w ∷ []
 -- ---- all
 
 abbrev pub report_lines : Problem → Network → List (List ℕ)
-report_lines p w = head_lines p w ++ (unit_lines p w ++ (material_lines p w ++ (money_lines p w ++ foot_lines p w)))
+report_lines p w =
+    head_lines p w
+    ++ (unit_lines p w ++ (material_lines p w ++ (money_lines p w ++ foot_lines p w)))

@@ -1,5 +1,5 @@
--- A network as two tables, of its units and of its materials, each in file order. They are texts of comma-separated fields: each
--- record is written as `csv` writes it with its default settings.
+-- A network as two tables, of its units and of its materials, each in file order. They are texts of
+-- comma-separated fields; each record is written as `csv` writes it with its default settings.
 use Rattle.std.specs.Prelude.{◌≡◌, ℕ, ℤ, List, [], ◌∷◌, codes, flat_map}
 use Rattle.std.specs.Fmt.{signed_decimal}
 use Rattle.csv.specs.Writing.{default_writer, row_text}
@@ -54,9 +54,10 @@ AreMaterialRows p w = AreRows (IsMaterialRow p w) (materials_of (net_of p) (has 
 abbrev pub records_text : List (List (List ℕ)) → List ℕ
 records_text = flat_map (row_text default_writer)
 
--- the bytes are a heading, and behind it rows of which the fact holds
+-- the bytes are a heading and then rows of which the fact is true
 abbrev pub IsTable : List (List ℕ) → (List (List (List ℕ)) → Type 0) → List ℕ → Type 0
-IsTable heading AreThose bytes = (rows : List (List (List ℕ))) × AreThose rows × (bytes ≡ records_text (heading ∷ rows))
+IsTable heading AreThose bytes = (rows : List (List (List ℕ))) × AreThose rows
+    × (bytes ≡ records_text (heading ∷ rows))
 
 abbrev pub IsUnitTable : Problem → Network → List ℕ → Type 0
 IsUnitTable p w = IsTable unit_heading (AreUnitRows p w)

@@ -5,11 +5,11 @@ pub enum UnitAmount {
     Fixed,
     /// The proportional cost at its size.
     Proportional,
-    /// The part of the investment.
+    /// The yearly part of the investment.
     Investment,
     /// All three costs.
     Total,
-    /// The investment, paid once.
+    /// The whole investment, paid once.
     Once,
     /// What it makes of a material.
     Made(u32),

@@ -1,13 +1,13 @@
 //! The columns of a report.
 
-/// What stands in a column.
+/// What a column has in its cells.
 #[derive(Clone, Copy, Debug, PartialEq, Eq)]
 pub enum Sort {
-    /// Words, to the left.
+    /// Words, aligned to the left.
     Words,
-    /// Numbers, whose points stand under each other.
+    /// Numbers, with their points in one column of text. If all are 0, the column is left out.
     Numbers,
-    /// Such numbers that stand even where all of them are 0.
+    /// Such numbers in a column that is kept even if all are 0.
     Sums,
 }
 
@@ -16,8 +16,8 @@ pub enum Sort {
 pub enum Measure {
     /// All of it.
     Whole,
-    /// What stands before its point.
+    /// The part before its point.
     Front,
-    /// What stands from its point on.
+    /// The part from its point on.
     Back,
 }

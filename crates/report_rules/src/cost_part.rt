@@ -1,10 +1,10 @@
-/// What is taken of a cost.
+/// Which part of a cost counts.
 #[derive(Clone, Copy, Debug, PartialEq, Eq)]
 pub enum CostPart {
     /// All of it.
     All,
-    /// What is above 0.
+    /// The cost if it is above 0.
     Costs,
-    /// What is below 0.
+    /// The cost if it is below 0.
     Incomes,
 }

@@ -1,9 +1,10 @@
 //! What is written of a network for people: its tables, its report, and the graph of the plant.
 //!
-//! The definitions stand in `specs/`: `Table` (a network as two tables of comma-separated fields), `Decimal` (decimal numbers), `Drawn` and
-//! `Graph` (the P-graph as text for Graphviz), `Number` and `Amounts` (the numbers of a report, and those of a network for one year with
-//! their sums), `Aligned` (rows of cells under each other), `Report` (the three tables of a report) and `Verdict` (what a tree proves of
-//! its claim).
+//! The definitions are in `specs/`. `Table` has a network as two tables of comma-separated fields,
+//! and `Decimal` has decimal numbers. `Drawn` and `Graph` have the P-graph as text for Graphviz.
+//! `Number` and `Amounts` have the numbers of a report, and those of a network for one year with
+//! their sums. `Aligned` has rows of cells in columns, `Report` the three tables of a report, and
+//! `Verdict` what a tree proves of its claim.
 #![tactic(auto)]
 
 mod amount;

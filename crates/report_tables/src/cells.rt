@@ -17,7 +17,8 @@ pub(crate) fn push_words(alloc: Global, row: &mut Row, words: &str) -> Result<()
 /// Appends the number with six digits if it has more, or `past` if it overflows.
 #[tactic(auto, unfolding(report_rules::specs::Report::number_cell))]
 pub(crate) fn push_digits(text: &mut String, number: &Number) -> Result<(), AllocError>
-    ensures { OnOk result (string_bytes text.new ≡ string_bytes text.old ++ number_cell number.now) }
+    ensures { OnOk result
+        (string_bytes text.new ≡ string_bytes text.old ++ number_cell number.now) }
 {
     number.push(text)
 }

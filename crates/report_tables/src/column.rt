@@ -1,6 +1,9 @@
 //! How wide columns are.
 ghost use Rattle.std.specs.Prelude.{◌≡◌, ◌++◌, ◌∷◌, [], IfOk, length};
-ghost use Rattle.report_rules.specs.Aligned.{cell_at, is_nothing, tells_nothing, all_tell_nothing, measured, greater, widest, numbers_at, column_at, columns_from};
+ghost use Rattle.report_rules.specs.Aligned.{cell_at, is_nothing, tells_nothing};
+ghost use Rattle.report_rules.specs.Aligned.{all_tell_nothing};
+ghost use Rattle.report_rules.specs.Aligned.{measured, greater, widest, numbers_at, column_at};
+ghost use Rattle.report_rules.specs.Aligned.{columns_from};
 
 use crate::row::Row;
 use report_rules::{Measure, Sort};
@@ -23,7 +26,14 @@ impl Model for Column {
 
     ghost Value = { rules.Column };
 
-    ghost view = { λ c. record { sort = c.sort; front = c.front; back = c.back; room = c.room; kept = c.kept } };
+    ghost view = { λ c. record {
+      sort = c.sort;
+      front = c.front;
+      back = c.back;
+      room =
+          c.room;
+      kept = c.kept;
+    } };
 }
 
 pub(crate) fn measured(measure: Measure, cell: &str) -> usize
@@ -129,7 +139,8 @@ pub(crate) fn columns_of(
     heading: &Row,
     rows: &[Row],
 ) -> Result<Vec<Column>, AllocError>
-    ensures { IfOk result (λ columns. columns.items ≡ columns_from 0 sorts.now heading.now rows.now) }
+    ensures { IfOk result
+        (λ columns. columns.items ≡ columns_from 0 sorts.now heading.now rows.now) }
 {
     let mut columns = Vec::new(alloc);
     'columns: for k in 0..sorts.len() {

@@ -1,8 +1,11 @@
 //! The lines after the tables.
-ghost use Rattle.std.specs.Prelude.{◌≡◌, ◌<◌, ◌≤◌, ◌++◌, ◌∷◌, [], ℕ, true, OnOk, flat_map, length, string_bytes};
+ghost use Rattle.std.specs.Prelude.{◌≡◌, ◌<◌, ◌≤◌, ◌++◌, ◌∷◌, [], ℕ, true, OnOk, flat_map};
+ghost use Rattle.std.specs.Prelude.{length};
+ghost use Rattle.std.specs.Prelude.{string_bytes};
 ghost use Rattle.number_sets.specs.Sets.{has};
 ghost use Rattle.pns_problem.specs.Printing.{printed};
-ghost use Rattle.report_rules.specs.Report.{once_line, left_out, name_behind, names_or_none, left_out_line, foot_lines};
+ghost use Rattle.report_rules.specs.Report.{once_line, left_out, name_behind, names_or_none};
+ghost use Rattle.report_rules.specs.Report.{left_out_line, foot_lines};
 
 use crate::cells::push_digits;
 use branch_tree::Network;
@@ -14,7 +17,8 @@ use unit_sets::UnitSet;
 
 fn push_once(text: &mut String, problem: &Problem, network: &Network) -> Result<(), AllocError>
     requires { (u : ℕ) → has network.now.units u ≡ true → u < length problem.now.units }
-    ensures { OnOk result (string_bytes text.new ≡ string_bytes text.old ++ once_line problem.now network.now) }
+    ensures { OnOk result
+        (string_bytes text.new ≡ string_bytes text.old ++ once_line problem.now network.now) }
 {
     text.push_str("Investment, paid once: ")?;
     push_digits(text, &unit_sum(UnitAmount::Once, problem, network))?;
@@ -40,7 +44,9 @@ pub fn left_out(problem: &Problem, network: &Network) -> UnitSet
 }
 
 fn push_names(text: &mut String, problem: &Problem, units: UnitSet) -> Result<(), AllocError>
-    ensures { OnOk result (string_bytes text.new ≡ string_bytes text.old ++ flat_map (name_behind problem.now) units) }
+    ensures { OnOk result
+        (string_bytes text.new ≡ string_bytes text.old
+        ++ flat_map (name_behind problem.now) units) }
 {
     for u in units {
         text.push(' ')?;
@@ -54,7 +60,8 @@ fn push_names_or_none(
     problem: &Problem,
     units: UnitSet,
 ) -> Result<(), AllocError>
-    ensures { OnOk result (string_bytes text.new ≡ string_bytes text.old ++ names_or_none problem.now units) }
+    ensures { OnOk result
+        (string_bytes text.new ≡ string_bytes text.old ++ names_or_none problem.now units) }
 {
     if units.is_empty() {
         text.push_str(" none")
@@ -64,7 +71,8 @@ fn push_names_or_none(
 }
 
 fn push_left_out(text: &mut String, problem: &Problem, network: &Network) -> Result<(), AllocError>
-    ensures { OnOk result (string_bytes text.new ≡ string_bytes text.old ++ left_out_line problem.now network.now) }
+    ensures { OnOk result
+        (string_bytes text.new ≡ string_bytes text.old ++ left_out_line problem.now network.now) }
 {
     text.push_str("Units left out:")?;
     push_names_or_none(text, problem, left_out(problem, network))?;
@@ -78,7 +86,9 @@ pub(crate) fn push_foot(
     network: &Network,
 ) -> Result<(), AllocError>
     requires { (u : ℕ) → has network.now.units u ≡ true → u < length problem.now.units }
-    ensures { OnOk result (string_bytes text.new ≡ string_bytes text.old ++ printed (foot_lines problem.now network.now)) }
+    ensures { OnOk result
+        (string_bytes text.new ≡ string_bytes text.old
+        ++ printed (foot_lines problem.now network.now)) }
 {
     push_once(text, problem, network)?;
     text.push('\n')?;

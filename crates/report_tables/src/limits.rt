@@ -2,7 +2,8 @@
 ghost use Rattle.std.specs.Prelude.{◌≡◌, ◌*ℤ◌, ℕ};
 ghost use Rattle.std.specs.Ordering.{int_eq};
 ghost use Rattle.integer_laws.specs.Range.{InRange};
-ghost use Rattle.report_rules.specs.Report.{idle_words, least_words, most_words, limit_words, unbounded_or};
+ghost use Rattle.report_rules.specs.Report.{idle_words, least_words, most_words, limit_words};
+ghost use Rattle.report_rules.specs.Report.{unbounded_or};
 
 use int_rows::checked_product;
 

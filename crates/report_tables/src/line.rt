@@ -1,6 +1,7 @@
 //! A row as a line.
 ghost use Rattle.std.specs.Prelude.{◌≡◌, ◌++◌, ◌∷◌, [], true, false, OnOk, string_bytes};
-ghost use Rattle.report_rules.specs.Aligned.{spaces, shown, gap_left, before, behind, cell_text, gap_behind, line_text};
+ghost use Rattle.report_rules.specs.Aligned.{spaces, shown, gap_left, before, behind, cell_text};
+ghost use Rattle.report_rules.specs.Aligned.{gap_behind, line_text};
 
 use crate::column::{Column, measured};
 use crate::row::Row;
@@ -20,7 +21,8 @@ fn push_spaces(text: &mut String, count: usize) -> Result<(), AllocError>
 
 /// Appends the gap and a cell, and empties the gap. Of an empty cell it appends nothing.
 fn push_shown(text: &mut String, gap: &mut String, cell: &str) -> Result<(), AllocError>
-    ensures text { OnOk result (string_bytes text.new ≡ string_bytes text.old ++ shown (string_bytes gap.old) cell.now) }
+    ensures text { OnOk result
+        (string_bytes text.new ≡ string_bytes text.old ++ shown (string_bytes gap.old) cell.now) }
     ensures gap { OnOk result (string_bytes gap.new ≡ gap_left (string_bytes gap.old) cell.now) }
 {
     if cell.is_empty() {
@@ -33,7 +35,8 @@ fn push_shown(text: &mut String, gap: &mut String, cell: &str) -> Result<(), All
 }
 
 fn push_before_heading(gap: &mut String, column: &Column, cell: &str) -> Result<(), AllocError>
-    ensures { OnOk result (string_bytes gap.new ≡ string_bytes gap.old ++ before true column.now cell.now) }
+    ensures { OnOk result
+        (string_bytes gap.new ≡ string_bytes gap.old ++ before true column.now cell.now) }
 {
     match column.sort {
         Sort::Words => Ok(()),
@@ -47,7 +50,8 @@ fn push_before_heading(gap: &mut String, column: &Column, cell: &str) -> Result<
 }
 
 fn push_before_cell(gap: &mut String, column: &Column, cell: &str) -> Result<(), AllocError>
-    ensures { OnOk result (string_bytes gap.new ≡ string_bytes gap.old ++ before false column.now cell.now) }
+    ensures { OnOk result
+        (string_bytes gap.new ≡ string_bytes gap.old ++ before false column.now cell.now) }
 {
     match column.sort {
         Sort::Words => Ok(()),
@@ -65,7 +69,8 @@ fn push_before(
     column: &Column,
     cell: &str,
 ) -> Result<(), AllocError>
-    ensures { OnOk result (string_bytes gap.new ≡ string_bytes gap.old ++ before heading column.now cell.now) }
+    ensures { OnOk result
+        (string_bytes gap.new ≡ string_bytes gap.old ++ before heading column.now cell.now) }
 {
     if heading {
         push_before_heading(gap, column, cell)
@@ -75,7 +80,8 @@ fn push_before(
 }
 
 fn push_behind_heading(gap: &mut String, column: &Column, cell: &str) -> Result<(), AllocError>
-    ensures { OnOk result (string_bytes gap.new ≡ string_bytes gap.old ++ behind true column.now cell.now) }
+    ensures { OnOk result
+        (string_bytes gap.new ≡ string_bytes gap.old ++ behind true column.now cell.now) }
 {
     match column.sort {
         Sort::Words => {
@@ -87,7 +93,8 @@ fn push_behind_heading(gap: &mut String, column: &Column, cell: &str) -> Result<
 }
 
 fn push_behind_cell(gap: &mut String, column: &Column, cell: &str) -> Result<(), AllocError>
-    ensures { OnOk result (string_bytes gap.new ≡ string_bytes gap.old ++ behind false column.now cell.now) }
+    ensures { OnOk result
+        (string_bytes gap.new ≡ string_bytes gap.old ++ behind false column.now cell.now) }
 {
     match column.sort {
         Sort::Words => {
@@ -107,7 +114,8 @@ fn push_behind(
     column: &Column,
     cell: &str,
 ) -> Result<(), AllocError>
-    ensures { OnOk result (string_bytes gap.new ≡ string_bytes gap.old ++ behind heading column.now cell.now) }
+    ensures { OnOk result
+        (string_bytes gap.new ≡ string_bytes gap.old ++ behind heading column.now cell.now) }
 {
     if heading {
         push_behind_heading(gap, column, cell)
@@ -124,8 +132,13 @@ fn push_kept(
     column: &Column,
     cell: &str,
 ) -> Result<(), AllocError>
-    ensures text { OnOk result (string_bytes text.new ≡ string_bytes text.old ++ shown (string_bytes gap.old ++ before heading column.now cell.now) cell.now) }
-    ensures gap { OnOk result (string_bytes gap.new ≡ gap_left (string_bytes gap.old ++ before heading column.now cell.now) cell.now ++ (behind heading column.now cell.now ++ 32 ∷ 32 ∷ [])) }
+    ensures text { OnOk result
+        (string_bytes text.new ≡ string_bytes text.old
+        ++ shown (string_bytes gap.old ++ before heading column.now cell.now) cell.now) }
+    ensures gap { OnOk result
+        (string_bytes gap.new
+        ≡ gap_left (string_bytes gap.old ++ before heading column.now cell.now) cell.now
+        ++ (behind heading column.now cell.now ++ 32 ∷ 32 ∷ [])) }
 {
     push_before(gap, heading, column, cell)?;
     push_shown(text, gap, cell)?;
@@ -143,8 +156,11 @@ fn push_cell(
     column: &Column,
     cell: &str,
 ) -> Result<(), AllocError>
-    ensures text { OnOk result (string_bytes text.new ≡ string_bytes text.old ++ cell_text heading column.now (string_bytes gap.old) cell.now) }
-    ensures gap { OnOk result (string_bytes gap.new ≡ gap_behind heading column.now (string_bytes gap.old) cell.now) }
+    ensures text { OnOk result
+        (string_bytes text.new ≡ string_bytes text.old
+        ++ cell_text heading column.now (string_bytes gap.old) cell.now) }
+    ensures gap { OnOk result
+        (string_bytes gap.new ≡ gap_behind heading column.now (string_bytes gap.old) cell.now) }
 {
     if column.kept {
         push_kept(text, gap, heading, column, cell)
@@ -161,7 +177,9 @@ pub(crate) fn push_line(
     columns: &[Column],
     row: &Row,
 ) -> Result<(), AllocError>
-    ensures { OnOk result (string_bytes text.new ≡ string_bytes text.old ++ line_text heading 0 [] columns.now row.now) }
+    ensures { OnOk result
+        (string_bytes text.new ≡ string_bytes text.old
+        ++ line_text heading 0 [] columns.now row.now) }
 {
     let mut gap = String::new(alloc);
     'columns: for k in 0..columns.len() {

@@ -1,5 +1,6 @@
 //! The table of materials.
-ghost use Rattle.std.specs.Prelude.{◌≡◌, ◌<◌, ◌++◌, ◌∷◌, [], ◌*ℤ◌, ℕ, true, IfOk, OnOk, map, length, string_bytes};
+ghost use Rattle.std.specs.Prelude.{◌≡◌, ◌<◌, ◌++◌, ◌∷◌, [], ◌*ℤ◌, ℕ, true, IfOk, OnOk, map};
+ghost use Rattle.std.specs.Prelude.{length, string_bytes};
 ghost use Rattle.integer_laws.specs.Range.{InRange};
 ghost use Rattle.number_sets.specs.Sets.{has};
 ghost use Rattle.problem_rules.specs.Problem.{material_at, is_raw_material};
@@ -11,7 +12,9 @@ ghost use Rattle.tree_rules.specs.Claim.{IsFeasible};
 ghost use Rattle.report_rules.specs.declared.amount.UnitAmount.TheVariants.{Made, Used};
 ghost use Rattle.report_rules.specs.declared.cost_part.CostPart.TheVariants.{All};
 ghost use Rattle.report_rules.specs.Amounts.{unit_sum, net, price, cost, cost_sum};
-ghost use Rattle.report_rules.specs.Report.{number_cell, bought_or_left, turned_flow, no_bound, material_limit, material_heading, material_row, all_materials_row, material_rows, material_lines};
+ghost use Rattle.report_rules.specs.Report.{number_cell, bought_or_left, turned_flow, no_bound};
+ghost use Rattle.report_rules.specs.Report.{material_limit, material_heading, material_row};
+ghost use Rattle.report_rules.specs.Report.{all_materials_row, material_rows, material_lines};
 
 use crate::cells::{push_number, push_numbers, push_words};
 use crate::limits::{limit_words, unbounded_or};
@@ -97,7 +100,9 @@ fn push_flows(
 ) -> Result<(), AllocError>
     requires feasible { IsFeasible problem.now network.now }
     requires material { has (materials_of (net_of problem.now) (has network.now.units)) j ≡ true }
-    ensures { OnOk result (row.new ≡ row.old ++ number_cell (unit_sum (Made j) problem.now network.now) ∷ number_cell (unit_sum (Used j) problem.now network.now)
+    ensures { OnOk result
+        (row.new ≡ row.old ++ number_cell (unit_sum (Made j) problem.now network.now)
+        ∷ number_cell (unit_sum (Used j) problem.now network.now)
         ∷ number_cell (net problem.now network.now j) ∷ []) }
 {
     let flows = [
@@ -139,7 +144,9 @@ fn all_materials_row(alloc: Global, site: &Site<'_>, network: &Network) -> Resul
 
 fn material_rows(alloc: Global, site: &Site<'_>, network: &Network) -> Result<Vec<Row>, AllocError>
     requires feasible { IsFeasible site.now network.now }
-    ensures { IfOk result (λ rows. rows.items ≡ map (material_row site.now network.now) (materials_of (net_of site.now) (has network.now.units))) }
+    ensures { IfOk result
+        (λ rows. rows.items ≡ map (material_row site.now network.now)
+        (materials_of (net_of site.now) (has network.now.units))) }
 {
     let mut rows = Vec::new(alloc);
     for j in materials_in(site, network) {
@@ -156,7 +163,9 @@ pub(crate) fn push_materials(
     network: &Network,
 ) -> Result<(), AllocError>
     requires feasible { IsFeasible site.now network.now }
-    ensures { OnOk result (string_bytes text.new ≡ string_bytes text.old ++ printed (material_lines site.now network.now)) }
+    ensures { OnOk result
+        (string_bytes text.new ≡ string_bytes text.old
+        ++ printed (material_lines site.now network.now)) }
 {
     let heading = Row::of_words(alloc, &HEADING)?;
     let mut rows = material_rows(alloc, site, network)?;

@@ -1,12 +1,15 @@
 //! The table of money.
-ghost use Rattle.std.specs.Prelude.{◌≡◌, ◌<◌, ◌++◌, ◌∷◌, [], ℕ, true, IfOk, OnOk, length, string_bytes};
+ghost use Rattle.std.specs.Prelude.{◌≡◌, ◌<◌, ◌++◌, ◌∷◌, [], ℕ, true, IfOk, OnOk, length};
+ghost use Rattle.std.specs.Prelude.{string_bytes};
 ghost use Rattle.number_sets.specs.Sets.{has};
 ghost use Rattle.pns_problem.specs.Printing.{printed};
 ghost use Rattle.tree_rules.specs.Claim.{IsFeasible};
-ghost use Rattle.report_rules.specs.declared.amount.UnitAmount.TheVariants.{Fixed, Proportional, Investment};
+ghost use Rattle.report_rules.specs.declared.amount.UnitAmount.TheVariants.{Fixed, Proportional};
+ghost use Rattle.report_rules.specs.declared.amount.UnitAmount.TheVariants.{Investment};
 ghost use Rattle.report_rules.specs.declared.cost_part.CostPart.TheVariants.{Costs, Incomes};
 ghost use Rattle.report_rules.specs.Amounts.{unit_sum, cost_sum};
-ghost use Rattle.report_rules.specs.Report.{money_heading, money_row, total_cell, total_words, total_row, money_rows, money_lines};
+ghost use Rattle.report_rules.specs.Report.{money_heading, money_row, total_cell, total_words};
+ghost use Rattle.report_rules.specs.Report.{total_row, money_rows, money_lines};
 
 use crate::cells::push_number;
 use crate::row::Row;
@@ -35,7 +38,8 @@ fn unit_money(
     network: &Network,
 ) -> Result<Row, AllocError>
     requires { (u : ℕ) → has network.now.units u ≡ true → u < length problem.now.units }
-    ensures { IfOk result (λ row. row ≡ money_row words.now (unit_sum what problem.now network.now)) }
+    ensures { IfOk result
+        (λ row. row ≡ money_row words.now (unit_sum what problem.now network.now)) }
 {
     money_row(alloc, words, &unit_sum(what, problem, network))
 }
@@ -56,7 +60,8 @@ fn material_money(
 /// The cost of the network in one year, with six digits if it has more.
 #[tactic(auto, unfolding(report_rules::specs::Report::total_cell))]
 pub fn push_total(text: &mut String, problem: &Problem, network: &Network) -> Result<(), AllocError>
-    ensures { OnOk result (string_bytes text.new ≡ string_bytes text.old ++ total_cell problem.now network.now) }
+    ensures { OnOk result
+        (string_bytes text.new ≡ string_bytes text.old ++ total_cell problem.now network.now) }
 {
     problem.is_valid();
     network.is_sized();
@@ -119,7 +124,9 @@ pub(crate) fn push_money(
     network: &Network,
 ) -> Result<(), AllocError>
     requires feasible { IsFeasible site.now network.now }
-    ensures { OnOk result (string_bytes text.new ≡ string_bytes text.old ++ printed (money_lines site.now network.now)) }
+    ensures { OnOk result
+        (string_bytes text.new ≡ string_bytes text.old
+        ++ printed (money_lines site.now network.now)) }
 {
     let heading = Row::of_words(alloc, &["in one year", "money"])?;
     let rows = money_rows(alloc, site, network)?;

@@ -15,7 +15,9 @@ fn push_rows(
     columns: &[Column],
     rows: &[Row],
 ) -> Result<(), AllocError>
-    ensures { OnOk result (string_bytes text.new ≡ string_bytes text.old ++ printed (map (line_text false 0 [] columns.now) rows.now)) }
+    ensures { OnOk result
+        (string_bytes text.new ≡ string_bytes text.old
+        ++ printed (map (line_text false 0 [] columns.now) rows.now)) }
 {
     'printing: for row in rows {
         push_line(alloc, text, false, columns, row)?;
@@ -32,7 +34,9 @@ pub fn push_table(
     heading: &Row,
     rows: &[Row],
 ) -> Result<(), AllocError>
-    ensures { OnOk result (string_bytes text.new ≡ string_bytes text.old ++ printed (table_lines sorts.now heading.now rows.now)) }
+    ensures { OnOk result
+        (string_bytes text.new ≡ string_bytes text.old
+        ++ printed (table_lines sorts.now heading.now rows.now)) }
 {
     let columns = columns_of(alloc, sorts, heading, rows)?;
     push_line(alloc, text, true, &columns, heading)?;

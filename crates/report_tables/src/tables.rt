@@ -16,7 +16,9 @@ pub(crate) fn push_table_and_gap(
     heading: &Row,
     rows: &[Row],
 ) -> Result<(), AllocError>
-    ensures { OnOk result (string_bytes text.new ≡ string_bytes text.old ++ printed (table_and_gap sorts.now heading.now rows.now)) }
+    ensures { OnOk result
+        (string_bytes text.new ≡ string_bytes text.old
+        ++ printed (table_and_gap sorts.now heading.now rows.now)) }
 {
     push_table(alloc, text, sorts, heading, rows)?;
     text.push('\n')?;

@@ -1,5 +1,6 @@
 //! The whole report.
-ghost use Rattle.std.specs.Prelude.{◌≡◌, ◌<◌, ◌++◌, ◌∷◌, [], ℕ, true, IfOk, OnOk, length, unsigned_abs, string_bytes};
+ghost use Rattle.std.specs.Prelude.{◌≡◌, ◌<◌, ◌++◌, ◌∷◌, [], ℕ, true, IfOk, OnOk, length};
+ghost use Rattle.std.specs.Prelude.{unsigned_abs, string_bytes};
 ghost use Rattle.number_sets.specs.Sets.{has};
 ghost use Rattle.pns_problem.specs.Printing.{printed};
 ghost use Rattle.flow_rules.specs.Net.{net_of, materials_of};
@@ -17,7 +18,8 @@ use pns_tables::materials_in;
 use std::alloc::{AllocError, Global};
 
 fn push_counted(text: &mut String, words: &str, number: u64) -> Result<(), AllocError>
-    ensures { OnOk result (string_bytes text.new ≡ string_bytes text.old ++ counted words.now number) }
+    ensures { OnOk result
+        (string_bytes text.new ≡ string_bytes text.old ++ counted words.now number) }
 {
     text.push_str(words)?;
     write!(text, "{number}")?;
@@ -57,7 +59,8 @@ fn years(problem: &Problem) -> u64
 
 fn push_network(text: &mut String, site: &Site<'_>, network: &Network) -> Result<(), AllocError>
     requires known { (u : ℕ) → has network.now.units u ≡ true → u < length site.now.units }
-    ensures { OnOk result (string_bytes text.new ≡ string_bytes text.old ++ network_line site.now network.now) }
+    ensures { OnOk result
+        (string_bytes text.new ≡ string_bytes text.old ++ network_line site.now network.now) }
 {
     let problem = site.problem();
     push_counted(text, "Claimed network: ", units_in(network))?;
@@ -71,7 +74,9 @@ fn push_network(text: &mut String, site: &Site<'_>, network: &Network) -> Result
 /// Appends the head and an empty line.
 fn push_head(text: &mut String, site: &Site<'_>, network: &Network) -> Result<(), AllocError>
     requires known { (u : ℕ) → has network.now.units u ≡ true → u < length site.now.units }
-    ensures { OnOk result (string_bytes text.new ≡ string_bytes text.old ++ printed (head_lines site.now network.now)) }
+    ensures { OnOk result
+        (string_bytes text.new ≡ string_bytes text.old
+        ++ printed (head_lines site.now network.now)) }
 {
     text.push_str("Rounded to 6 digits where needed; exact numbers: pns json\n")?;
     push_network(text, site, network)?;
@@ -87,7 +92,9 @@ fn push_report(
     network: &Network,
 ) -> Result<(), AllocError>
     requires feasible { IsFeasible site.now network.now }
-    ensures { OnOk result (string_bytes text.new ≡ string_bytes text.old ++ printed (report_lines site.now network.now)) }
+    ensures { OnOk result
+        (string_bytes text.new ≡ string_bytes text.old
+        ++ printed (report_lines site.now network.now)) }
 {
     let problem = site.problem();
     push_head(text, site, network)?;

@@ -1,10 +1,18 @@
 //! The table of units.
-ghost use Rattle.std.specs.Prelude.{◌≡◌, ◌<◌, ◌++◌, ◌∷◌, [], ℕ, true, IfOk, OnOk, map, length, string_bytes};
+ghost use Rattle.std.specs.Prelude.{◌≡◌, ◌<◌, ◌++◌, ◌∷◌, [], ℕ, true, IfOk, OnOk, map};
+ghost use Rattle.std.specs.Prelude.{length};
+ghost use Rattle.std.specs.Prelude.{string_bytes};
 ghost use Rattle.number_sets.specs.Sets.{has};
 ghost use Rattle.pns_problem.specs.Printing.{printed};
-ghost use Rattle.report_rules.specs.Report.{share_cell, unit_limit, number_cell, unit_heading, unit_row, all_units_row, unit_rows, unit_lines};
+ghost use Rattle.report_rules.specs.Report.{share_cell, unit_limit, number_cell};
+ghost use Rattle.report_rules.specs.Report.{unit_heading};
+ghost use Rattle.report_rules.specs.Report.{unit_row, all_units_row, unit_rows};
+ghost use Rattle.report_rules.specs.Report.{unit_lines};
 ghost use Rattle.report_rules.specs.Amounts.{size, amount, unit_sum};
-ghost use Rattle.report_rules.specs.declared.amount.UnitAmount.TheVariants.{Fixed, Proportional, Investment, Total};
+ghost use Rattle.report_rules.specs.declared.amount.UnitAmount.TheVariants.{Fixed};
+ghost use Rattle.report_rules.specs.declared.amount.UnitAmount.TheVariants.{Proportional};
+ghost use Rattle.report_rules.specs.declared.amount.UnitAmount.TheVariants.{Investment};
+ghost use Rattle.report_rules.specs.declared.amount.UnitAmount.TheVariants.{Total};
 ghost use Rattle.problem_rules.specs.Problem.{unit_at};
 
 use crate::cells::{push_number, push_numbers, push_words};
@@ -78,7 +86,9 @@ fn push_costs(
     u: u32,
 ) -> Result<(), AllocError>
     requires { u < length problem.now.units }
-    ensures { OnOk result (row.new ≡ row.old ++ number_cell (amount Fixed problem.now network.now u) ∷ number_cell (amount Proportional problem.now network.now u)
+    ensures { OnOk result
+        (row.new ≡ row.old ++ number_cell (amount Fixed problem.now network.now u)
+        ∷ number_cell (amount Proportional problem.now network.now u)
         ∷ number_cell (amount Investment problem.now network.now u) ∷ number_cell (amount Total problem.now network.now u) ∷ []) }
 {
     let costs = [
@@ -110,7 +120,9 @@ fn push_sums(
     network: &Network,
 ) -> Result<(), AllocError>
     requires { (u : ℕ) → has network.now.units u ≡ true → u < length problem.now.units }
-    ensures { OnOk result (row.new ≡ row.old ++ number_cell (unit_sum Fixed problem.now network.now) ∷ number_cell (unit_sum Proportional problem.now network.now)
+    ensures { OnOk result
+        (row.new ≡ row.old ++ number_cell (unit_sum Fixed problem.now network.now)
+        ∷ number_cell (unit_sum Proportional problem.now network.now)
         ∷ number_cell (unit_sum Investment problem.now network.now) ∷ number_cell (unit_sum Total problem.now network.now) ∷ []) }
 {
     let sums = [
@@ -133,7 +145,8 @@ fn all_units_row(alloc: Global, problem: &Problem, network: &Network) -> Result<
 
 fn unit_rows(alloc: Global, problem: &Problem, network: &Network) -> Result<Vec<Row>, AllocError>
     requires { (u : ℕ) → has network.now.units u ≡ true → u < length problem.now.units }
-    ensures { IfOk result (λ rows. rows.items ≡ map (unit_row problem.now network.now) network.now.units) }
+    ensures { IfOk result
+        (λ rows. rows.items ≡ map (unit_row problem.now network.now) network.now.units) }
 {
     let mut rows = Vec::new(alloc);
     for u in network.units() {
@@ -150,7 +163,9 @@ pub(crate) fn push_units(
     network: &Network,
 ) -> Result<(), AllocError>
     requires { (u : ℕ) → has network.now.units u ≡ true → u < length problem.now.units }
-    ensures { OnOk result (string_bytes text.new ≡ string_bytes text.old ++ printed (unit_lines problem.now network.now)) }
+    ensures { OnOk result
+        (string_bytes text.new ≡ string_bytes text.old
+        ++ printed (unit_lines problem.now network.now)) }
 {
     let heading = Row::of_words(alloc, &HEADING)?;
     let mut rows = unit_rows(alloc, problem, network)?;

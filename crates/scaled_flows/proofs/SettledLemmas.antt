@@ -41,7 +41,8 @@ module _ (low high d number price : ℤ) (positive : pos 1 ≤ℤ d) (ordered : 
     λ h. h.at_high below,
   )
 
-  pub settled_within : price ≤ℤ pos 0 → pos 0 ≤ℤ price → (((low *ℤ d) ≤ℤ number) × (number ≤ℤ (high *ℤ d))) ↔ IsSettled low high d number price
+  pub settled_within : price ≤ℤ pos 0 → pos 0 ≤ℤ price
+      → (((low *ℤ d) ≤ℤ number) × (number ≤ℤ (high *ℤ d))) ↔ IsSettled low high d number price
   settled_within p q = (
     λ h. record {
       at_least = h.0;
@@ -53,9 +54,12 @@ module _ (low high d number price : ℤ) (positive : pos 1 ≤ℤ d) (ordered : 
   )
 
 -- the order of two numbers is that of what is left after division
-pub divided_order : (g a b x y : ℤ) → pos 1 ≤ℤ g → Divides g a → Divides g b → a ≤ℤ b → x ≡ int_div a g → y ≡ int_div b g → x ≤ℤ y
+pub divided_order : (g a b x y : ℤ) → pos 1 ≤ℤ g → Divides g a → Divides g b → a ≤ℤ b
+    → x ≡ int_div a g → y ≡ int_div b g → x ≤ℤ y
 divided_order g a b x y p da db h e f =
-    subst (λ (v : ℤ). x ≤ℤ v) (sym f) (subst (λ (v : ℤ). v ≤ℤ int_div b g) (sym e) (cancel_le g (int_div a g) (int_div b g) (omega (arith, ints))
+    subst (λ (v : ℤ). x ≤ℤ v) (sym f)
+    (subst (λ (v : ℤ). v ≤ℤ int_div b g) (sym e)
+    (cancel_le g (int_div a g) (int_div b g) (omega (arith, ints))
     (subst (λ (v : ℤ). (g *ℤ int_div a g) ≤ℤ v) (sym db) (subst (λ (v : ℤ). v ≤ℤ b) (sym da) h))))
 
 pub product_positive : (a b : ℤ) → pos 1 ≤ℤ a → pos 1 ≤ℤ b → pos 1 ≤ℤ (a *ℤ b)

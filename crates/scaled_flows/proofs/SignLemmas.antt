@@ -1,10 +1,12 @@
 -- Optimality by the signs of prices, over any lists of columns and rows.
-use Rattle.std.proofs.Common.{◌≡◌, inl, inr, ap, ◌∙◌, arith, pos, ℤ, ◌+ℤ◌, ◌-ℤ◌, ◌*ℤ◌, ◌≤ℤ◌, ◌<ℤ◌, List}
+use Rattle.std.proofs.Common.{◌≡◌, inl, inr, ap, ◌∙◌, arith, pos, ℤ, ◌+ℤ◌, ◌-ℤ◌, ◌*ℤ◌, ◌≤ℤ◌, ◌<ℤ◌}
+use Rattle.std.proofs.Common.{List}
 use Rattle.std.specs.List.{AllByRecursion}
 use Rattle.std.proofs.lemmas.Int.{ints}
 use Rattle.integer_laws.specs.Total.{total}
 use Rattle.integer_laws.proofs.Ring.{ring_z, V, ◌⊗◌, ring, mul_comm_z, mul-zero_z}
-use Rattle.integer_laws.proofs.Order.{sign_cases, zero_cases, mul_nonneg, mul-le_left, mul-le_left_neg, cancel_le}
+use Rattle.integer_laws.proofs.Order.{sign_cases, zero_cases, mul_nonneg, mul-le_left}
+use Rattle.integer_laws.proofs.Order.{mul-le_left_neg, cancel_le}
 use Rattle.integer_laws.proofs.Totals.{total-le, total-mul}
 use Rattle.integer_laws.proofs.Duality.{reduced_costs}
 use Rattle.scaled_flows.specs.Settled.{IsSettled}
@@ -32,27 +34,34 @@ no_price p d z w m e =
     both_zero a b e f = omega (arith, ints)
 
 -- a settled number over d costs, at its price, no more than any number over m in the range
-pub settled_least : (low high d z p w m : ℤ) → IsSettled low high d z p → pos 0 ≤ℤ d → (low *ℤ m) ≤ℤ w → w ≤ℤ (high *ℤ m) → (m *ℤ (p *ℤ z)) ≤ℤ (d *ℤ (p *ℤ w))
+pub settled_least : (low high d z p w m : ℤ) → IsSettled low high d z p → pos 0 ≤ℤ d
+    → (low *ℤ m) ≤ℤ w → w ≤ℤ (high *ℤ m) → (m *ℤ (p *ℤ z)) ≤ℤ (d *ℤ (p *ℤ w))
 settled_least low high d z p w m h dn lo hi =
     elim (sign_cases p) [
       | inl above ↦
-          let at : m *ℤ (p *ℤ z) ≡ (p *ℤ d) *ℤ (low *ℤ m) = ap (λ (x : ℤ). m *ℤ (p *ℤ x)) (h.at_low above) ∙ turned p d low m in
+          let at : m *ℤ (p *ℤ z) ≡ (p *ℤ d) *ℤ (low *ℤ m) =
+          ap (λ (x : ℤ). m *ℤ (p *ℤ x)) (h.at_low above) ∙ turned p d low m in
           join (m *ℤ (p *ℤ z)) ((p *ℤ d) *ℤ (low *ℤ m)) ((p *ℤ d) *ℤ w) (d *ℤ (p *ℤ w)) at
-          (mul-le_left (p *ℤ d) (low *ℤ m) w lo (mul_nonneg p d (omega (arith, ints)) dn)) (carried p d w)
+          (mul-le_left (p *ℤ d) (low *ℤ m) w lo (mul_nonneg p d (omega (arith, ints)) dn))
+          (carried p d w)
       | inr rest ↦ elim (zero_cases p rest) [
         | inl none ↦ no_price p d z w m none
         | inr below ↦
-            let at : m *ℤ (p *ℤ z) ≡ (p *ℤ d) *ℤ (high *ℤ m) = ap (λ (x : ℤ). m *ℤ (p *ℤ x)) (h.at_high below) ∙ turned p d high m in
+            let at : m *ℤ (p *ℤ z) ≡ (p *ℤ d) *ℤ (high *ℤ m) =
+            ap (λ (x : ℤ). m *ℤ (p *ℤ x)) (h.at_high below) ∙ turned p d high m in
             join (m *ℤ (p *ℤ z)) ((p *ℤ d) *ℤ (high *ℤ m)) ((p *ℤ d) *ℤ w) (d *ℤ (p *ℤ w)) at
-            (mul-le_left_neg (p *ℤ d) w (high *ℤ m) hi (negative p d (omega (arith, ints)) dn)) (carried p d w)
+            (mul-le_left_neg (p *ℤ d) w (high *ℤ m) hi (negative p d (omega (arith, ints)) dn))
+            (carried p d w)
       ]
     ]
   where
     negative : (a b : ℤ) → a ≤ℤ pos 0 → pos 0 ≤ℤ b → (a *ℤ b) ≤ℤ pos 0
-    negative a b h k = let f : (a *ℤ b) ≤ℤ (a *ℤ pos 0) = mul-le_left_neg a (pos 0) b k h in omega (arith, ints)
+    negative a b h k = let f : (a *ℤ b) ≤ℤ (a *ℤ pos 0) =
+        mul-le_left_neg a (pos 0) b k h in omega (arith, ints)
 
--- E + Y = D C for both sizes, so what is left of the costs stands as they do
-both_parts : (m d D Ez Ew Yz Yw Cz Cw : ℤ) → Ez ≡ D *ℤ Cz -ℤ Yz → Ew ≡ D *ℤ Cw -ℤ Yw → (m *ℤ Ez) ≤ℤ (d *ℤ Ew) → (m *ℤ Yz) ≤ℤ (d *ℤ Yw) → (m *ℤ (D *ℤ Cz)) ≤ℤ (d *ℤ (D *ℤ Cw))
+-- E + Y = D C for both sizes, so what is left of the costs has the same order
+both_parts : (m d D Ez Ew Yz Yw Cz Cw : ℤ) → Ez ≡ D *ℤ Cz -ℤ Yz → Ew ≡ D *ℤ Cw -ℤ Yw
+    → (m *ℤ Ez) ≤ℤ (d *ℤ Ew) → (m *ℤ Yz) ≤ℤ (d *ℤ Yw) → (m *ℤ (D *ℤ Cz)) ≤ℤ (d *ℤ (D *ℤ Cw))
 both_parts m d D Ez Ew Yz Yw Cz Cw e f h k =
     let x : m *ℤ Ez +ℤ m *ℤ Yz ≡ m *ℤ (D *ℤ Cz) = whole m Ez Yz (D *ℤ Cz) e in
     let y : d *ℤ Ew +ℤ d *ℤ Yw ≡ d *ℤ (D *ℤ Cw) = whole d Ew Yw (D *ℤ Cw) f in
@@ -64,10 +73,15 @@ both_parts m d D Ez Ew Yz Yw Cz Cw e f h k =
     added : (a b c e f g : ℤ) → a +ℤ b ≡ c → e +ℤ f ≡ g → a ≤ℤ e → b ≤ℤ f → c ≤ℤ g
     added a b c e f g x y h k = omega (arith, ints)
 
--- where no column and no row of w comes cheaper, w costs no less: the two sums exchanged
-pub optimal_by_signs : {X Y : Type 0} (columns : List X) (rows : List Y) (rate : Y → X → ℤ) (c z w : X → ℤ) (y : Y → ℤ) (D d m : ℤ) → pos 0 <ℤ D
-    → AllByRecursion (λ i. (m *ℤ ((D *ℤ c i -ℤ total (λ j. y j *ℤ rate j i) rows) *ℤ z i)) ≤ℤ (d *ℤ ((D *ℤ c i -ℤ total (λ j. y j *ℤ rate j i) rows) *ℤ w i))) columns
-    → AllByRecursion (λ j. (m *ℤ (y j *ℤ total (λ i. rate j i *ℤ z i) columns)) ≤ℤ (d *ℤ (y j *ℤ total (λ i. rate j i *ℤ w i) columns))) rows
+-- if no column and no row of w is cheaper, w costs no less: the two sums exchanged
+pub optimal_by_signs : {X Y : Type 0} (columns : List X) (rows : List Y) (rate : Y → X → ℤ)
+    (c z w : X → ℤ) (y : Y → ℤ) (D d m : ℤ) → pos 0 <ℤ D
+    → AllByRecursion
+    (λ i. (m *ℤ ((D *ℤ c i -ℤ total (λ j. y j *ℤ rate j i) rows) *ℤ z i))
+    ≤ℤ (d *ℤ ((D *ℤ c i -ℤ total (λ j. y j *ℤ rate j i) rows) *ℤ w i))) columns
+    → AllByRecursion
+    (λ j. (m *ℤ (y j *ℤ total (λ i. rate j i *ℤ z i) columns))
+    ≤ℤ (d *ℤ (y j *ℤ total (λ i. rate j i *ℤ w i) columns))) rows
     → (m *ℤ total (λ i. c i *ℤ z i) columns) ≤ℤ (d *ℤ total (λ i. c i *ℤ w i) columns)
 optimal_by_signs {X} {Y} columns rows rate c z w y D d m positive boxes ranges =
     let e : X → ℤ = λ i. D *ℤ c i -ℤ total (λ j. y j *ℤ rate j i) rows in
@@ -77,10 +91,15 @@ optimal_by_signs {X} {Y} columns rows rate c z w y D d m positive boxes ranges =
     let Cw = total (λ i. c i *ℤ w i) columns in
     let box = total-le (λ i. m *ℤ (e i *ℤ z i)) (λ i. d *ℤ (e i *ℤ w i)) columns boxes in
     let range = total-le (λ j. m *ℤ gz j) (λ j. d *ℤ gw j) rows ranges in
-    let scaled = both_parts m d D (total (λ i. e i *ℤ z i) columns) (total (λ i. e i *ℤ w i) columns) (total gz rows) (total gw rows) Cz Cw
+    let scaled =
+    both_parts m d D (total (λ i. e i *ℤ z i) columns) (total (λ i. e i *ℤ w i) columns)
+    (total gz rows) (total gw rows) Cz Cw
     (reduced_costs columns rows rate c z y D) (reduced_costs columns rows rate c w y D)
-    (rw (total-mul m (λ i. e i *ℤ z i) columns, total-mul d (λ i. e i *ℤ w i) columns) at box) (rw (total-mul m gz rows, total-mul d gw rows) at range) in
-    cancel_le D (m *ℤ Cz) (d *ℤ Cw) positive (join (D *ℤ (m *ℤ Cz)) (m *ℤ (D *ℤ Cz)) (d *ℤ (D *ℤ Cw)) (D *ℤ (d *ℤ Cw)) (swapped D m Cz) scaled (swapped d D Cw))
+    (rw (total-mul m (λ i. e i *ℤ z i) columns, total-mul d (λ i. e i *ℤ w i) columns) at box)
+    (rw (total-mul m gz rows, total-mul d gw rows) at range) in
+    cancel_le D (m *ℤ Cz) (d *ℤ Cw) positive
+    (join (D *ℤ (m *ℤ Cz)) (m *ℤ (D *ℤ Cz)) (d *ℤ (D *ℤ Cw)) (D *ℤ (d *ℤ Cw)) (swapped D m Cz)
+    scaled (swapped d D Cw))
   where
     swapped : (a b c : ℤ) → a *ℤ (b *ℤ c) ≡ b *ℤ (a *ℤ c)
     swapped a b c = ring (V a ⊗ (V b ⊗ V c)) (V b ⊗ (V a ⊗ V c)) (omega arith)

@@ -1,5 +1,6 @@
 -- What is found on the way to the divisors of a problem's numbers.
-use Rattle.std.specs.Prelude.{◌≡◌, ℕ, ◌<◌, ℤ, pos, ◌≤ℤ◌, List, length, slice_index_or, int_div, unsigned_abs}
+use Rattle.std.specs.Prelude.{◌≡◌, ℕ, ◌<◌, ℤ, pos, ◌≤ℤ◌, List, length, slice_index_or, int_div}
+use Rattle.std.specs.Prelude.{unsigned_abs}
 use Rattle.std.specs.Int.{◌∣◌}
 use Rattle.pns_rules.specs.Nodes.{Node}
 use Rattle.flow_rules.specs.Net.{Net}
@@ -9,9 +10,12 @@ use Rattle.flow_rules.specs.Relaxed.{row_low, row_high, unit_low, unit_cost}
 pub record AreRateDivisors (net : Net) (taken : Node) (rates : List ℤ) (k : ℕ) : Type 0 where
   pub count : length rates ≡ k
   pub positive : (j : ℕ) → j < k → pos 1 ≤ℤ slice_index_or rates j (pos 0)
-  pub divides : (j i : ℕ) → j < k → i < net.graph.units → unsigned_abs (slice_index_or rates j (pos 0)) ∣ unsigned_abs (net.rate j i)
-  pub low : (j : ℕ) → j < k → unsigned_abs (slice_index_or rates j (pos 0)) ∣ unsigned_abs (row_low net taken j)
-  pub high : (j : ℕ) → j < k → unsigned_abs (slice_index_or rates j (pos 0)) ∣ unsigned_abs (row_high net taken j)
+  pub divides : (j i : ℕ) → j < k → i < net.graph.units
+      → unsigned_abs (slice_index_or rates j (pos 0)) ∣ unsigned_abs (net.rate j i)
+  pub low : (j : ℕ) → j < k
+      → unsigned_abs (slice_index_or rates j (pos 0)) ∣ unsigned_abs (row_low net taken j)
+  pub high : (j : ℕ) → j < k
+      → unsigned_abs (slice_index_or rates j (pos 0)) ∣ unsigned_abs (row_high net taken j)
 
 -- common divisors of the sizes and of the costs of the first k units
 pub record AreUnitDivisors (net : Net) (taken free : Node) (sizes costs : ℤ) (k : ℕ) : Type 0 where
@@ -23,4 +27,6 @@ pub record AreUnitDivisors (net : Net) (taken free : Node) (sizes costs : ℤ) (
 -- a divisor of the ends of a row, these divided by that of the material's rates
 abbrev pub DividesRow : Net → Node → List ℤ → ℤ → ℕ → Type 0
 DividesRow net taken rates g j =
-    (unsigned_abs g ∣ unsigned_abs (int_div (row_low net taken j) (slice_index_or rates j (pos 0)))) × (unsigned_abs g ∣ unsigned_abs (int_div (row_high net taken j) (slice_index_or rates j (pos 0))))
+    (unsigned_abs g ∣ unsigned_abs (int_div (row_low net taken j) (slice_index_or rates j (pos 0))))
+    × (unsigned_abs g ∣ unsigned_abs
+    (int_div (row_high net taken j) (slice_index_or rates j (pos 0))))

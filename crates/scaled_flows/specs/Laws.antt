@@ -1,4 +1,5 @@
--- Laws of scaled flows. Each speaks of every problem and every node, and of any divisors of the problem's numbers.
+-- Laws of scaled flows. Each holds for every problem and every node, and for any divisors of the
+-- problem's numbers.
 use Rattle.std.specs.Prelude.{◌≡◌, ℕ, ℤ, ◌*ℤ◌}
 use Rattle.problem_rules.specs.Problem.{Problem}
 use Rattle.pns_rules.specs.Nodes.{Node}
@@ -9,10 +10,12 @@ use Rattle.scaled_flows.specs.Scaled.{value_over}
 use Rattle.scaled_flows.specs.Settled.{AreSettled}
 use Rattle.scaled_flows.specs.LeastCost.{IsLeastCost}
 
--- scaled sizes over d that are in their ranges, times the divisor of sizes, are relaxed flows of the node
+-- scaled sizes over d that are in their ranges, times the divisor of sizes, are relaxed flows of
+-- the node
 abbrev pub SettledAreRelaxed : Type 0
 SettledAreRelaxed =
-    (p : Problem) (s : Divisors) → AreDivisors (net_of p) s → (n : Node) (z : ℕ → ℤ) (d scale : ℤ) (y : ℕ → ℤ) → AreSettled (net_of p) s n z d scale y
+    (p : Problem) (s : Divisors) → AreDivisors (net_of p) s
+    → (n : Node) (z : ℕ → ℤ) (d scale : ℤ) (y : ℕ → ℤ) → AreSettled (net_of p) s n z d scale y
     → IsRelaxed (net_of p) n (λ i. s.sizes *ℤ z i) d
 
 -- what they cost
@@ -21,8 +24,9 @@ CostIsCounted =
     (p : Problem) (s : Divisors) → AreDivisors (net_of p) s → (n : Node) (z : ℕ → ℤ) (d : ℤ)
     → relaxed_cost (net_of p) n (λ i. s.sizes *ℤ z i) d ≡ value_over (net_of p) s n z d
 
--- where signs show that the sizes are optimal, their cost is the least
+-- if signs show that the sizes are optimal, their cost is the least
 abbrev pub SettledAreOptimal : Type 0
 SettledAreOptimal =
-    (p : Problem) (s : Divisors) → AreDivisors (net_of p) s → (n : Node) (z : ℕ → ℤ) (d scale : ℤ) (y : ℕ → ℤ) → AreSettled (net_of p) s n z d scale y
+    (p : Problem) (s : Divisors) → AreDivisors (net_of p) s
+    → (n : Node) (z : ℕ → ℤ) (d scale : ℤ) (y : ℕ → ℤ) → AreSettled (net_of p) s n z d scale y
     → IsLeastCost p n (value_over (net_of p) s n z d) d

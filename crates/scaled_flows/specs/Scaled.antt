@@ -1,9 +1,11 @@
--- The flow program of a node, divided: its scaled rates, ranges and costs, and what sizes make of them.
+-- The flow program of a node, divided: its scaled rates, ranges and costs, and what sizes cost and
+-- leave over by them.
 use Rattle.std.specs.Prelude.{ℕ, ℤ, ◌+ℤ◌, ◌-ℤ◌, ◌*ℤ◌, int_div}
 use Rattle.integer_laws.specs.Total.{total}
 use Rattle.pns_rules.specs.Nodes.{Node}
 use Rattle.flow_rules.specs.Net.{Net}
-use Rattle.flow_rules.specs.Relaxed.{units, rows, row_low, row_high, unit_low, unit_cost, fixed_cost}
+use Rattle.flow_rules.specs.Relaxed.{units, rows, row_low, row_high, unit_low, unit_cost}
+use Rattle.flow_rules.specs.Relaxed.{fixed_cost}
 use Rattle.scaled_flows.specs.Divisors.{Divisors, rate_divisor}
 
 abbrev pub scaled_rate : Net → Divisors → ℕ → ℕ → ℤ
@@ -32,7 +34,8 @@ scaled_balance net s n z j = total (λ i. scaled_rate net s j i *ℤ z i) (units
 
 -- the cost of a scaled size less what the multipliers pay for it
 abbrev pub price : Net → Divisors → Node → ℤ → (ℕ → ℤ) → ℕ → ℤ
-price net s n scale y i = scale *ℤ scaled_cost net s n i -ℤ total (λ j. y j *ℤ scaled_rate net s j i) (rows net n)
+price net s n scale y i =
+    scale *ℤ scaled_cost net s n i -ℤ total (λ j. y j *ℤ scaled_rate net s j i) (rows net n)
 
 -- what scaled sizes cost
 abbrev pub size_costs : Net → Divisors → Node → (ℕ → ℤ) → ℤ

@@ -1,6 +1,7 @@
-//! How the divisors of a problem's numbers are found: those of the node where all units are taken in, and of the one where all
-//! are free.
-ghost use Rattle.std.specs.Prelude.{◌≡◌, ◌<◌, ◌≤ℤ◌, ◌*ℤ◌, ℕ, pos, true, length, int_div, unsigned_abs, slice_index_or, IfOk};
+//! How the divisors of a problem's numbers are found: from the node with all units taken in, and
+//! the node with all free.
+ghost use Rattle.std.specs.Prelude.{◌≡◌, ◌<◌, ◌≤ℤ◌, ◌*ℤ◌, ℕ, pos, true, length, int_div};
+ghost use Rattle.std.specs.Prelude.{unsigned_abs, slice_index_or, IfOk};
 ghost use Rattle.std.specs.Int.{◌∣◌};
 ghost use Rattle.integer_laws.specs.Range.{InRange};
 ghost use Rattle.number_sets.specs.Sets.{has};
@@ -35,7 +36,7 @@ fn with_both(common: i128, first: i128, second: i128) -> i128
     gcd(inner, second)
 }
 
-/// The divisor, or 1, which divides all, where it is below 1 or an `i64` does not hold it.
+/// The divisor; or 1, which divides all, if it is below 1 or does not fit an `i64`.
 pub(crate) fn narrowed(divisor: i128) -> i64
     ensures positive { pos 1 ≤ℤ result }
     ensures divides { unsigned_abs result ∣ unsigned_abs divisor }
@@ -47,7 +48,7 @@ pub(crate) fn narrowed(divisor: i128) -> i64
     }
 }
 
-/// The divisor, or 1 where it is below 1.
+/// The divisor, or 1 if it is below 1.
 fn at_least_one(divisor: i128) -> i128
     ensures positive { pos 1 ≤ℤ result }
     ensures divides { unsigned_abs result ∣ unsigned_abs divisor }
@@ -60,9 +61,12 @@ fn rate_divisor(problem: &Problem, taken: &Node, needed: MatSet, j: u32) -> i64
     requires known { j < length problem.now.materials }
     requires needed { AreNeeded (shape_of problem.now) (node_of taken.now) needed }
     ensures positive { pos 1 ≤ℤ result }
-    ensures rates { (i : ℕ) → i < length problem.now.units → unsigned_abs result ∣ unsigned_abs (rate_of problem.now j i) }
-    ensures low { unsigned_abs result ∣ unsigned_abs (row_low (net_of problem.now) (node_of taken.now) j) }
-    ensures high { unsigned_abs result ∣ unsigned_abs (row_high (net_of problem.now) (node_of taken.now) j) }
+    ensures rates { (i : ℕ) → i < length problem.now.units
+        → unsigned_abs result ∣ unsigned_abs (rate_of problem.now j i) }
+    ensures low { unsigned_abs result ∣ unsigned_abs
+        (row_low (net_of problem.now) (node_of taken.now) j) }
+    ensures high { unsigned_abs result ∣ unsigned_abs
+        (row_high (net_of problem.now) (node_of taken.now) j) }
 {
     problem.is_valid();
     let range = row_range(problem, taken, needed, j);
@@ -83,7 +87,9 @@ pub(crate) fn rate_divisors(
     needed: MatSet,
 ) -> Result<Vec<i64>, AllocError>
     requires needed { AreNeeded (shape_of problem.now) (node_of taken.now) needed }
-    ensures { IfOk result (λ rates. AreRateDivisors (net_of problem.now) (node_of taken.now) rates.items (length problem.now.materials)) }
+    ensures { IfOk result
+        (λ rates. AreRateDivisors (net_of problem.now) (node_of taken.now) rates.items
+        (length problem.now.materials)) }
 {
     problem.is_valid();
     let mut rates = Vec::new(alloc);
@@ -94,7 +100,8 @@ pub(crate) fn rate_divisors(
     Ok(rates)
 }
 
-/// Common divisors of the numbers of all units: of their sizes, and of what a size of 1 costs. Each is 0 where all of these are.
+/// Common divisors of the numbers of all units: of their sizes, and of what a size of 1 costs. A
+/// divisor is 0 if all its numbers are.
 #[derive(Clone, Copy)]
 pub(crate) struct UnitDivisors {
     pub(crate) sizes: i128,
@@ -116,10 +123,13 @@ fn with_unit(
     requires graph { shape graph.now ≡ shape_of problem.now }
     ensures sizes { unsigned_abs result.sizes ∣ unsigned_abs common.sizes }
     ensures costs { unsigned_abs result.costs ∣ unsigned_abs common.costs }
-    ensures low { unsigned_abs result.sizes ∣ unsigned_abs (unit_low (net_of problem.now) (node_of taken.now) u) }
+    ensures low { unsigned_abs result.sizes ∣ unsigned_abs
+        (unit_low (net_of problem.now) (node_of taken.now) u) }
     ensures high { unsigned_abs result.sizes ∣ unsigned_abs ((net_of problem.now).most u) }
-    ensures taken_cost { unsigned_abs result.costs ∣ unsigned_abs (unit_cost (net_of problem.now) (node_of taken.now) u) }
-    ensures free_cost { unsigned_abs result.costs ∣ unsigned_abs (unit_cost (net_of problem.now) (node_of free.now) u) }
+    ensures taken_cost { unsigned_abs result.costs ∣ unsigned_abs
+        (unit_cost (net_of problem.now) (node_of taken.now) u) }
+    ensures free_cost { unsigned_abs result.costs ∣ unsigned_abs
+        (unit_cost (net_of problem.now) (node_of free.now) u) }
 {
     graph.is_proper();
     let mut rates = [0; 256];
@@ -140,7 +150,8 @@ pub(crate) fn unit_divisors(
     free: &Node,
 ) -> UnitDivisors
     requires graph { shape graph.now ≡ shape_of problem.now }
-    ensures { AreUnitDivisors (net_of problem.now) (node_of taken.now) (node_of free.now) result.sizes result.costs (length problem.now.units) }
+    ensures { AreUnitDivisors (net_of problem.now) (node_of taken.now) (node_of free.now)
+        result.sizes result.costs (length problem.now.units) }
 {
     problem.is_valid();
     let mut common = UnitDivisors { sizes: 0, costs: 0 };
@@ -151,7 +162,8 @@ pub(crate) fn unit_divisors(
     common
 }
 
-/// A common divisor of a number and of the ends of the rows, each divided by the divisor of its material's rates.
+/// A common divisor of a number and of the ends of the rows, each divided by the divisor of its
+/// material's rates.
 pub(crate) fn with_rows(
     common: i128,
     problem: &Problem,
@@ -163,9 +175,11 @@ pub(crate) fn with_rows(
     requires common_in_range { InRange common }
     requires known { (j : ℕ) → has rows j ≡ true → j < length problem.now.materials }
     requires needed { AreNeeded (shape_of problem.now) (node_of taken.now) needed }
-    requires rates { AreRateDivisors (net_of problem.now) (node_of taken.now) rates.now (length problem.now.materials) }
+    requires rates { AreRateDivisors (net_of problem.now) (node_of taken.now) rates.now
+        (length problem.now.materials) }
     ensures common { unsigned_abs result ∣ unsigned_abs common }
-    ensures rows { (j : ℕ) → has rows j ≡ true → DividesRow (net_of problem.now) (node_of taken.now) rates.now result j }
+    ensures rows { (j : ℕ) → has rows j ≡ true
+        → DividesRow (net_of problem.now) (node_of taken.now) rates.now result j }
 {
     let mut all = common;
     for j in rows {
@@ -176,7 +190,7 @@ pub(crate) fn with_rows(
     all
 }
 
-/// The divisor of costs, or 1 where it and that of sizes make a product out of range.
+/// The divisor of costs, or 1 if its product with that of sizes is out of range.
 pub(crate) fn cost_divisor(costs: i128, sizes: i64) -> i128
     ensures positive { pos 1 ≤ℤ result }
     ensures divides { unsigned_abs result ∣ unsigned_abs costs }

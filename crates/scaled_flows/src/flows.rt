@@ -19,9 +19,11 @@ use pgraph::Graph;
 use pns_problem::Problem;
 use unit_sets::Node;
 
-/// What guessed flows of the node cost, in 10^-18 of the money unit times the payout period: scaled sizes over `d`, one for each unit
-/// of the node's program in rising order. None where a size or a row is not in its range, or a number on the way is out of range; what
-/// the sizes cost in all may be. Linear in the number of rates of the units that are not left out; takes no memory.
+/// What guessed flows of the node cost, in 10^-18 of the money unit times the payout period. They
+/// are scaled sizes over `d`, one for each unit of the node's program in rising order. `None` if a
+/// size or a row is not in its range, or a number on the way is out of range; but the sum of what
+/// the sizes cost may be. Linear in the number of rates of the units that are not left out. It
+/// takes no memory.
 pub fn cost_of_sizes(
     problem: &Problem,
     graph: &Graph,
@@ -33,7 +35,8 @@ pub fn cost_of_sizes(
     requires graph { shape graph.now ≡ shape_of problem.now }
     requires scales { AreDivisors (net_of problem.now) scales.now }
     requires known { (u : ℕ) → has node.inside u ≡ true → u < (shape graph.now).units }
-    ensures { IfSome result (λ v. HasCheaper problem.now (node_of node) (numerator v) (denominator v)) }
+    ensures { IfSome result
+        (λ v. HasCheaper problem.now (node_of node) (numerator v) (denominator v)) }
 {
     problem.is_valid();
     node.inside.rises();
@@ -42,7 +45,8 @@ pub fn cost_of_sizes(
         return None;
     }
     let size_at = by_unit(sets.units, sizes);
-    // With a scale and multipliers of 0 all prices are 0, and no size and no row has to be at an end.
+    // With a scale and multipliers of 0 all prices are 0, and no size and no row has to be at an
+    // end.
     let y_at = [0; 256];
     if !are_rows_settled(problem, graph, scales, &node, &sets, &size_at, d, &y_at) {
         return None;

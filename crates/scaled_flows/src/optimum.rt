@@ -18,8 +18,8 @@ use pgraph::Graph;
 use pns_problem::Problem;
 use unit_sets::Node;
 
-/// What was guessed of a node's program: scaled sizes over `d`, one for each unit of the program in rising order, and scaled
-/// multipliers over `scale`, one for each row in rising order.
+/// What was guessed of a node's program: scaled sizes over `d`, one for each unit of the program in
+/// rising order, and scaled multipliers over `scale`, one for each row in rising order.
 #[derive(Clone, Copy)]
 pub struct Guessed<'a> {
     pub sizes: &'a [i128],
@@ -28,7 +28,8 @@ pub struct Guessed<'a> {
     pub scale: i128,
 }
 
-/// What a scaled cost of 1 of a scaled size of 1 is worth, in 10^-18 of the money unit times the payout period.
+/// What a scaled cost of 1 of a scaled size of 1 is worth, in 10^-18 of the money unit times the
+/// payout period.
 pub(crate) fn worth_of(scales: &Scales) -> Option<i128>
     requires costs { pos 1 ≤ℤ scales.now.costs }
     requires sizes { pos 1 ≤ℤ scales.now.sizes }
@@ -38,9 +39,11 @@ pub(crate) fn worth_of(scales: &Scales) -> Option<i128>
     scales.costs().checked_mul(scales.sizes() as i128)
 }
 
-/// The least cost of the node's relaxed flows, where the guess passes the exact check, in 10^-18 of the money unit times the payout
-/// period. It passes where each size and each row is in its range, at an end of it where its price is not 0, and no number
-/// on the way is out of range; what the sizes cost in all may be. Linear in the number of rates of the units that are not left out; takes no memory.
+/// The least cost of the node's relaxed flows, in 10^-18 of the money unit times the payout period,
+/// if the guess passes the exact check. It passes if each size and each row is in its range, at an
+/// end of it if its price is not 0, and no number on the way is out of range; but the sum of what
+/// the sizes cost may be. Linear in the number of rates of the units that are not left out. It
+/// takes no memory.
 pub fn least_value(
     problem: &Problem,
     graph: &Graph,
@@ -51,7 +54,8 @@ pub fn least_value(
     requires graph { shape graph.now ≡ shape_of problem.now }
     requires scales { AreDivisors (net_of problem.now) scales.now }
     requires known { (u : ℕ) → has node.inside u ≡ true → u < (shape graph.now).units }
-    ensures { IfSome result (λ v. IsLeastCost problem.now (node_of node) (numerator v) (denominator v)) }
+    ensures { IfSome result
+        (λ v. IsLeastCost problem.now (node_of node) (numerator v) (denominator v)) }
 {
     problem.is_valid();
     node.inside.rises();

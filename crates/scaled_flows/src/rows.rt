@@ -1,5 +1,6 @@
 //! What scaled sizes leave over of materials.
-ghost use Rattle.std.specs.Prelude.{◌≡◌, ◌<◌, ◌≤ℤ◌, ◌*ℤ◌, ℕ, pos, true, length, int_div, IsTrue, IfSome};
+ghost use Rattle.std.specs.Prelude.{◌≡◌, ◌<◌, ◌≤ℤ◌, ◌*ℤ◌, ℕ, pos, true, length, int_div, IsTrue};
+ghost use Rattle.std.specs.Prelude.{IfSome};
 ghost use Rattle.integer_laws.specs.Total.{total};
 ghost use Rattle.number_sets.specs.Sets.{has};
 ghost use Rattle.problem_rules.specs.Problem.{rate_of};
@@ -31,7 +32,9 @@ fn balance_of(
     requires known { (u : ℕ) → has units u ≡ true → u < length problem.now.units }
     requires all_sizes { length size_at.now ≡ 128 }
     requires positive { pos 1 ≤ℤ divisor }
-    ensures { IfSome result (λ b. b ≡ total (λ i. int_div (rate_of problem.now j i) divisor *ℤ entry size_at.now i) units) }
+    ensures { IfSome result
+        (λ b. b ≡ total (λ i. int_div (rate_of problem.now j i) divisor *ℤ entry size_at.now i)
+        units) }
 {
     let mut sum = 0;
     for u in units {
@@ -67,7 +70,7 @@ fn scaled_range(range: Range, divisor: i128) -> Range
     }
 }
 
-/// Whether what each row leaves over is where the row's multiplier wants it. A number out of range is a no.
+/// Whether each row leaves over what its multiplier needs. A number out of range is a no.
 pub(crate) fn are_rows_settled(
     problem: &Problem,
     graph: &Graph,
@@ -80,11 +83,14 @@ pub(crate) fn are_rows_settled(
 ) -> bool
     requires graph { shape graph.now ≡ shape_of problem.now }
     requires scales { AreDivisors (net_of problem.now) scales.now }
-    requires sets { AreSetsOf (shape_of problem.now) (node_of node.now) sets.now.units sets.now.rows sets.now.needed }
+    requires sets { AreSetsOf (shape_of problem.now) (node_of node.now) sets.now.units sets.now.rows
+        sets.now.needed }
     requires all_sizes { length size_at.now ≡ 128 }
     requires all_ys { length y_at.now ≡ 256 }
     requires positive { pos 1 ≤ℤ d }
-    ensures { IsTrue result → (j : ℕ) → has sets.now.rows j ≡ true → IsRowSettled (net_of problem.now) scales.now (node_of node.now) (entry size_at.now) d (entry y_at.now) j }
+    ensures { IsTrue result → (j : ℕ) → has sets.now.rows j ≡ true
+        → IsRowSettled (net_of problem.now) scales.now (node_of node.now) (entry size_at.now) d
+        (entry y_at.now) j }
 {
     problem.is_valid();
     for j in sets.rows {

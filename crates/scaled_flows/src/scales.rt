@@ -13,7 +13,8 @@ use std::alloc::{AllocError, Global};
 use std::marker::Model;
 use unit_sets::{Node, UnitSet};
 
-/// Common divisors of a problem's numbers, by which its flow programs are scaled. All are at least 1.
+/// Common divisors of a problem's numbers, by which its flow programs are scaled. All are at least
+/// 1.
 #[derive(Drop)]
 pub struct Scales {
     rates: Vec<i64>,
@@ -30,7 +31,8 @@ impl Model for Scales {
 }
 
 impl Scales {
-    /// The divisors of a problem's numbers. Only want of memory is an error. Quadratic in the size of the problem at worst.
+    /// The divisors of a problem's numbers. Only memory that runs out is an error. At worst
+    /// quadratic in the size of the problem.
     pub fn of(alloc: Global, problem: &Problem, graph: &Graph) -> Result<Scales, AllocError>
         requires { shape graph.now ≡ shape_of problem.now }
         ensures { IfOk result (λ s. AreDivisors (net_of problem.now) s) }
@@ -78,7 +80,7 @@ impl Scales {
         self.sizes
     }
 
-    /// The divisor of what a size of 1 costs, with and without the slope that stands for a fixed cost.
+    /// The divisor of what a size of 1 costs, with and without the slope for a fixed cost.
     pub fn costs(&self) -> i128
         ensures { result ≡ self.now.costs }
     {

@@ -1,5 +1,6 @@
 //! The scaled sizes of units and what they cost.
-ghost use Rattle.std.specs.Prelude.{◌≡◌, ◌<◌, ◌≤ℤ◌, ◌-ℤ◌, ◌*ℤ◌, ℕ, pos, true, length, int_div, IfSome};
+ghost use Rattle.std.specs.Prelude.{◌≡◌, ◌<◌, ◌≤ℤ◌, ◌-ℤ◌, ◌*ℤ◌, ℕ, pos, true, length, int_div};
+ghost use Rattle.std.specs.Prelude.{IfSome};
 ghost use Rattle.integer_laws.specs.Total.{total};
 ghost use Rattle.integer_laws.specs.Range.{InRange};
 ghost use Rattle.number_sets.specs.Sets.{has};
@@ -32,7 +33,10 @@ fn price_of(
     requires divisors { HasDivisors scales.now materials }
     requires all_rates { length rates.now ≡ 256 }
     requires all_ys { length y_at.now ≡ 256 }
-    ensures { IfSome result (λ e. e ≡ cost -ℤ total (λ j. entry y_at.now j *ℤ int_div (entry rates.now j) (rate_divisor scales.now j)) materials) }
+    ensures { IfSome result
+        (λ e. e ≡ cost -ℤ total
+        (λ j. entry y_at.now j *ℤ int_div (entry rates.now j) (rate_divisor scales.now j))
+        materials) }
 {
     let mut rest = cost;
     for j in materials {
@@ -62,7 +66,7 @@ fn scaled_unit(unit: UnitNumbers, sizes: i64, costs: i128) -> UnitNumbers
     }
 }
 
-/// What the scaled size of a unit costs, where it is in its range as its price wants it.
+/// What the scaled size of a unit costs, if it is in its range at the place that its price needs.
 fn settled_cost(
     unit: UnitNumbers,
     size: i128,
@@ -78,7 +82,11 @@ fn settled_cost(
     requires all_ys { length y_at.now ≡ 256 }
     requires positive { pos 1 ≤ℤ d }
     requires ordered { unit.low ≤ℤ unit.high }
-    ensures settled { IfSome result (λ c. IsSettled unit.low unit.high d size (scale *ℤ unit.cost -ℤ total (λ j. entry y_at.now j *ℤ int_div (entry rates.now j) (rate_divisor scales.now j)) materials)) }
+    ensures settled { IfSome result
+        (λ c. IsSettled unit.low unit.high d size
+        (scale *ℤ unit.cost -ℤ total
+        (λ j. entry y_at.now j *ℤ int_div (entry rates.now j) (rate_divisor scales.now j))
+        materials)) }
     ensures cost { IfSome result (λ c. c ≡ unit.cost *ℤ size) }
 {
     let cost = checked_product(scale, unit.cost)?;
@@ -94,7 +102,7 @@ fn settled_cost(
     }
 }
 
-/// What the scaled sizes cost, where each is in its range as its price wants it.
+/// What the scaled sizes cost, if each is in its range at the place that its price needs.
 pub(crate) fn settled_costs(
     problem: &Problem,
     graph: &Graph,
@@ -112,8 +120,13 @@ pub(crate) fn settled_costs(
     requires all_sizes { length size_at.now ≡ 128 }
     requires all_ys { length y_at.now ≡ 256 }
     requires positive { pos 1 ≤ℤ d }
-    ensures settled { IfSome result (λ c. (i : ℕ) → has set i ≡ true → IsSizeSettled (net_of problem.now) scales.now (node_of node.now) (entry size_at.now) d scale (entry y_at.now) i) }
-    ensures cost { IfSome result (λ c. c ≡ size_costs (net_of problem.now) scales.now (node_of node.now) (entry size_at.now)) }
+    ensures settled { IfSome result
+        (λ c. (i : ℕ) → has set i ≡ true
+        → IsSizeSettled (net_of problem.now) scales.now (node_of node.now) (entry size_at.now) d
+        scale (entry y_at.now) i) }
+    ensures cost { IfSome result
+        (λ c. c ≡ size_costs (net_of problem.now) scales.now (node_of node.now)
+        (entry size_at.now)) }
     ensures in_range { IfSome result (λ c. InRange c) }
 {
     problem.is_valid();

@@ -1,11 +1,14 @@
--- Each kind of fault of form beside its neighbours in the order: lines that have several faults tell the least number.
+-- Each kind of fault of form together with its neighbours in the order: of several faults of a line
+-- the least number is reported.
 use Rattle.std.proofs.Common.{◌++◌, List, [], ◌∷◌, codes, refl, ℕ}
 use Rattle.script_rules.specs.declared.EditKind.{EditKind}
-use Rattle.script_rules.specs.declared.EditKind.TheVariants.{FileType, BadLine, BadName, BadNumber, TooFine, TooLarge, Sign, BadTerms, BadMembers}
+use Rattle.script_rules.specs.declared.EditKind.TheVariants.{FileType, BadLine, BadName, BadNumber}
+use Rattle.script_rules.specs.declared.EditKind.TheVariants.{TooFine, TooLarge, Sign, BadTerms}
+use Rattle.script_rules.specs.declared.EditKind.TheVariants.{BadMembers}
 use Rattle.script_rules.specs.Fault.{Fault}
 use Rattle.script_rules.proofs.Texts.{text_of, body, Told, First}
 
--- no form
+-- a bad form
 bad_lines : List (List ℕ × EditKind)
 bad_lines =
     (codes "x", BadLine) ∷
@@ -48,7 +51,7 @@ bad_lines_told : Told bad_lines
 unfolding bad_lines
 bad_lines_told = refl
 
--- no names
+-- bad names
 bad_names : List (List ℕ × EditKind)
 bad_names =
     (codes "price 9 x", BadName) ∷
@@ -70,7 +73,7 @@ bad_names_told : Told bad_names
 unfolding bad_names
 bad_names_told = refl
 
--- no numbers, places or years
+-- bad numbers, places or years
 bad_numbers : List (List ℕ × EditKind)
 bad_numbers =
     (codes "price A 1e1000", BadNumber) ∷
@@ -162,8 +165,9 @@ bad_members_told : Told bad_members
 unfolding bad_members
 bad_members_told = refl
 
--- whole texts: the least line is told, and an empty line and a remark are counted; a carriage return is dropped at a line's end
--- alone, and neither a byte order mark nor a tab is
+-- Whole texts. The fault of the first line is reported, and an empty line and a remark are counted.
+-- A carriage return is dropped only at a line's end; neither a byte order mark nor a tab is
+-- dropped.
 texts : List (List ℕ × Fault)
 texts =
     ([], (1, FileType))
@@ -174,12 +178,18 @@ texts =
     ∷ (text_of (codes "file_type=PNS_problem_v1" ∷ []), (1, FileType))
     ∷ (text_of (codes "file_type=PNS_edits_v1 " ∷ []), (1, FileType))
     ∷ (body ([] ∷ [] ∷ codes "x" ∷ codes "price 9 x" ∷ []), (4, BadLine))
-    ∷ (body (codes "# a remark" ∷ (32 ∷ 9 ∷ codes "#") ∷ codes "x" ∷ codes "price 9 x" ∷ []), (4, BadLine))
+    ∷ (
+      body (codes "# a remark" ∷ (32 ∷ 9 ∷ codes "#") ∷ codes "x" ∷ codes "price 9 x" ∷ []),
+      (4, BadLine),
+    )
     ∷ (body ((13 ∷ codes "# a remark") ∷ []), (2, BadLine))
     ∷ (body (codes "exclude 0 X U1 U1" ∷ codes "x" ∷ []), (2, BadMembers))
     ∷ (body (codes "payout 0" ∷ codes "x" ∷ []), (2, BadNumber))
     ∷ (body [] ++ codes "remove_unit 9", (2, BadName))
-    ∷ (body ((codes "remove_unit U" ++ 13 ∷ []) ∷ (codes "remove_unit U" ++ 13 ∷ 13 ∷ []) ∷ []), (3, BadName))
+    ∷ (
+      body ((codes "remove_unit U" ++ 13 ∷ []) ∷ (codes "remove_unit U" ++ 13 ∷ 13 ∷ []) ∷ []),
+      (3, BadName),
+    )
     ∷ (body ((9 ∷ []) ∷ []), (2, BadLine))
     ∷ (body ((codes "payout" ++ 9 ∷ codes "1") ∷ []), (2, BadLine))
     ∷ []

@@ -1,9 +1,12 @@
--- Scripts that read, and what is printed of them: each form of a line, and numbers in several spellings.
+-- Scripts without a fault, and what is printed of them: each form of a line, and numbers in several
+-- spellings.
 use Rattle.std.proofs.Common.{◌≡◌, ◌++◌, ℕ, List, [], ◌∷◌, codes, refl, Ok, pos, negsuc}
 use Rattle.std.specs.Fmt.{digits}
 use Rattle.problem_rules.specs.Problem.{raw_material, product}
 use Rattle.problem_rules.specs.Problem as problem
-use Rattle.edit_rules.specs.Edit.{Edit, price, bounds, kind, capacity, fix, proportional, rename_material, rename_unit, add_material, remove_material, add_unit, remove_unit, exclude, unexclude, investment, payout}
+use Rattle.edit_rules.specs.Edit.{Edit, price, bounds, kind, capacity, fix, proportional}
+use Rattle.edit_rules.specs.Edit.{rename_material, rename_unit, add_material, remove_material}
+use Rattle.edit_rules.specs.Edit.{add_unit, remove_unit, exclude, unexclude, investment, payout}
 use Rattle.edit_rules.specs.Formed.{script_of}
 use Rattle.script_rules.specs.Printed.{script_text}
 use Rattle.script_rules.specs.Read.{read_script}
@@ -21,20 +24,29 @@ forms =
     ∷ (codes "proportional U -1", proportional (codes "U") (negsuc 999999))
     ∷ (codes "rename_material A A", rename_material (codes "A") (codes "A"))
     ∷ (codes "rename_unit U V", rename_unit (codes "U") (codes "V"))
-    ∷ (codes "add_material 4294967295 A product 1 2 3", add_material 4294967295 (codes "A") product (pos 1000000) (pos 2000000) (pos 3000000))
+    ∷ (
+      codes "add_material 4294967295 A product 1 2 3",
+      add_material 4294967295 (codes "A") product (pos 1000000) (pos 2000000) (pos 3000000),
+    )
     ∷ (codes "remove_material A", remove_material (codes "A"))
     ∷ (
       codes "add_unit 1 U2 0 100 1 1 : B => C",
       add_unit 1 (codes "U2") (pos 0) (pos 100000000) (pos 1000000) (pos 1000000)
-          (record { name = codes "B"; rate = pos 1000000 } ∷ []) (record { name = codes "C"; rate = pos 1000000 } ∷ []),
+          (record { name = codes "B"; rate = pos 1000000 } ∷ [])
+          (record { name = codes "C"; rate = pos 1000000 } ∷ []),
     )
     ∷ (
       codes "add_unit 0 U 0 1 0 -7 : 2 A + B => 0.5 C",
       add_unit 0 (codes "U") (pos 0) (pos 1000000) (pos 0) (negsuc 6999999)
-          (record { name = codes "A"; rate = pos 2000000 } ∷ record { name = codes "B"; rate = pos 1000000 } ∷ []) (record { name = codes "C"; rate = pos 500000 } ∷ []),
+          (record { name = codes "A"; rate = pos 2000000 }
+          ∷ record { name = codes "B"; rate = pos 1000000 } ∷ [])
+          (record { name = codes "C"; rate = pos 500000 } ∷ []),
     )
     ∷ (codes "remove_unit U2", remove_unit (codes "U2"))
-    ∷ (codes "exclude 10 X U2 U1 U3", exclude 10 (codes "X") (codes "U2" ∷ codes "U1" ∷ codes "U3" ∷ []))
+    ∷ (
+      codes "exclude 10 X U2 U1 U3",
+      exclude 10 (codes "X") (codes "U2" ∷ codes "U1" ∷ codes "U3" ∷ []),
+    )
     ∷ (codes "unexclude X", unexclude (codes "X"))
     ∷ (codes "investment U 100 10", investment (codes "U") (pos 100000000) (pos 10000000))
     ∷ (codes "payout 100", payout (pos 100))
@@ -58,7 +70,8 @@ spellings =
     ∷ (
       codes "add_unit 0 U 0 1 0 0 : 1 A => 1.0 B",
       add_unit 0 (codes "U") (pos 0) (pos 1000000) (pos 0) (pos 0)
-          (record { name = codes "A"; rate = pos 1000000 } ∷ []) (record { name = codes "B"; rate = pos 1000000 } ∷ []),
+          (record { name = codes "A"; rate = pos 1000000 } ∷ [])
+          (record { name = codes "B"; rate = pos 1000000 } ∷ []),
     )
     ∷ (codes "price price 1", price (codes "price") (pos 1000000))
     ∷ []
@@ -69,17 +82,22 @@ spellings_read = refl
 
 -- lines with carriage returns, empty lines between, and a last line without its line feed
 apart : List ℕ
-apart = codes "file_type=PNS_edits_v1" ++ 13 ∷ 10 ∷ 13 ∷ 10 ∷ codes "remove_unit U" ++ 13 ∷ 10 ∷ 10 ∷ codes "payout 2"
+apart = codes "file_type=PNS_edits_v1" ++ 13 ∷ 10 ∷ 13 ∷ 10 ∷ codes "remove_unit U" ++ 13 ∷ 10 ∷ 10
+    ∷ codes "payout 2"
 
-apart_read : read_script apart ≡ Ok (record { edits = remove_unit (codes "U") ∷ payout (pos 2) ∷ []; lines = 3 ∷ 5 ∷ [] })
+apart_read : read_script apart
+    ≡ Ok (record { edits = remove_unit (codes "U") ∷ payout (pos 2) ∷ []; lines = 3 ∷ 5 ∷ [] })
 unfolding apart
 apart_read = refl
 
--- remarks, of which one stands behind blanks and one is a line that would have been an edit
+-- remarks: one has blanks before it, and one is a line that would be an edit without its sign
 remarked : List ℕ
-remarked = body (codes "# a remark" ∷ codes "remove_unit U" ∷ (32 ∷ 9 ∷ codes "# 2") ∷ codes "#payout 3" ∷ (codes "payout 2" ++ 13 ∷ []) ∷ (35 ∷ 13 ∷ []) ∷ [])
+remarked =
+    body (codes "# a remark" ∷ codes "remove_unit U" ∷ (32 ∷ 9 ∷ codes "# 2") ∷ codes "#payout 3"
+    ∷ (codes "payout 2" ++ 13 ∷ []) ∷ (35 ∷ 13 ∷ []) ∷ [])
 
-remarked_read : read_script remarked ≡ Ok (record { edits = remove_unit (codes "U") ∷ payout (pos 2) ∷ []; lines = 3 ∷ 6 ∷ [] })
+remarked_read : read_script remarked
+    ≡ Ok (record { edits = remove_unit (codes "U") ∷ payout (pos 2) ∷ []; lines = 3 ∷ 6 ∷ [] })
 unfolding remarked
 remarked_read = refl
 
@@ -90,14 +108,19 @@ nothing_read = refl
 -- a migration over ten years, printed and read back
 migration : List Edit
 migration =
-    payout (pos 10) ∷ fix (codes "U1") (pos 0) ∷ proportional (codes "U1") (pos 0) ∷ investment (codes "U1") (pos 100000000) (pos 10000000)
-    ∷ fix (codes "U2") (pos 0) ∷ proportional (codes "U2") (pos 0) ∷ investment (codes "U2") (pos 10000000) (pos 10000000)
-    ∷ fix (codes "U3") (pos 0) ∷ proportional (codes "U3") (pos 0) ∷ investment (codes "U3") (pos 50000000) (pos 0) ∷ []
+    payout (pos 10) ∷ fix (codes "U1") (pos 0) ∷ proportional (codes "U1") (pos 0)
+    ∷ investment (codes "U1") (pos 100000000) (pos 10000000)
+    ∷ fix (codes "U2") (pos 0) ∷ proportional (codes "U2") (pos 0)
+    ∷ investment (codes "U2") (pos 10000000) (pos 10000000)
+    ∷ fix (codes "U3") (pos 0) ∷ proportional (codes "U3") (pos 0)
+    ∷ investment (codes "U3") (pos 50000000) (pos 0) ∷ []
 
 migration_lines : List (List ℕ)
 migration_lines =
-    codes "payout 10" ∷ codes "fix U1 0" ∷ codes "proportional U1 0" ∷ codes "investment U1 100 10" ∷ codes "fix U2 0" ∷ codes "proportional U2 0"
-    ∷ codes "investment U2 10 10" ∷ codes "fix U3 0" ∷ codes "proportional U3 0" ∷ codes "investment U3 50 0" ∷ []
+    codes "payout 10" ∷ codes "fix U1 0" ∷ codes "proportional U1 0" ∷ codes "investment U1 100 10"
+    ∷ codes "fix U2 0" ∷ codes "proportional U2 0"
+    ∷ codes "investment U2 10 10" ∷ codes "fix U3 0" ∷ codes "proportional U3 0"
+    ∷ codes "investment U3 50 0" ∷ []
 
 migration_read : read_script (body migration_lines) ≡ Ok (script_of migration)
 unfolding migration migration_lines

@@ -1,4 +1,4 @@
--- Small scripts to read, and what is told of them.
+-- Small scripts to read, and what is reported of them.
 use Rattle.std.proofs.Common.{◌≡◌, ◌++◌, ℕ, List, [], ◌∷◌, map, flat_map, codes, Ok, Err}
 use Rattle.edit_rules.specs.Edit.{Edit}
 use Rattle.edit_rules.specs.Formed.{script_of}
@@ -11,7 +11,7 @@ use Rattle.script_rules.specs.Read.{read_script}
 abbrev pub text_of : List (List ℕ) → List ℕ
 text_of lines = flat_map (λ line. line ++ 10 ∷ []) lines
 
--- behind the first line
+-- these lines after the first line
 abbrev pub body : List (List ℕ) → List ℕ
 body lines = text_of (codes "file_type=PNS_edits_v1" ∷ lines)
 
@@ -25,7 +25,8 @@ First rows = map (λ row. read_script (row.0)) rows ≡ map (λ row. Err (row.1)
 
 -- each line of the table, at line 2, is this edit
 abbrev pub Reads : List (List ℕ × Edit) → Type 0
-Reads rows = map (λ row. read_script (body (row.0 ∷ []))) rows ≡ map (λ row. Ok (script_of (row.1 ∷ []))) rows
+Reads rows = map (λ row. read_script (body (row.0 ∷ []))) rows
+    ≡ map (λ row. Ok (script_of (row.1 ∷ []))) rows
 
 -- each edit of the table is printed as this line
 abbrev pub Prints : List (List ℕ × Edit) → Type 0

@@ -1,6 +1,8 @@
--- What is wrong with one token by the place in which it stands, and which of the faults of a line is told: the one with the
--- least number.
-use Rattle.std.specs.Prelude.{◌==◌, ◌&&◌, ◌||◌, ℕ, Bool, not, nat_le, List, [], ◌∷◌, length, map, Option, Some, None, is_some, unwrap_or, Result, Ok, Err, ℤ, pos, int_lt, slice_index, if◌then◌else◌}
+-- What is wrong with one token, given what has to be in its place, and which of the faults of a
+-- line is reported: the one with the least number.
+use Rattle.std.specs.Prelude.{◌==◌, ◌&&◌, ◌||◌, ℕ, Bool, not, nat_le, List, [], ◌∷◌, length, map}
+use Rattle.std.specs.Prelude.{Option, Some, None, is_some, unwrap_or, Result, Ok, Err, ℤ, pos}
+use Rattle.std.specs.Prelude.{int_lt, slice_index, if◌then◌else◌}
 use Rattle.std.specs.List.{list_all}
 use Rattle.std.specs.Str.{byte}
 use Rattle.std.specs.Char.{is_ascii_digit}
@@ -10,7 +12,11 @@ use Rattle.text_rules.specs.declared.TextKind.TheVariants as texts
 use Rattle.text_rules.specs.Amount.{number_of, amount_of}
 use Rattle.text_rules.specs.Field.{kind_words}
 use Rattle.script_rules.specs.declared.EditKind.{EditKind}
-use Rattle.script_rules.specs.declared.EditKind.TheVariants.{FileType, BadLine, BadName, BadNumber, TooFine, TooLarge, Sign, BadTerms, UnknownName, DoubleName, BadPlace, LowAboveHigh, InUse, NoProduct, TooMany, BadMembers}
+use Rattle.script_rules.specs.declared.EditKind.TheVariants.{FileType, BadLine, BadName, BadNumber}
+use Rattle.script_rules.specs.declared.EditKind.TheVariants.{TooFine, TooLarge, Sign, BadTerms}
+use Rattle.script_rules.specs.declared.EditKind.TheVariants.{UnknownName, DoubleName, BadPlace}
+use Rattle.script_rules.specs.declared.EditKind.TheVariants.{LowAboveHigh, InUse, NoProduct}
+use Rattle.script_rules.specs.declared.EditKind.TheVariants.{TooMany, BadMembers}
 
 -- a line's number and a kind
 abbrev pub Fault : Type 0
@@ -34,18 +40,19 @@ kind_number NoProduct = 14
 kind_number TooMany = 15
 kind_number BadMembers = 16
 
--- the one of two with the lesser number
+-- the one of two with the lesser number, if there are two
 abbrev pub lesser : Option EditKind → Option EditKind → Option EditKind
 lesser None kind = kind
 lesser (Some first) None = Some first
-lesser (Some first) (Some second) = if nat_le (kind_number first) (kind_number second) then Some first else Some second
+lesser (Some first) (Some second) =
+    if nat_le (kind_number first) (kind_number second) then Some first else Some second
 
 -- the one of many with the least number
 abbrev pub least : List (Option EditKind) → Option EditKind
 least [] = None
 least (kind ∷ kinds) = lesser kind (least kinds)
 
--- a token without bytes is none, so the line has not its form
+-- a token without bytes makes a bad line
 abbrev pub some_token : List ℕ → Option EditKind → Option EditKind
 some_token [] kind = Some BadLine
 some_token (c ∷ cs) kind = kind
@@ -90,19 +97,22 @@ rate_fault token = some_token token (positive (amount_of token))
 
 -- digits without a leading zero, but 0 itself
 abbrev pub is_whole : List ℕ → Bool
-is_whole token = list_all is_ascii_digit token && nat_le 1 (length token) && (length token == 1 || not (slice_index token 0 == byte "0"))
+is_whole token =
+    list_all is_ascii_digit token && nat_le 1 (length token) &&
+    (length token == 1 || not (slice_index token 0 == byte "0"))
 
 abbrev pub whole_within : ℕ → List ℕ → Option ℕ
-whole_within limit token = if is_whole token && nat_le (number_of token) limit then Some (number_of token) else None
+whole_within limit token =
+    if is_whole token && nat_le (number_of token) limit then Some (number_of token) else None
 
--- a place, at most 2^32 - 1, and what stands for a text that is none
+-- A place is at most 2^32 - 1. A text that is not a place counts as 0.
 abbrev pub place_of : List ℕ → ℕ
 place_of token = unwrap_or (whole_within 4294967295 token) 0
 
 abbrev pub place_fault : List ℕ → Option EditKind
 place_fault token = some_token token (unless (is_some (whole_within 4294967295 token)) BadNumber)
 
--- a payout period, at most 100 years, and 0 for a text that is none
+-- A payout period is at most 100 years. A text that is not one counts as 0.
 abbrev pub years_of : List ℕ → ℕ
 years_of token = unwrap_or (whole_within 100 token) 0
 

@@ -1,13 +1,18 @@
--- The lines of a script and their tokens. Lines end with a line feed; a carriage return directly before it is dropped, and the
--- last line feed may be missing. A line whose first byte behind blanks is a number sign is a remark, in whose place an empty
--- line stands. Nothing else is dropped, neither a byte order mark nor blanks: tokens are parted by one space, so a space at an
--- end of a line or beside another makes a token without bytes, which no line has.
+-- The lines of a script and their tokens. Lines end with a line feed; a carriage return directly
+-- before it is dropped, and the last line feed may be missing. A line whose first byte other than a
+-- blank is a number sign is a remark, and becomes an empty line. Nothing else is dropped, neither a
+-- byte order mark nor blanks. Tokens are separated by one space, so a space at an end of a line or
+-- next to another space makes a token without bytes, which no good line has.
 use Rattle.std.specs.Prelude.{◌==◌, ℕ, Bool, List, map, codes, Option, Some, None, if◌then◌else◌}
 use Rattle.std.specs.List.{slice_split}
 use Rattle.std.specs.Str.{bytes_eq}
 use Rattle.text_rules.specs.Line.{without_return, without_empty_last, without_remark}
 use Rattle.script_rules.specs.declared.Word.{Word}
-use Rattle.script_rules.specs.declared.Word.TheVariants.{Price, Bounds, Kind, Capacity, Fix, Proportional, RenameMaterial, RenameUnit, AddMaterial, RemoveMaterial, AddUnit, RemoveUnit, Exclude, Unexclude, Investment, Payout}
+use Rattle.script_rules.specs.declared.Word.TheVariants.{Price, Bounds, Kind, Capacity, Fix}
+use Rattle.script_rules.specs.declared.Word.TheVariants.{Proportional, RenameMaterial, RenameUnit}
+use Rattle.script_rules.specs.declared.Word.TheVariants.{AddMaterial, RemoveMaterial, AddUnit}
+use Rattle.script_rules.specs.declared.Word.TheVariants.{RemoveUnit, Exclude, Unexclude, Investment}
+use Rattle.script_rules.specs.declared.Word.TheVariants.{Payout}
 
 -- the whole first line
 abbrev pub file_type : List ℕ
@@ -17,7 +22,9 @@ abbrev pub is_feed : ℕ → Bool
 is_feed c = c == 10
 
 abbrev pub script_lines : List ℕ → List (List ℕ)
-script_lines bytes = map (λ part. without_remark (without_return part)) (without_empty_last (slice_split is_feed bytes))
+script_lines bytes =
+    map (λ part. without_remark (without_return part))
+    (without_empty_last (slice_split is_feed bytes))
 
 abbrev pub is_space : ℕ → Bool
 is_space c = c == 32

@@ -1,7 +1,10 @@
--- The text that is printed of a script: its first line and one line for each edit, in their order, with amounts as in the
--- canonical text of a problem and a rate of 1 left out.
-use Rattle.std.specs.Prelude.{◌==◌, ℕ, List, [], ◌∷◌, ◌++◌, map, flat_map, codes, decimal, unsigned_abs, if◌then◌else◌}
-use Rattle.edit_rules.specs.Edit.{NamedTerm, Edit, price, bounds, kind, capacity, fix, proportional, rename_material, rename_unit, add_material, remove_material, add_unit, remove_unit, exclude, unexclude, investment, payout}
+-- The text that is printed of a script: its first line, then one line for each edit, in their
+-- order. Amounts are as in the canonical text of a problem, and a rate of 1 is left out.
+use Rattle.std.specs.Prelude.{◌==◌, ℕ, List, [], ◌∷◌, ◌++◌, map, flat_map, codes, decimal}
+use Rattle.std.specs.Prelude.{unsigned_abs, if◌then◌else◌}
+use Rattle.edit_rules.specs.Edit.{NamedTerm, Edit, price, bounds, kind, capacity, fix, proportional}
+use Rattle.edit_rules.specs.Edit.{rename_material, rename_unit, add_material, remove_material}
+use Rattle.edit_rules.specs.Edit.{add_unit, remove_unit, exclude, unexclude, investment, payout}
 use Rattle.text_rules.specs.Canonical.{joined, kind_word}
 use Rattle.text_rules.specs.Printed.{amount_bytes}
 use Rattle.script_rules.specs.declared.Word.{Word}
@@ -27,12 +30,13 @@ word_of (investment unit fixed per_size) = words.Investment
 word_of (payout years) = words.Payout
 
 abbrev pub term_tokens : NamedTerm → List (List ℕ)
-term_tokens t = if unsigned_abs t.rate == 1000000 then t.name ∷ [] else amount_bytes t.rate ∷ t.name ∷ []
+term_tokens t = if unsigned_abs t.rate == 1000000 then t.name ∷ [] else amount_bytes t.rate ∷ t.name
+    ∷ []
 
 abbrev pub side_tokens : List NamedTerm → List (List ℕ)
 side_tokens terms = joined (codes "+") (map term_tokens terms)
 
--- what stands behind the first token
+-- the tokens after the first
 abbrev pub fields_of : Edit → List (List ℕ)
 fields_of (price material value) = material ∷ amount_bytes value ∷ []
 fields_of (bounds material lower upper) = material ∷ amount_bytes lower ∷ amount_bytes upper ∷ []
@@ -42,10 +46,13 @@ fields_of (fix unit value) = unit ∷ amount_bytes value ∷ []
 fields_of (proportional unit value) = unit ∷ amount_bytes value ∷ []
 fields_of (rename_material old new) = old ∷ new ∷ []
 fields_of (rename_unit old new) = old ∷ new ∷ []
-fields_of (add_material at name k value lower upper) = decimal at ∷ name ∷ kind_word k ∷ amount_bytes value ∷ amount_bytes lower ∷ amount_bytes upper ∷ []
+fields_of (add_material at name k value lower upper) =
+    decimal at ∷ name ∷ kind_word k ∷ amount_bytes value ∷ amount_bytes lower ∷ amount_bytes upper
+    ∷ []
 fields_of (remove_material material) = material ∷ []
 fields_of (add_unit at name lower upper fixed per_size inputs outputs) =
-    decimal at ∷ name ∷ amount_bytes lower ∷ amount_bytes upper ∷ amount_bytes fixed ∷ amount_bytes per_size ∷ codes ":"
+    decimal at ∷ name ∷ amount_bytes lower ∷ amount_bytes upper ∷ amount_bytes fixed
+    ∷ amount_bytes per_size ∷ codes ":"
     ∷ side_tokens inputs ++ codes "=>" ∷ side_tokens outputs
 fields_of (remove_unit unit) = unit ∷ []
 fields_of (exclude at name units) = decimal at ∷ name ∷ units
@@ -56,7 +63,7 @@ fields_of (payout years) = decimal (unsigned_abs years) ∷ []
 abbrev pub edit_tokens : Edit → List (List ℕ)
 edit_tokens edit = word_text (word_of edit) ∷ fields_of edit
 
--- the tokens, parted by a space
+-- the tokens, separated by a space
 abbrev pub edit_line : Edit → List ℕ
 edit_line edit = joined 32 (edit_tokens edit)
 

@@ -1,6 +1,8 @@
--- The terms on both sides of a new unit, as pairs of a rate and a material, each a token. They have their form where exactly one
--- `=>` parts the sides, `+` parts the terms, and each term is a material or a rate and a material.
-use Rattle.std.specs.Prelude.{◌==◌, ◌||◌, ℕ, Bool, not, List, [], ◌∷◌, length, map, codes, Option, Some, None}
+-- The terms on both sides of a new unit, as pairs of a rate and a material, each a token. They have
+-- their form if exactly one `=>` separates the sides, `+` separates the terms, and each term is a
+-- material, or a rate and a material.
+use Rattle.std.specs.Prelude.{◌==◌, ◌||◌, ℕ, Bool, not, List, [], ◌∷◌, length, map, codes, Option}
+use Rattle.std.specs.Prelude.{Some, None}
 use Rattle.std.specs.List.{list_any, slice_split}
 use Rattle.std.specs.Str.{bytes_eq}
 use Rattle.problem_rules.specs.Names.{is_among, has_double}
@@ -58,7 +60,8 @@ materials_of pairs = map (λ pair. pair.1) pairs
 -- a side without terms, a material twice on one side or on both sides
 abbrev pub are_bad_sides : List Pair → List Pair → Bool
 are_bad_sides inputs outputs =
-    length inputs == 0 || length outputs == 0 || has_double (materials_of inputs) || has_double (materials_of outputs)
+    length inputs == 0 || length outputs == 0 || has_double (materials_of inputs) || has_double
+    (materials_of outputs)
     || list_any (is_among (materials_of outputs)) (materials_of inputs)
 
 abbrev pub sides_fault : List Pair → List Pair → Option EditKind

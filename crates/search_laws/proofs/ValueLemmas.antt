@@ -28,12 +28,17 @@ below_is_no_dearer p valid n m below no_dead z d flows =
       sizes = sizes_above (net_of p) net_valid n m below no_dead z d flows;
       d = d;
       relaxed = relaxed_above (net_of p) net_valid n m below no_dead z d flows;
-      at_most = mul-le_right (relaxed_cost (net_of p) n (sizes_above (net_of p) net_valid n m below no_dead z d flows) d) (relaxed_cost (net_of p) m z d) d le (let q = flows.positive in omega (arith, ints));
+      at_most =
+          mul-le_right
+          (relaxed_cost (net_of p) n (sizes_above (net_of p) net_valid n m below no_dead z d flows)
+          d) (relaxed_cost (net_of p) m z d) d le (let q = flows.positive in omega (arith, ints));
     }
 
 -- what holds of a choice
-choice_is_dearer : (p : Problem) → IsValid p → (n : Node) (w : Way) (t : List ℕ) (steps : List Step) → Avoids n.inside n.outside → IsChoice (shape_of p) n w t
-    → StepsPass (shape_of p) (child_at (shape_of p) n w t) steps → IsNever (IsDead (shape_of p) (after_all (shape_of p) (child_at (shape_of p) n w t) steps))
+choice_is_dearer : (p : Problem) → IsValid p → (n : Node) (w : Way) (t : List ℕ) (steps : List Step)
+    → Avoids n.inside n.outside → IsChoice (shape_of p) n w t
+    → StepsPass (shape_of p) (child_at (shape_of p) n w t) steps
+    → IsNever (IsDead (shape_of p) (after_all (shape_of p) (child_at (shape_of p) n w t) steps))
     → IsNoDearer p n (after_all (shape_of p) (child_at (shape_of p) n w t) steps)
 choice_is_dearer p valid n w t steps apart choice pass no_dead =
     let g : Shape = shape_of p in
@@ -48,10 +53,16 @@ choice_is_dearer p valid n w t steps apart choice pass no_dead =
 
 pub ways_are_dearer : ChildrenAreDearer
 ways_are_dearer p valid n w t steps apart may i =
-    choice_is_dearer p valid n w t steps apart (choices (shape_of p) n w t (proper_if_valid p valid) apart may i)
+    choice_is_dearer p valid n w t steps apart
+    (choices (shape_of p) n w t (proper_if_valid p valid) apart may i)
 
 -- the same of the options of a material
-pub children_are_dearer : (p : Problem) → IsValid p → (n : Node) (x : ℕ) (t : List ℕ) (steps : List Step) → Avoids n.inside n.outside → IsOption (shape_of p) n x t
-    → StepsPass (shape_of p) (child (shape_of p) n x t) steps → IsNever (IsDead (shape_of p) (after_all (shape_of p) (child (shape_of p) n x t) steps))
+pub children_are_dearer : (p : Problem) → IsValid p
+    → (n : Node) (x : ℕ) (t : List ℕ) (steps : List Step) → Avoids n.inside n.outside
+    → IsOption (shape_of p) n x t
+    → StepsPass (shape_of p) (child (shape_of p) n x t) steps
+    → IsNever (IsDead (shape_of p) (after_all (shape_of p) (child (shape_of p) n x t) steps))
     → IsNoDearer p n (after_all (shape_of p) (child (shape_of p) n x t) steps)
-children_are_dearer p valid n x t steps apart option = choice_is_dearer p valid n (at_material x 0) t steps apart (choice_of (shape_of p) n x 0 t option)
+children_are_dearer p valid n x t steps apart option =
+    choice_is_dearer p valid n (at_material x 0) t steps apart
+    (choice_of (shape_of p) n x 0 t option)

@@ -1,4 +1,5 @@
-ghost use Rattle.search_laws.specs.Laws.{OptionsOfNone, OptionsOfSome, SharesAreSmall, LeanIsFew, SpentIsNever};
+ghost use Rattle.search_laws.specs.Laws.{OptionsOfNone, OptionsOfSome, SharesAreSmall, LeanIsFew};
+ghost use Rattle.search_laws.specs.Laws.{SpentIsNever};
 
 /// How many options a material has, by its makers that are taken in and its makers that are free.
 /// The sets of free units of the children are together no more than those of the node.

@@ -1,4 +1,6 @@
-ghost use Rattle.search_laws.specs.Laws.{ReducedIsStructure, ReducedIsWithinUnion, FreeUnitsAreFew, StepsFreeNone, DecisionsSplit, FreeMakersDecide, ChildrenAreSound};
+ghost use Rattle.search_laws.specs.Laws.{ReducedIsStructure, ReducedIsWithinUnion, FreeUnitsAreFew};
+ghost use Rattle.search_laws.specs.Laws.{StepsFreeNone, DecisionsSplit, FreeMakersDecide};
+ghost use Rattle.search_laws.specs.Laws.{ChildrenAreSound};
 
 /// At a reduced node the units that are not left out form a solution structure.
 pub fn reduced_is_structure()

@@ -1,4 +1,5 @@
-ghost use Rattle.search_laws.specs.Laws.{BelowIsNoDearer, ChildrenAreBelow, StepsLeadBelow, ChildrenAreDearer};
+ghost use Rattle.search_laws.specs.Laws.{BelowIsNoDearer, ChildrenAreBelow, StepsLeadBelow};
+ghost use Rattle.search_laws.specs.Laws.{ChildrenAreDearer};
 
 /// If no needed material of a node below another is dead, then for any relaxed flows that it has,
 /// the other node has some that cost no more.

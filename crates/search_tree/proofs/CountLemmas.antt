@@ -1,12 +1,15 @@
 -- Each cell is once in a preorder: a cell as often as its parent, and the root once. So there are
 -- as many nodes as cells.
-use Rattle.std.proofs.Common.{◌≡◌, ℕ, zero, suc, ◌+◌, ◌<◌, ◌≤◌, ◌==◌, Bool, true, false, cond, List, [], ◌∷◌, ◌++◌, length, refl, sym, ap, ◌∙◌, subst, arith, eq-eqb, ne_eqb, inl, inr}
+use Rattle.std.proofs.Common.{◌≡◌, ℕ, zero, suc, ◌+◌, ◌<◌, ◌≤◌, ◌==◌, Bool, true, false, cond, List}
+use Rattle.std.proofs.Common.{[], ◌∷◌, ◌++◌, length, refl, sym, ap, ◌∙◌, subst, arith, eq-eqb}
+use Rattle.std.proofs.Common.{ne_eqb, inl, inr}
 use Rattle.std.specs.List.{range_with_len}
 use Rattle.std.proofs.lemmas.Bool.{cases_eq}
 use Rattle.tree_rules.specs.Ways.{width}
 use Rattle.tree_rules.specs.Tree.{End, branch, leaf}
 use Rattle.tree_rules.specs.Leaf.{Leaf}
-use Rattle.search_tree.specs.Cells.{Cell, cell_at, times, numbers_below, children_at, AreBehind, IsParentOf, IsLinked}
+use Rattle.search_tree.specs.Cells.{Cell, cell_at, times, numbers_below, children_at, AreBehind}
+use Rattle.search_tree.specs.Cells.{IsParentOf, IsLinked}
 use Rattle.search_tree.specs.Preorder.{IsPreorder}
 use Rattle.search_tree.proofs.TreeLemmas.{AreThere, there-append, children_there}
 
@@ -23,26 +26,34 @@ as_child cells j [] = 0
 as_child cells j (v ∷ vs) = times j (children_at cells v) + as_child cells j vs
 
 -- what is in a preorder was to come at its start or is a child of what is in it
-times_are : (cells : List Cell) (j : ℕ) (is order : List ℕ) → IsPreorder cells is order → times j order ≡ times j is + as_child cells j order
+times_are : (cells : List Cell) (j : ℕ) (is order : List ℕ) → IsPreorder cells is order
+    → times j order ≡ times j is + as_child cells j order
 times_are cells j [] [] p = refl
 times_are cells j [] (k ∷ ks) p = absurd p
 times_are cells j (i ∷ is) [] p = absurd p
 times_are cells j (i ∷ is) (k ∷ ks) p =
     let rest = times_are cells j (children_at cells i ++ is) ks p.1 in
     let split = times-append j (children_at cells i) is in
-    let same : times j (children_at cells k) ≡ times j (children_at cells i) = ap (λ v. times j (children_at cells v)) p.0 in
+    let same : times j (children_at cells k) ≡ times j (children_at cells i) =
+    ap (λ v. times j (children_at cells v)) p.0 in
     let here : one_if (k == j) ≡ one_if (i == j) = ap (λ v. one_if (v == j)) p.0 in
     omega (arith, rest, split, same, here)
 
-are_there : (cells : List Cell) → IsLinked cells → (is order : List ℕ) → AreThere cells is → IsPreorder cells is order → AreThere cells order
+are_there : (cells : List Cell) → IsLinked cells → (is order : List ℕ) → AreThere cells is
+    → IsPreorder cells is order → AreThere cells order
 are_there cells linked [] [] there p = tt
 are_there cells linked [] (k ∷ ks) there p = absurd p
 are_there cells linked (i ∷ is) [] there p = absurd p
-are_there cells linked (i ∷ is) (k ∷ ks) there p =
-    (subst (λ v. v < length cells) (sym p.0) there.0, are_there cells linked (children_at cells i ++ is) ks (there-append cells (children_at cells i) is (children_there cells linked i there.0) there.1) p.1)
+are_there cells linked (i ∷ is) (k ∷ ks) there p = (
+  subst (λ v. v < length cells) (sym p.0) there.0,
+  are_there cells linked (children_at cells i ++ is) ks
+      (there-append cells (children_at cells i) is (children_there cells linked i there.0)
+      there.1) p.1,
+)
 
 -- a child is there as often as its one parent
-child_times : (cells : List Cell) (q j : ℕ) → IsParentOf cells q j → (vs : List ℕ) → AreThere cells vs → as_child cells j vs ≡ times q vs
+child_times : (cells : List Cell) (q j : ℕ) → IsParentOf cells q j → (vs : List ℕ)
+    → AreThere cells vs → as_child cells j vs ≡ times q vs
 child_times cells q j parent [] there = refl
 child_times cells q j parent (v ∷ vs) there =
     let rest = child_times cells q j parent vs there.1 in
@@ -61,14 +72,18 @@ root_below n i f (branch w) h = not_below 0 f (width w) (let a = h.1 in omega ar
 root_below n i f (leaf l) h = refl
 
 -- the root is no child
-root_times : (cells : List Cell) → IsLinked cells → (vs : List ℕ) → AreThere cells vs → as_child cells 0 vs ≡ 0
+root_times : (cells : List Cell) → IsLinked cells → (vs : List ℕ) → AreThere cells vs
+    → as_child cells 0 vs ≡ 0
 root_times cells linked [] there = refl
 root_times cells linked (v ∷ vs) there =
     let rest = root_times cells linked vs there.1 in
-    let here = root_below (length cells) v (cell_at cells v).first (cell_at cells v).end (linked.behind v there.0) in
+    let here =
+    root_below (length cells) v (cell_at cells v).first (cell_at cells v).end
+    (linked.behind v there.0) in
     omega arith
 
-module _ (cells : List Cell) (linked : IsLinked cells) (order : List ℕ) (p : IsPreorder cells (0 ∷ []) order) where
+module _ (cells : List Cell) (linked : IsLinked cells) (order : List ℕ)
+    (p : IsPreorder cells (0 ∷ []) order) where
   all_there : AreThere cells order
   all_there = are_there cells linked (0 ∷ []) order (linked.some, tt) p
 
@@ -82,7 +97,9 @@ module _ (cells : List Cell) (linked : IsLinked cells) (order : List ℕ) (p : I
   pub once : (fuel j : ℕ) → j < fuel → j < length cells → times j order ≡ 1
   once zero j less lt = absurd (omega (arith, less))
   once (suc fuel) zero less lt = root_once
-  once (suc fuel) (suc j) less lt = let q = linked.parent (suc j) (omega arith) lt in at q.0 q.1 (once fuel q.0 (before q.0 q.1 less) (there q.0 q.1 lt))
+  once (suc fuel) (suc j) less lt = let q =
+      linked.parent (suc j) (omega arith) lt in
+      at q.0 q.1 (once fuel q.0 (before q.0 q.1 less) (there q.0 q.1 lt))
     where
       before : (q : ℕ) → IsParentOf cells q (suc j) → suc j < suc fuel → q < fuel
       before q parent less = let b = parent.before in omega (arith, less, b)
@@ -94,7 +111,8 @@ module _ (cells : List Cell) (linked : IsLinked cells) (order : List ℕ) (p : I
       at q parent one =
           let a = times_are cells (suc j) (0 ∷ []) order p in
           let b = child_times cells q (suc j) parent order all_there in
-          let apart : one_if (0 == suc j) ≡ 0 = ap one_if (ne_eqb 0 (suc j) (λ e. omega (arith, e))) in
+          let apart : one_if (0 == suc j) ≡ 0 =
+          ap one_if (ne_eqb 0 (suc j) (λ e. omega (arith, e))) in
           omega (arith, a, b, apart, one)
 
 -- ---- a list is as long as its numbers are many
@@ -137,7 +155,8 @@ one-is i (suc n) h = elim (cases_eq i n) [
       rw apart (omega (arith, rest))
 ]
 
-length-times : (cells : List Cell) (order : List ℕ) → AreThere cells order → length order ≡ sum_times order (length cells)
+length-times : (cells : List Cell) (order : List ℕ) → AreThere cells order
+    → length order ≡ sum_times order (length cells)
 length-times cells [] there = sym (sum-none (length cells))
 length-times cells (i ∷ is) there =
     let rest = length-times cells is there.1 in
@@ -152,7 +171,8 @@ sum-ones order (suc n) h =
     let here = h n (omega arith) in
     omega arith
 
-pub preorder_has_all : (cells : List Cell) (order : List ℕ) → IsLinked cells → IsPreorder cells (0 ∷ []) order → length order ≡ length cells
+pub preorder_has_all : (cells : List Cell) (order : List ℕ) → IsLinked cells
+    → IsPreorder cells (0 ∷ []) order → length order ≡ length cells
 preorder_has_all cells order linked p =
     length-times cells order (all_there cells linked order p)
     ∙ sum-ones order (length cells) (λ j lt. once cells linked order p (suc j) j (omega arith) lt)

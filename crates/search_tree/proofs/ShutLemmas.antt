@@ -1,10 +1,12 @@
 -- Cells of which open leaves are shut are linked as before.
-use Rattle.std.proofs.Common.{◌≡◌, ℕ, zero, suc, ◌<◌, false, List, [], ◌∷◌, length, Option, Some, None, refl, sym, ap, ◌∙◌, subst, arith, true≢false}
+use Rattle.std.proofs.Common.{◌≡◌, ℕ, zero, suc, ◌<◌, false, List, [], ◌∷◌, length, Option, Some}
+use Rattle.std.proofs.Common.{None, refl, sym, ap, ◌∙◌, subst, arith, true≢false}
 use Rattle.std.specs.Prelude.{slice_index_or}
 use Rattle.tree_rules.specs.Tree.{End, branch, leaf}
 use Rattle.tree_rules.specs.Leaf.{Leaf, dead, clash, refuted, bounded, untried}
 use Rattle.search_tree.specs.declared.shut.Shut.{Shut}
-use Rattle.search_tree.specs.Cells.{Cell, cell_at, times, numbers_below, children_at, AreBehind, IsLinked}
+use Rattle.search_tree.specs.Cells.{Cell, cell_at, times, numbers_below, children_at, AreBehind}
+use Rattle.search_tree.specs.Cells.{IsLinked}
 use Rattle.search_tree.specs.Growth.{is_open, as_shut}
 use Rattle.search_tree.specs.Shut.{shut_leaf, shut_end, shut_cells}
 
@@ -24,11 +26,13 @@ pub unproved_stays : (e : End Leaf) → shut_end None e ≡ e
 unproved_stays (branch w) = refl
 unproved_stays (leaf l) = refl
 
-pub numbers_stay : (f : ℕ) (s : Option Shut) (e : End Leaf) → numbers_below f (shut_end s e) ≡ numbers_below f e
+pub numbers_stay : (f : ℕ) (s : Option Shut) (e : End Leaf)
+    → numbers_below f (shut_end s e) ≡ numbers_below f e
 numbers_stay f s (branch w) = refl
 numbers_stay f s (leaf l) = refl
 
-behind_stays : (n i f : ℕ) (s : Option Shut) (e : End Leaf) → AreBehind n i f e → AreBehind n i f (shut_end s e)
+behind_stays : (n i f : ℕ) (s : Option Shut) (e : End Leaf) → AreBehind n i f e
+    → AreBehind n i f (shut_end s e)
 behind_stays n i f s (branch w) h = h
 behind_stays n i f s (leaf l) h = tt
 
@@ -43,7 +47,9 @@ shut_length [] cs = refl
 shut_length (s ∷ ss) [] = refl
 shut_length (s ∷ ss) (c ∷ cs) = ap suc (shut_length ss cs)
 
-pub shut_at : (ss : List (Option Shut)) (cs : List Cell) (i : ℕ) → i < length cs → cell_at (shut_cells ss cs) i ≡ as_shut (cell_at cs i) (shut_end (proof_of ss i) (cell_at cs i).end)
+pub shut_at : (ss : List (Option Shut)) (cs : List Cell) (i : ℕ) → i < length cs
+    → cell_at (shut_cells ss cs) i
+    ≡ as_shut (cell_at cs i) (shut_end (proof_of ss i) (cell_at cs i).end)
 shut_at [] cs i lt = sym (same_cell (cell_at cs i))
 shut_at (s ∷ ss) [] i lt = absurd (omega (arith, lt))
 shut_at (s ∷ ss) (c ∷ cs) zero lt = refl
@@ -51,7 +57,8 @@ shut_at (s ∷ ss) (c ∷ cs) (suc i) lt = shut_at ss cs i (omega (arith, lt))
 
 module _ (ss : List (Option Shut)) (cs : List Cell) where
   pub children_stay : (i : ℕ) → i < length cs → children_at (shut_cells ss cs) i ≡ children_at cs i
-  children_stay i lt = ap (λ (c : Cell). numbers_below c.first c.end) (shut_at ss cs i lt) ∙ numbers_stay (cell_at cs i).first (proof_of ss i) (cell_at cs i).end
+  children_stay i lt = ap (λ (c : Cell). numbers_below c.first c.end) (shut_at ss cs i lt)
+      ∙ numbers_stay (cell_at cs i).first (proof_of ss i) (cell_at cs i).end
 
   within : (i : ℕ) → i < length (shut_cells ss cs) → i < length cs
   within i lt = let e = shut_length ss cs in omega (arith, lt, e)
@@ -59,14 +66,19 @@ module _ (ss : List (Option Shut)) (cs : List Cell) where
   pub shut_linked : IsLinked cs → IsLinked (shut_cells ss cs)
   shut_linked h = record {
     some = let a = h.some in let e = shut_length ss cs in omega (arith, a, e);
-    behind = λ i lt. subst (λ (c : Cell). AreBehind (length (shut_cells ss cs)) i c.first c.end) (sym (shut_at ss cs i (within i lt)))
-        (behind_stays (length (shut_cells ss cs)) i (cell_at cs i).first (proof_of ss i) (cell_at cs i).end
-        (subst (λ n. AreBehind n i (cell_at cs i).first (cell_at cs i).end) (sym (shut_length ss cs)) (h.behind i (within i lt))));
+    behind =
+        λ i lt. subst (λ (c : Cell). AreBehind (length (shut_cells ss cs)) i c.first c.end)
+        (sym (shut_at ss cs i (within i lt)))
+        (behind_stays (length (shut_cells ss cs)) i (cell_at cs i).first (proof_of ss i)
+        (cell_at cs i).end
+        (subst (λ n. AreBehind n i (cell_at cs i).first (cell_at cs i).end)
+        (sym (shut_length ss cs)) (h.behind i (within i lt))));
     parent = λ j some lt. let q = h.parent j some (within j lt) in (
       q.0,
       record {
         before = q.1.before;
-        once = λ v less. ap (λ xs. times j xs) (children_stay v (within v less)) ∙ q.1.once v (within v less);
+        once = λ v less. ap (λ xs. times j xs) (children_stay v (within v less))
+            ∙ q.1.once v (within v less);
       },
     );
   }

@@ -21,7 +21,16 @@ pub record Cell : Type 0 where
   pub key : ℕ
 
 abbrev pub no_cell : Cell
-no_cell = record { option = []; steps = []; node = record { inside = []; outside = [] }; first = 0; end = leaf untried; key = 0 }
+no_cell =
+    record {
+      option = [];
+      steps = [];
+      node = record { inside = []; outside = [] };
+      first = 0;
+      end =
+          leaf untried;
+      key = 0;
+    }
 
 -- the node in the words of the rules
 abbrev pub place_of : Cell → rules.Node
@@ -56,5 +65,6 @@ pub record IsParentOf (cells : List Cell) (q j : ℕ) : Type 0 where
 -- the cells are one tree: the first is the root, and each other has one parent
 pub record IsLinked (cells : List Cell) : Type 0 where
   pub some : 0 < length cells
-  pub behind : (i : ℕ) → i < length cells → AreBehind (length cells) i (cell_at cells i).first (cell_at cells i).end
+  pub behind : (i : ℕ) → i < length cells
+      → AreBehind (length cells) i (cell_at cells i).first (cell_at cells i).end
   pub parent : (j : ℕ) → 0 < j → j < length cells → (q : ℕ) × IsParentOf cells q j

@@ -17,14 +17,18 @@ pub record Follows (g : Shape) (start : Node) (c : Cell) : Type 0 where
 -- the node is branched in this way, and its children begin with the cell `first`
 pub record IsBranch (g : Shape) (cells : List Cell) (n : Node) (first : ℕ) (w : Way) : Type 0 where
   pub may : MayBranch g n w
-  pub options_are : map (λ j. (cell_at cells j).option) (range_with_len first (width w)) ≡ options_at g n w
-  pub follow : (k : ℕ) → k < width w → Follows g (child_at g n w (cell_at cells (first + k)).option) (cell_at cells (first + k))
+  pub options_are : map (λ j. (cell_at cells j).option) (range_with_len first (width w))
+      ≡ options_at g n w
+  pub follow : (k : ℕ) → k < width w
+      → Follows g (child_at g n w (cell_at cells (first + k)).option) (cell_at cells (first + k))
 
 abbrev pub EndFits : Shape → (Node → Leaf → Type 0) → List Cell → Node → ℕ → End Leaf → Type 0
 EndFits g P cells n first (branch w) = IsBranch g cells n first w
 EndFits g P cells n first (leaf l) = P n l
 
-pub record Fits (g : Shape) (P : Node → Leaf → Type 0) (start : Node) (cells : List Cell) : Type 0 where
+pub record Fits (g : Shape) (P : Node → Leaf → Type 0) (start : Node) (cells : List Cell) : Type
+    0 where
   pub no_option : (cell_at cells 0).option ≡ []
   pub root : Follows g start (cell_at cells 0)
-  pub ends : (i : ℕ) → i < length cells → EndFits g P cells (place_of (cell_at cells i)) (cell_at cells i).first (cell_at cells i).end
+  pub ends : (i : ℕ) → i < length cells
+      → EndFits g P cells (place_of (cell_at cells i)) (cell_at cells i).first (cell_at cells i).end

@@ -24,12 +24,23 @@ is_open (leaf l) = is_open_leaf l
 -- node that ends open
 pub record AreOpenAfter (old new : Pooled Cell) (at : ℕ) : Type 0 where
   pub shut : has new.leaves at ≡ false
-  pub others : (j : ℕ) → j < length old.payloads → (j ≡ at → ⊥) → has new.leaves j ≡ has old.leaves j
-  pub fresh : (j : ℕ) → length old.payloads ≤ j → j < length new.payloads → has new.leaves j ≡ is_open (cell_at new.payloads j).end
+  pub others : (j : ℕ) → j < length old.payloads → (j ≡ at → ⊥)
+      → has new.leaves j ≡ has old.leaves j
+  pub fresh : (j : ℕ) → length old.payloads ≤ j → j < length new.payloads
+      → has new.leaves j ≡ is_open (cell_at new.payloads j).end
 
 -- the cell with an end whose children begin with `first`
 abbrev pub as_parent : Cell → ℕ → End Leaf → Cell
-as_parent c first e = record { option = c.option; steps = c.steps; node = c.node; first = first; end = e; key = c.key }
+as_parent c first e =
+    record {
+      option = c.option;
+      steps = c.steps;
+      node = c.node;
+      first = first;
+      end = e;
+      key =
+          c.key;
+    }
 
 -- the cells and the values of children that are listed with the last one first, in their order
 abbrev pub cells_in_turn : List Fresh → List Cell
@@ -42,4 +53,13 @@ values_in_turn (f ∷ fs) = values_in_turn fs ++ f.value ∷ []
 
 -- the cell with another end
 abbrev pub as_shut : Cell → End Leaf → Cell
-as_shut c e = record { option = c.option; steps = c.steps; node = c.node; first = c.first; end = e; key = c.key }
+as_shut c e =
+    record {
+      option = c.option;
+      steps = c.steps;
+      node = c.node;
+      first = c.first;
+      end = e;
+      key =
+          c.key;
+    }

@@ -15,7 +15,13 @@ IsPreorder cells (i ∷ is) [] = ⊥
 IsPreorder cells (i ∷ is) (k ∷ ks) = (k ≡ i) × IsPreorder cells (children_at cells i ++ is) ks
 
 abbrev pub node_at : List Cell → ℕ → TreeNode Leaf
-node_at cells i = record { option = (cell_at cells i).option; steps = (cell_at cells i).steps; end = (cell_at cells i).end }
+node_at cells i =
+    record {
+      option = (cell_at cells i).option;
+      steps = (cell_at cells i).steps;
+      end =
+          (cell_at cells i).end;
+    }
 
 -- the branch tree of the cells of these numbers
 abbrev pub tree_of : List Cell → List ℕ → Tree
@@ -30,7 +36,13 @@ told_end f (leaf l) = leaf (f l)
 
 -- the node of a cell, with its leaf mapped by f of its number
 abbrev pub told_at : {L : Type 0} → (ℕ → Leaf → L) → List Cell → ℕ → TreeNode L
-told_at f cells i = record { option = (cell_at cells i).option; steps = (cell_at cells i).steps; end = told_end (f i) (cell_at cells i).end }
+told_at f cells i =
+    record {
+      option = (cell_at cells i).option;
+      steps = (cell_at cells i).steps;
+      end =
+          told_end (f i) (cell_at cells i).end;
+    }
 
 abbrev pub told_tree : {L : Type 0} → (ℕ → Leaf → L) → List Cell → List ℕ → List (TreeNode L)
 told_tree f cells order = map (told_at f cells) order
@@ -39,7 +51,8 @@ told_tree f cells order = map (told_at f cells) order
 
 -- the nodes are those of all cells in preorder, whose numbers are `order`, and the cell `wanted` is
 -- the node `place` there
-pub record IsTreeIn (cells : List Cell) (wanted : ℕ) (order : List ℕ) (nodes : Tree) (place : ℕ) : Type 0 where
+pub record IsTreeIn (cells : List Cell) (wanted : ℕ) (order : List ℕ) (nodes : Tree)
+    (place : ℕ) : Type 0 where
   pub is_preorder : IsPreorder cells (0 ∷ []) order
   pub nodes_are : nodes ≡ tree_of cells order
   pub stands : slice_get order place ≡ Some wanted

@@ -26,5 +26,13 @@ impl Model for Cell {
 
     ghost Value = { rules.Cell };
 
-    ghost view = { λ c. record { option = c.option; steps = c.steps; node = c.node; first = c.first; end = end_of c.end; key = c.key } };
+    ghost view = { λ c. record {
+      option = c.option;
+      steps = c.steps;
+      node = c.node;
+      first =
+          c.first;
+      end = end_of c.end;
+      key = c.key;
+    } };
 }

@@ -4,7 +4,8 @@ ghost use Rattle.link_lists.specs.Lists.{has};
 ghost use Rattle.node_pool.specs.Pooled.{IsShut};
 ghost use Rattle.branch_tree.specs.View.{end_of};
 ghost use Rattle.search_tree.specs.Cells.{cell_at};
-ghost use Rattle.search_tree.specs.Growth.{as_parent, as_shut, is_open, AreOpenAfter, cells_in_turn, values_in_turn};
+ghost use Rattle.search_tree.specs.Growth.{as_parent, as_shut, is_open, AreOpenAfter};
+ghost use Rattle.search_tree.specs.Growth.{cells_in_turn, values_in_turn};
 
 use crate::cell::Cell;
 use branch_tree::End;
@@ -55,7 +56,8 @@ fn add_child(pool: &mut Pool<Cell>, leaf: u32, fresh: Fresh)
     ensures parent { IsShut pool.new leaf }
     ensures room { pool.old.spare ≤ pool.new.spare + 1 }
     ensures open { has pool.new.leaves (length pool.old.payloads) ≡ is_open fresh.cell.end }
-    ensures others { (j : ℕ) → j < length pool.old.payloads → has pool.new.leaves j ≡ has pool.old.leaves j }
+    ensures others { (j : ℕ) → j < length pool.old.payloads
+        → has pool.new.leaves j ≡ has pool.old.leaves j }
 {
     pool.is_pool();
     let open = fresh.cell.ends_open();
@@ -69,7 +71,9 @@ fn add_child(pool: &mut Pool<Cell>, leaf: u32, fresh: Fresh)
 /// Gives an open leaf an end whose children begin with the node `first`. It takes no memory.
 fn mark_branch(pool: &mut Pool<Cell>, leaf: u32, end: End, first: u32)
     requires { has pool.old.leaves leaf ≡ true }
-    ensures cells { pool.new.payloads ≡ slice_set pool.old.payloads leaf (as_parent (cell_at pool.old.payloads leaf) first (end_of end)) }
+    ensures cells { pool.new.payloads
+        ≡ slice_set pool.old.payloads leaf
+        (as_parent (cell_at pool.old.payloads leaf) first (end_of end)) }
     ensures values { pool.new.values ≡ pool.old.values }
     ensures parent { IsShut pool.new leaf }
     ensures room { pool.new.spare ≡ pool.old.spare }
@@ -86,7 +90,10 @@ fn mark_branch(pool: &mut Pool<Cell>, leaf: u32, end: End, first: u32)
 pub fn branch(pool: &mut Pool<Cell>, leaf: u32, end: End, first: u32, children: &mut Vec<Fresh>)
     requires leaf { has pool.old.leaves leaf ≡ true }
     requires room { length children.old.items ≤ pool.old.spare }
-    ensures cells { pool.new.payloads ≡ slice_set pool.old.payloads leaf (as_parent (cell_at pool.old.payloads leaf) first (end_of end)) ++ cells_in_turn children.old.items }
+    ensures cells { pool.new.payloads
+        ≡ slice_set pool.old.payloads leaf
+        (as_parent (cell_at pool.old.payloads leaf) first (end_of end))
+        ++ cells_in_turn children.old.items }
     ensures values { pool.new.values ≡ pool.old.values ++ values_in_turn children.old.items }
     ensures open { AreOpenAfter pool.old pool.new leaf }
 {

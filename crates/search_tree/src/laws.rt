@@ -1,4 +1,5 @@
-ghost use Rattle.search_tree.specs.Laws.{PreorderIsTree, PreorderHasAll, PreorderProves, NodesAreCells, CellsStand};
+ghost use Rattle.search_tree.specs.Laws.{PreorderIsTree, PreorderHasAll, PreorderProves};
+ghost use Rattle.search_tree.specs.Laws.{NodesAreCells, CellsStand};
 
 /// The cells in preorder are one whole tree, of as many nodes as there are cells.
 pub fn preorder_is_tree()

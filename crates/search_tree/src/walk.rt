@@ -1,5 +1,6 @@
 //! The cells in preorder.
-ghost use Rattle.std.specs.Prelude.{◌≡◌, ◌<◌, ◌+◌, ◌-◌, ◌^◌, [], ◌∷◌, ◌++◌, cond, None, IfOk, OnOk, length, option_copied, slice_index_or};
+ghost use Rattle.std.specs.Prelude.{◌≡◌, ◌<◌, ◌+◌, ◌-◌, ◌^◌, [], ◌∷◌, ◌++◌, cond, None, IfOk, OnOk};
+ghost use Rattle.std.specs.Prelude.{length, option_copied, slice_index_or};
 ghost use Rattle.std.specs.List.{range_with_len};
 ghost use Rattle.branch_tree.specs.View.{end_of};
 ghost use Rattle.search_tree.specs.Cells.{IsLinked, numbers_below};
@@ -71,7 +72,13 @@ fn copy_shut(alloc: Global, cell: &Cell, proof: Option<&Shut>) -> Result<End, Al
 }
 
 fn copy_node(alloc: Global, cell: &Cell, proof: Option<&Shut>) -> Result<TreeNode, AllocError>
-    ensures { IfOk result (λ t. t ≡ record { option = cell.now.option; steps = cell.now.steps; end = shut_end (option_copied proof.entry) cell.now.end }) }
+    ensures { IfOk result
+        (λ t. t ≡ record {
+          option = cell.now.option;
+          steps = cell.now.steps;
+          end =
+              shut_end (option_copied proof.entry) cell.now.end;
+        }) }
 {
     let steps = copy_steps(alloc, &cell.steps)?;
     let end = copy_shut(alloc, cell, proof)?;
@@ -85,7 +92,9 @@ fn copy_node(alloc: Global, cell: &Cell, proof: Option<&Shut>) -> Result<TreeNod
 /// Puts the numbers of a run that follow its first one back.
 fn put_rest(stack: &mut Vec<Run>, run: Run) -> Result<(), AllocError>
     requires { run.next < 2 ^ 32 - 1 }
-    ensures { OnOk result (to_come stack.new.items ≡ range_with_len (run.next + 1) run.more ++ to_come stack.old.items) }
+    ensures { OnOk result
+        (to_come stack.new.items ≡ range_with_len (run.next + 1) run.more
+        ++ to_come stack.old.items) }
 {
     if run.more == 0 {
         return Ok(());
@@ -99,7 +108,9 @@ fn put_rest(stack: &mut Vec<Run>, run: Run) -> Result<(), AllocError>
 
 /// Puts the numbers of a node's children on top.
 fn put_children(stack: &mut Vec<Run>, cell: &Cell) -> Result<(), AllocError>
-    ensures { OnOk result (to_come stack.new.items ≡ numbers_below cell.now.first cell.now.end ++ to_come stack.old.items) }
+    ensures { OnOk result
+        (to_come stack.new.items ≡ numbers_below cell.now.first cell.now.end
+        ++ to_come stack.old.items) }
 {
     let children = cell.end.children();
     if children == 0 {
@@ -124,8 +135,17 @@ fn visit(
 ) -> Result<(), AllocError>
     requires { run.next < 2 ^ 32 - 1 }
     ensures order { OnOk result (order.new.items ≡ order.old.items ++ run.next ∷ []) }
-    ensures stack { OnOk result (to_come stack.new.items ≡ numbers_below cell.now.first cell.now.end ++ (range_with_len (run.next + 1) run.more ++ to_come stack.old.items)) }
-    ensures nodes { OnOk result (nodes.new.items ≡ nodes.old.items ++ record { option = cell.now.option; steps = cell.now.steps; end = shut_end (option_copied proof.entry) cell.now.end } ∷ []) }
+    ensures stack { OnOk result
+        (to_come stack.new.items ≡ numbers_below cell.now.first cell.now.end
+        ++ (range_with_len (run.next + 1) run.more ++ to_come stack.old.items)) }
+    ensures nodes { OnOk result
+        (nodes.new.items ≡ nodes.old.items
+        ++ record {
+          option = cell.now.option;
+          steps = cell.now.steps;
+          end =
+              shut_end (option_copied proof.entry) cell.now.end;
+        } ∷ []) }
 {
     put_rest(stack, run)?;
     put_children(stack, cell)?;
@@ -174,7 +194,9 @@ pub fn nodes_in_preorder(
 ) -> Result<Preorder, AllocError>
     requires linked { IsLinked pool.now.payloads }
     requires wanted { wanted < length pool.now.payloads }
-    ensures { IfOk result (λ t. IsTreeIn (shut_cells proofs.now pool.now.payloads) wanted t.order.items t.nodes.items t.place) }
+    ensures { IfOk result
+        (λ t. IsTreeIn (shut_cells proofs.now pool.now.payloads) wanted t.order.items t.nodes.items
+        t.place) }
 {
     pool.is_pool();
     let mut nodes = Vec::new(alloc);

@@ -12,7 +12,8 @@ forest_length : (k : ℕ) (ts : Tree) → trees.IsForest k ts → k ≤ length t
 forest_length zero ts f = omega arith
 forest_length (suc k) [] f = absurd f
 forest_length (suc k) (t ∷ ts) f =
-    let rest : trees.children t.end + k ≤ length ts = forest_length (trees.children t.end + k) ts f.1 in
+    let rest : trees.children t.end + k ≤ length ts =
+    forest_length (trees.children t.end + k) ts f.1 in
     let some : 0 ≤ trees.children t.end = omega arith in
     omega (arith, rest)
 
@@ -25,8 +26,11 @@ forest_counted : (k : ℕ) (ts : Tree) → trees.IsForest k ts → length ts < 2
 forest_counted k [] f few = tt
 forest_counted zero (t ∷ ts) f few = absurd f
 forest_counted (suc k) (t ∷ ts) f few =
-    let rest : trees.children t.end + k ≤ length ts = forest_length (trees.children t.end + k) ts f.1 in
-    (counts_end t.end (omega (arith, rest, few)), forest_counted (trees.children t.end + k) ts f.1 (omega (arith, few)))
+    let rest : trees.children t.end + k ≤ length ts =
+    forest_length (trees.children t.end + k) ts f.1 in (
+      counts_end t.end (omega (arith, rest, few)),
+      forest_counted (trees.children t.end + k) ts f.1 (omega (arith, few)),
+    )
 
 pub tree_counted : (ts : Tree) → trees.IsTree ts → length ts < 2 ^ 32 → CountsTree ts
 tree_counted [] whole few = absurd whole

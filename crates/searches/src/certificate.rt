@@ -171,7 +171,8 @@ impl Certificate {
         requires tree { KnowsTree problem.now self.now.tree }
         requires tail { KnowsTail problem.now self.now.tail }
         requires few { length self.now.tree < 2 ^ 32 }
-        ensures { read_text problem.now (tree_text problem.now self.now.claim self.now.tree self.now.tail) ≡ Ok self.now }
+        ensures { read_text problem.now
+            (tree_text problem.now self.now.claim self.now.tree self.now.tail) ≡ Ok self.now }
     {
         problem.is_valid();
         self.tree.is_tree();
@@ -197,7 +198,9 @@ impl Certificate {
         requires claim { KnowsClaim problem.now self.now.claim }
         requires tree { KnowsTree problem.now self.now.tree }
         requires tail { KnowsTail problem.now self.now.tail }
-        ensures prints { Prints (tree_text_lines problem.now self.now.claim self.now.tree self.now.tail) (K.state out.old) (K.state out.new) result }
+        ensures prints { Prints
+            (tree_text_lines problem.now self.now.claim self.now.tree self.now.tail)
+            (K.state out.old) (K.state out.new) result }
         ensures later { (K.state out.old).faults ≤ (K.state out.new).faults }
     {
         print_tree(alloc, problem, &self.claim, &self.tree, &self.tail, out)

@@ -74,7 +74,9 @@ pub fn solve<F: Shelf, K: Sink, E: Sink, W: Watch>(
 ) -> Status
     requires some { 1 ≤ effort.budget }
     requires few { effort.budget ≤ 1000000 }
-    ensures ends { Ends (FileSays (SolveWork effort.budget) file.now (F.state shelf.old) (F.state shelf.new)) out.old out.new result }
+    ensures ends { Ends
+        (FileSays (SolveWork effort.budget) file.now (F.state shelf.old) (F.state shelf.new))
+        out.old out.new result }
     ensures keeps { Keeps (F.state shelf.old) (F.state shelf.new) }
 {
     match problem_of(alloc, shelf, out, file) {

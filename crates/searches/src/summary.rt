@@ -1,12 +1,14 @@
 //! The summary of a whole search.
-ghost use Rattle.std.specs.Prelude.{◌≡◌, ◌≤◌, ◌++◌, ◌∷◌, [], ℕ, Bool, IfOk, codes, decimal, length, string_bytes};
+ghost use Rattle.std.specs.Prelude.{◌≡◌, ◌≤◌, ◌++◌, ◌∷◌, [], ℕ, Bool, IfOk, codes, decimal, length};
+ghost use Rattle.std.specs.Prelude.{string_bytes};
 ghost use Rattle.std.specs.Fmt.{signed_decimal};
 ghost use Rattle.pns_rules.specs.Shape.{shape_of};
 ghost use Rattle.pns_rules.specs.Structure.{IsStructure};
 ghost use Rattle.pgraph.specs.Tables.{shape};
 ghost use Rattle.tree_rules.specs.Claim as claims;
 ghost use Rattle.studio_rules.specs.Solve.{Solves};
-ghost use Rattle.studio_rules.specs.Summary.{CountsMaximal, SummarySays, SummaryWork, summary_lines};
+ghost use Rattle.studio_rules.specs.Summary.{CountsMaximal, SummarySays, SummaryWork};
+ghost use Rattle.studio_rules.specs.Summary.{summary_lines};
 ghost use Rattle.studio_rules.specs.Lines.{text_of};
 ghost use Rattle.studio_rules.specs.Ending.{Ends, Tells};
 
@@ -29,7 +31,8 @@ use unit_sets::UnitSet;
 /// How many units the maximal structure has.
 fn maximal_count(problem: &Problem, graph: &Graph) -> u32
     requires graph { shape graph.now ≡ shape_of problem.now }
-    ensures { (s : ℕ → Bool) → IsStructure (shape_of problem.now) s → CountsMaximal problem.now result }
+    ensures { (s : ℕ → Bool) → IsStructure (shape_of problem.now) s
+        → CountsMaximal problem.now result }
 {
     match maximal(graph, UnitSet::empty()) {
         Some(all) => {
@@ -42,14 +45,19 @@ fn maximal_count(problem: &Problem, graph: &Graph) -> u32
 
 // The lines before the names of the network, and those after them.
 fn sizes_text(alloc: Global, units: usize, most: u32) -> Result<String, AllocError>
-    ensures { IfOk result (λ text. string_bytes text ≡ codes "units " ++ (decimal units ++ (10 ∷ codes "maximal " ++ (decimal most ++ 10 ∷ codes "network")))) }
+    ensures { IfOk result
+        (λ text. string_bytes text ≡ codes "units "
+        ++ (decimal units ++ (10 ∷ codes "maximal " ++ (decimal most ++ 10 ∷ codes "network")))) }
 {
     let text = format!(in alloc; "units {units}\nmaximal {most}\nnetwork")?;
     Ok(text)
 }
 
 fn cost_text(alloc: Global, cost: i128, d: i128, nodes: usize) -> Result<String, AllocError>
-    ensures { IfOk result (λ text. string_bytes text ≡ 10 ∷ codes "cost " ++ (signed_decimal cost ++ (32 ∷ signed_decimal d ++ (10 ∷ codes "nodes " ++ (decimal nodes ++ 10 ∷ []))))) }
+    ensures { IfOk result
+        (λ text. string_bytes text ≡ 10 ∷ codes "cost "
+        ++ (signed_decimal cost
+        ++ (32 ∷ signed_decimal d ++ (10 ∷ codes "nodes " ++ (decimal nodes ++ 10 ∷ []))))) }
 {
     let text = format!(in alloc; "\ncost {cost} {d}\nnodes {nodes}\n")?;
     Ok(text)
@@ -63,7 +71,8 @@ fn summary(
     nodes: usize,
 ) -> Result<Vec<u8>, AllocError>
     requires { length problem.now.units ≤ 128 }
-    ensures { IfOk result (λ text. text.items ≡ text_of (summary_lines problem.now most network.now nodes)) }
+    ensures { IfOk result
+        (λ text. text.items ≡ text_of (summary_lines problem.now most network.now nodes)) }
 {
     let sizes = sizes_text(alloc, problem.units().len(), most)?;
     let cost = cost_text(alloc, network.cost(), network.d(), nodes)?;

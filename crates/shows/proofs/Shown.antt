@@ -35,16 +35,23 @@ unfinished_text Spent is = tt
 unfinished_text status is = absurd is
 
 -- an answer with the status of a tail
-pub tells_of : (answers : Status → List (List ℕ) → Type 0) (tail : Tail) (lines : List (List ℕ)) (text : List ℕ) → answers (status_of tail) lines → text ≡ text_of lines → Tells answers (status_of tail) text
+pub tells_of : (answers : Status → List (List ℕ) → Type 0) (tail : Tail) (lines : List (List ℕ))
+    (text : List ℕ) → answers (status_of tail) lines → text ≡ text_of lines
+    → Tells answers (status_of tail) text
 tells_of answers whole lines text h e = (lines, h, e)
 tells_of answers (spent next options) lines text h e = (lines, h, e)
 tells_of answers (past node nonbasic place) lines text h e = (lines, h, e)
 
-pub found_shows : AcceptedIsOptimal → (p : Problem) → IsValid p → (budget : ℕ) (f : Found) → IsFound p first_node budget f → (s : Status) (lines : List (List ℕ)) → FoundShows p f s lines → ShowWork budget p s lines
-found_shows optimal p valid budget f h s lines said = (said.0, holds optimal p valid budget f h said.0 said.1, said.2)
+pub found_shows : AcceptedIsOptimal → (p : Problem) → IsValid p → (budget : ℕ) (f : Found)
+    → IsFound p first_node budget f → (s : Status) (lines : List (List ℕ)) → FoundShows p f s lines
+    → ShowWork budget p s lines
+found_shows optimal p valid budget f h s lines said =
+    (said.0, holds optimal p valid budget f h said.0 said.1, said.2)
 
 -- if the claim is proved, the lines say so
-proved_lines : (p : Problem) (claim : Claim) (tree : Tree) (v : Verdict) (lines : List (List ℕ)) → Solves p claim tree → IsVerdict p claim tree v → lines ≡ verdict_lines p claim v → lines ≡ proved_line p claim ∷ tables_of p claim
+proved_lines : (p : Problem) (claim : Claim) (tree : Tree) (v : Verdict) (lines : List (List ℕ))
+    → Solves p claim tree → IsVerdict p claim tree v → lines ≡ verdict_lines p claim v
+    → lines ≡ proved_line p claim ∷ tables_of p claim
 proved_lines p claim tree Proved lines solves is e = e
 proved_lines p claim tree Unfinished lines solves is e = absurd (is.0 solves.proved.accepted)
 proved_lines p claim tree (Fails node why) lines solves is e = absurd (is.0 solves.proved.accepted)
@@ -52,7 +59,14 @@ proved_lines p claim tree (Fails node why) lines solves is e = absurd (is.0 solv
 pub shown_is_proved : ShownIsProved
 shown_is_proved budget p lines (c, held, said) = at c.tail said.0 held
   where
-    at : (tail : Tail) → Done ≡ status_of tail → Holds budget p c.claim c.tree tail → (claim : Claim) × (tree : Tree) × Solves p claim tree × (lines ≡ proved_line p claim ∷ tables_of p claim)
-    at whole e solves = (c.claim, c.tree, solves, proved_lines p c.claim c.tree said.1.0 lines solves said.1.1 said.1.2)
+    at : (tail : Tail) → Done ≡ status_of tail → Holds budget p c.claim c.tree tail
+        → (claim : Claim) × (tree : Tree) × Solves p claim tree
+        × (lines ≡ proved_line p claim ∷ tables_of p claim)
+    at whole e solves = (
+      c.claim,
+      c.tree,
+      solves,
+      proved_lines p c.claim c.tree said.1.0 lines solves said.1.1 said.1.2,
+    )
     at (spent next options) e spent_so = absurd cc
     at (past node nonbasic place) e past_so = absurd cc

@@ -8,4 +8,5 @@ use Rattle.studio_rules.specs.Show.{CertificateShows}
 use Rattle.studio_rules.specs.declared.status.Status.{Status}
 
 abbrev pub FoundShows : Problem → Found → Status → List (List ℕ) → Type 0
-FoundShows p found status lines = (c : Certificate) × (certificate_of found ≡ Some c) × CertificateShows p c status lines
+FoundShows p found status lines = (c : Certificate) × (certificate_of found ≡ Some c)
+    × CertificateShows p c status lines

@@ -50,7 +50,8 @@ fn say_report<K: Sink, E: Sink>(
 /// report only if there is no memory.
 fn report_of(alloc: Global, site: &Site<'_>, claim: &Claim, tree: &Tree) -> Option<Vec<u8>>
     requires few { length tree.now < 2 ^ 32 }
-    ensures { IfSome result (λ bytes. (lines : List (List ℕ)) × ReportSays site.now (claim_of claim.now) tree.now lines × (bytes.items ≡ text_of lines)) }
+    ensures { IfSome result (λ bytes. (lines : List (List ℕ))
+        × ReportSays site.now (claim_of claim.now) tree.now lines × (bytes.items ≡ text_of lines)) }
 {
     let Ok(verdict) = verdict_of(alloc, site, claim, tree) else {
         return None;
@@ -136,7 +137,9 @@ pub fn show<F: Shelf, K: Sink, E: Sink, W: Watch>(
 ) -> Status
     requires some { 1 ≤ effort.budget }
     requires few { effort.budget ≤ 1000000 }
-    ensures ends { Ends (FileSays (ShowWork effort.budget) file.now (F.state shelf.old) (F.state shelf.new)) out.old out.new result }
+    ensures ends { Ends
+        (FileSays (ShowWork effort.budget) file.now (F.state shelf.old) (F.state shelf.new)) out.old
+        out.new result }
     ensures keeps { Keeps (F.state shelf.old) (F.state shelf.new) }
 {
     match problem_of(alloc, shelf, out, file) {

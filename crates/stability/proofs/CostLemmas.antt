@@ -4,10 +4,14 @@ use Rattle.std.specs.Prelude.{IfOk, OnOk}
 use Rattle.integer_laws.specs.Range.{InRange}
 use Rattle.flow_rules.specs.Steps.{AreInRange, last_from}
 
-last_in_range : (before : ℤ) (zs : List ℤ) → InRange before → AreInRange zs → InRange (last_from before zs)
+last_in_range : (before : ℤ) (zs : List ℤ) → InRange before → AreInRange zs
+    → InRange (last_from before zs)
 last_in_range before [] h k = h
 last_in_range before (z ∷ zs) h k = last_in_range z zs k.0 k.1
 
-pub cost_in_range : {E : Type 0} (r : Result ℤ E) (steps : List ℤ) (sum : ℤ) → IfOk r (λ total. total ≡ sum) → OnOk r (AreInRange steps) → last_from (pos 0) steps ≡ sum → IfOk r InRange
-cost_in_range (Ok total) steps sum value in_range last = subst InRange (last ∙ sym value) (last_in_range (pos 0) steps (search rules) in_range)
+pub cost_in_range : {E : Type 0} (r : Result ℤ E) (steps : List ℤ) (sum : ℤ)
+    → IfOk r (λ total. total ≡ sum) → OnOk r (AreInRange steps) → last_from (pos 0) steps ≡ sum
+    → IfOk r InRange
+cost_in_range (Ok total) steps sum value in_range last =
+    subst InRange (last ∙ sym value) (last_in_range (pos 0) steps (search rules) in_range)
 cost_in_range (Err e) steps sum value in_range last = tt

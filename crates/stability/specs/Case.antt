@@ -14,7 +14,8 @@ pub record Case : Type 0 where
 
 -- the graph is that of the problem, the network passes as a claim, and the present value is that of
 -- the spot
-pub record IsCase (p : Problem) (g : Shape) (w : Network) (spot : Spot) (present : ℤ) (budget : ℕ) : Type 0 where
+pub record IsCase (p : Problem) (g : Shape) (w : Network) (spot : Spot) (present : ℤ)
+    (budget : ℕ) : Type 0 where
   pub graph : g ≡ shape_of p
   pub feasible : IsFeasible p w
   pub known : KnowsSpot p spot

@@ -7,9 +7,11 @@ use Rattle.abb_search.specs.Found.{IsFound}
 use Rattle.abb_search.specs.declared.outcome.Found.TheVariants as founds
 use Rattle.stability_rules.specs.declared.spot.Spot.{Spot}
 use Rattle.stability_rules.specs.Spot.{valued, IsAllowedValue}
-use Rattle.stability_rules.specs.Range.{IsBestAt, IsCheaper, IsCheaperAt, IsHalfProved, MayWant, IsPastCost}
+use Rattle.stability_rules.specs.Range.{IsBestAt, IsCheaper, IsCheaperAt, IsHalfProved, MayWant}
+use Rattle.stability_rules.specs.Range.{IsPastCost}
 use Rattle.stability.specs.declared.outcome.RangeFault.{RangeFault}
-use Rattle.stability.specs.declared.outcome.RangeFault.TheVariants.{NotBest, Spent, Past, PastCost, Memory}
+use Rattle.stability.specs.declared.outcome.RangeFault.TheVariants.{NotBest, Spent, Past, PastCost}
+use Rattle.stability.specs.declared.outcome.RangeFault.TheVariants.{Memory}
 
 -- ---- at one value
 
@@ -21,8 +23,11 @@ IsProbed p spot w v (Some n) = IsCheaperAt p spot w v n
 -- the search against the network found no answer there
 abbrev pub IsSearchStop : Problem → Spot → ℕ → ℤ → RangeFault → Type 0
 IsSearchStop p spot budget v (NotBest n) = ⊥
-IsSearchStop p spot budget v (Spent value best tree next options) = (value ≡ v) × IsFound (valued p spot v) first_node budget (founds.Spent best tree next options)
-IsSearchStop p spot budget v (Past value best tree node nonbasic place) = (value ≡ v) × IsFound (valued p spot v) first_node budget (founds.Past best tree node nonbasic place)
+IsSearchStop p spot budget v (Spent value best tree next options) =
+    (value ≡ v) × IsFound (valued p spot v) first_node budget (founds.Spent best tree next options)
+IsSearchStop p spot budget v (Past value best tree node nonbasic place) =
+    (value ≡ v)
+    × IsFound (valued p spot v) first_node budget (founds.Past best tree node nonbasic place)
 IsSearchStop p spot budget v (PastCost value at) = ⊥
 IsSearchStop p spot budget v Memory = Unit {0}
 
@@ -39,8 +44,12 @@ IsStopAt p spot w budget v fault = IsSearchStop p spot budget v fault
 abbrev pub IsRefusal : Problem → Spot → Network → ℕ → RangeFault → Type 0
 IsRefusal p spot w budget (NotBest n) = IsCheaper p (record { cost = w.cost; d = w.d }) n
 IsRefusal p spot w budget (Spent value best tree next options) =
-    IsAllowedValue spot value × MayWant p spot w value × IsFound (valued p spot value) first_node budget (founds.Spent best tree next options)
+    IsAllowedValue spot value × MayWant p spot w value
+    × IsFound (valued p spot value) first_node budget (founds.Spent best tree next options)
 IsRefusal p spot w budget (Past value best tree node nonbasic place) =
-    IsAllowedValue spot value × MayWant p spot w value × IsFound (valued p spot value) first_node budget (founds.Past best tree node nonbasic place)
-IsRefusal p spot w budget (PastCost value at) = IsAllowedValue spot value × IsHalfProved p spot w value × IsPastCost p spot w value at
+    IsAllowedValue spot value × MayWant p spot w value
+    × IsFound (valued p spot value) first_node budget
+    (founds.Past best tree node nonbasic place)
+IsRefusal p spot w budget (PastCost value at) =
+    IsAllowedValue spot value × IsHalfProved p spot w value × IsPastCost p spot w value at
 IsRefusal p spot w budget Memory = Unit {0}

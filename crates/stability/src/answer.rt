@@ -20,9 +20,13 @@ impl<'a> Case<'a> {
     /// The range of a network that is optimal now.
     fn both_sides<W: Watch>(&self, desk: &mut Desk<W>) -> Result<Range, RangeFault>
         requires desk { IsDesk self.now desk.old }
-        requires best { IsBestAt self.now.problem self.now.spot self.now.network (value_at self.now.problem self.now.spot) }
-        ensures range { IfOk result (λ r. IsRange self.now.problem self.now.spot self.now.network r.from r.to r.below r.above) }
-        ensures refusal { IfErr result (IsRefusal self.now.problem self.now.spot self.now.network self.now.budget) }
+        requires best { IsBestAt self.now.problem self.now.spot self.now.network
+            (value_at self.now.problem self.now.spot) }
+        ensures range { IfOk result
+            (λ r. IsRange self.now.problem self.now.spot self.now.network r.from r.to r.below
+            r.above) }
+        ensures refusal { IfErr result
+            (IsRefusal self.now.problem self.now.spot self.now.network self.now.budget) }
     {
         best_between();
         self.is_known();
@@ -40,8 +44,11 @@ impl<'a> Case<'a> {
     fn range<W: Watch>(&self, desk: &mut Desk<W>) -> Result<Range, RangeFault>
         requires problem { desk.old.problem ≡ self.now.problem }
         requires desk { IsDesk self.now desk.old }
-        ensures range { IfOk result (λ r. IsRange self.now.problem self.now.spot self.now.network r.from r.to r.below r.above) }
-        ensures refusal { IfErr result (IsRefusal self.now.problem self.now.spot self.now.network self.now.budget) }
+        ensures range { IfOk result
+            (λ r. IsRange self.now.problem self.now.spot self.now.network r.from r.to r.below
+            r.above) }
+        ensures refusal { IfErr result
+            (IsRefusal self.now.problem self.now.spot self.now.network self.now.budget) }
     {
         self.is_known();
         present_stays();
@@ -70,7 +77,8 @@ pub fn range<W: Watch>(
     requires passes { IsFeasible site.now network.now }
     requires known { KnowsSpot site.now spot }
     requires some { 1 ≤ effort.budget }
-    ensures range { IfOk result (λ r. IsRange site.now spot network.now r.from r.to r.below r.above) }
+    ensures range { IfOk result
+        (λ r. IsRange site.now spot network.now r.from r.to r.below r.above) }
     ensures refusal { IfErr result (IsRefusal site.now spot network.now effort.budget) }
 {
     let case = Case::of(alloc, site, network, spot, effort.budget);

@@ -4,7 +4,8 @@ ghost use Rattle.problem_rules.specs.Validity.{IsValid};
 ghost use Rattle.pns_rules.specs.Shape.{shape_of};
 ghost use Rattle.pgraph.specs.Tables.{shape};
 ghost use Rattle.tree_rules.specs.Claim.{IsFeasible};
-ghost use Rattle.stability_rules.specs.Spot.{KnowsSpot, value_at, IsAllowedValue, value_on, limit_on, least_value, greatest_value};
+ghost use Rattle.stability_rules.specs.Spot.{KnowsSpot, value_at, IsAllowedValue, value_on};
+ghost use Rattle.stability_rules.specs.Spot.{limit_on, least_value, greatest_value};
 
 use crate::setting::value_at;
 use branch_tree::Network;
@@ -34,9 +35,16 @@ impl<'a> Model for Case<'a> {
 
     ghost Value = { cases.Case };
 
-    ghost view = { λ c. record { problem = c.problem.now; network = c.network.now; spot = c.spot; budget = c.budget } };
+    ghost view = { λ c. record {
+      problem = c.problem.now;
+      network = c.network.now;
+      spot =
+          c.spot;
+      budget = c.budget;
+    } };
 
-    ghost invariant = { λ c. IsCase c.problem.now (shape c.graph.now) c.network.now c.spot c.present c.budget };
+    ghost invariant = { λ c. IsCase c.problem.now (shape c.graph.now) c.network.now c.spot c.present
+        c.budget };
 }
 
 fn least_value(spot: Spot) -> i64
@@ -66,7 +74,8 @@ impl<'a> Case<'a> {
         requires passes { IsFeasible site.now network.now }
         requires known { KnowsSpot site.now spot }
         requires some { 1 ≤ budget }
-        ensures { result ≡ record { problem = site.now; network = network.now; spot = spot; budget = budget } }
+        ensures { result
+            ≡ record { problem = site.now; network = network.now; spot = spot; budget = budget } }
     {
         let problem = site.problem();
         present_stays();
@@ -102,7 +111,8 @@ impl<'a> Case<'a> {
 
     /// How far the limit of the values is from the present one.
     pub(crate) fn room(&self, side: Side) -> u64
-        ensures { value_on side (value_at self.now.problem self.now.spot) result ≡ limit_on side self.now.spot }
+        ensures { value_on side (value_at self.now.problem self.now.spot) result
+            ≡ limit_on side self.now.spot }
     {
         match side {
             Side::Below => (self.present - least_value(self.spot)) as u64,
@@ -112,7 +122,8 @@ impl<'a> Case<'a> {
 
     /// The value that lies so far away from the present one.
     pub(crate) fn value(&self, side: Side, away: u64) -> i64
-        requires { IsAllowedValue self.now.spot (value_on side (value_at self.now.problem self.now.spot) away) }
+        requires { IsAllowedValue self.now.spot
+            (value_on side (value_at self.now.problem self.now.spot) away) }
         ensures { result ≡ value_on side (value_at self.now.problem self.now.spot) away }
     {
         match side {

@@ -22,10 +22,18 @@ use std::alloc::{AllocError, Global};
 pub(crate) fn cost_in(problem: &Problem, graph: &Graph, network: &Network) -> Result<i128, PastSum>
     requires graph { shape graph.now ≡ shape_of problem.now }
     requires known { (u : ℕ) → has network.now.units u ≡ true → u < (shape graph.now).units }
-    ensures value { IfOk result (λ total. total ≡ cost (net_of problem.now) (has network.now.units) (size_in network.now) network.now.d) }
-    ensures steps { OnOk result (AreInRange (cost_steps (net_of problem.now) (has network.now.units) (size_in network.now) network.now.d)) }
+    ensures value { IfOk result
+        (λ total. total ≡ cost (net_of problem.now) (has network.now.units) (size_in network.now)
+        network.now.d) }
+    ensures steps { OnOk result
+        (AreInRange
+        (cost_steps (net_of problem.now) (has network.now.units) (size_in network.now)
+        network.now.d)) }
     ensures in_range { IfOk result InRange }
-    ensures past { IfErr result (λ e. IsFirstPast (cost_steps (net_of problem.now) (has network.now.units) (size_in network.now) network.now.d) e.at) }
+    ensures past { IfErr result
+        (λ e. IsFirstPast
+        (cost_steps (net_of problem.now) (has network.now.units) (size_in network.now)
+        network.now.d) e.at) }
 {
     sums_are_last();
     network.is_sized();

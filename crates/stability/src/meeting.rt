@@ -68,8 +68,10 @@ impl<'a> Case<'a> {
         other: &Network,
     ) -> Option<u64>
         requires desk { IsDesk self.now desk.old }
-        requires known { (u : ℕ) → has other.now.units u ≡ true → u < (shape_of self.now.problem).units }
-        requires allowed { IsAllowedValue self.now.spot (value_on side (value_at self.now.problem self.now.spot) 1) }
+        requires known { (u : ℕ) → has other.now.units u ≡ true
+            → u < (shape_of self.now.problem).units }
+        requires allowed { IsAllowedValue self.now.spot
+            (value_on side (value_at self.now.problem self.now.spot) 1) }
         ensures { IsDesk self.now desk.new }
     {
         structures_stay();

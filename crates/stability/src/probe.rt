@@ -1,5 +1,6 @@
 //! A search at one value: is the network optimal there, or another one cheaper?
-ghost use Rattle.std.specs.Prelude.{◌≡◌, ◌≤◌, ◌≤ℤ◌, ◌<ℤ◌, ◌*ℤ◌, ◌↔◌, pos, IsTrue, IfOk, IfErr, Some};
+ghost use Rattle.std.specs.Prelude.{◌≡◌, ◌≤◌, ◌≤ℤ◌, ◌<ℤ◌, ◌*ℤ◌, ◌↔◌, pos, IsTrue, IfOk, IfErr};
+ghost use Rattle.std.specs.Prelude.{Some};
 ghost use Rattle.pns_rules.specs.Shape.{shape_of};
 ghost use Rattle.neutral_extension.specs.Candidates.{AreMakersOf};
 ghost use Rattle.tree_rules.specs.Claim.{IsFeasible};
@@ -24,7 +25,8 @@ use tree_laws::{accepted_has_flows, accepted_is_optimal};
 
 /// Whether the network costs less than this much.
 fn is_cheaper(much: &CostOver, network: &Network) -> bool
-    ensures { IsTrue result ↔ ((network.now.cost *ℤ much.now.d) <ℤ (much.now.cost *ℤ network.now.d)) }
+    ensures { IsTrue result
+        ↔ ((network.now.cost *ℤ much.now.d) <ℤ (much.now.cost *ℤ network.now.d)) }
 {
     network.is_sized();
     !much.is_reached(network.cost(), network.d())
@@ -34,9 +36,12 @@ impl<'a> Case<'a> {
     /// The network with its cost in the problem with this value in the spot.
     fn network_in(&self, problem: &Problem, value: i64) -> Result<Network, RangeFault>
         requires { problem.now ≡ valued self.now.problem self.now.spot value }
-        ensures same { IfOk result (λ w. w ≡ repriced self.now.problem self.now.spot self.now.network value) }
-        ensures passes { IfOk result (λ w. IsFeasible (valued self.now.problem self.now.spot value) w) }
-        ensures stopped { IfErr result (IsStopAt self.now.problem self.now.spot self.now.network self.now.budget value) }
+        ensures same { IfOk result
+            (λ w. w ≡ repriced self.now.problem self.now.spot self.now.network value) }
+        ensures passes { IfOk result
+            (λ w. IsFeasible (valued self.now.problem self.now.spot value) w) }
+        ensures stopped { IfErr result
+            (IsStopAt self.now.problem self.now.spot self.now.network self.now.budget value) }
     {
         structures_stay();
         match cost_in(problem, self.graph, self.network) {
@@ -58,10 +63,13 @@ impl<'a> Case<'a> {
     ) -> Result<Option<Network>, RangeFault>
         requires problem { desk.old.problem ≡ valued self.now.problem self.now.spot value }
         requires own { AreMakersOf (shape_of self.now.problem) desk.old.makers }
-        requires network { network ≡ repriced self.now.problem self.now.spot self.now.network value }
+        requires network { network
+            ≡ repriced self.now.problem self.now.spot self.now.network value }
         requires passes { IsFeasible (valued self.now.problem self.now.spot value) network }
-        ensures probed { IfOk result (IsProbed self.now.problem self.now.spot self.now.network value) }
-        ensures stopped { IfErr result (IsSearchStop self.now.problem self.now.spot self.now.budget value) }
+        ensures probed { IfOk result
+            (IsProbed self.now.problem self.now.spot self.now.network value) }
+        ensures stopped { IfErr result
+            (IsSearchStop self.now.problem self.now.spot self.now.budget value) }
         ensures same { desk.new ≡ desk.old }
     {
         structures_stay();
@@ -126,8 +134,12 @@ impl<'a> Case<'a> {
     ) -> Result<Option<Network>, RangeFault>
         requires problem { desk.old.problem ≡ self.now.problem }
         requires desk { IsDesk self.now desk.old }
-        ensures probed { IfOk result (IsProbed self.now.problem self.now.spot self.now.network (value_at self.now.problem self.now.spot)) }
-        ensures stopped { IfErr result (IsSearchStop self.now.problem self.now.spot self.now.budget (value_at self.now.problem self.now.spot)) }
+        ensures probed { IfOk result
+            (IsProbed self.now.problem self.now.spot self.now.network
+            (value_at self.now.problem self.now.spot)) }
+        ensures stopped { IfErr result
+            (IsSearchStop self.now.problem self.now.spot self.now.budget
+            (value_at self.now.problem self.now.spot)) }
         ensures desk { IsDesk self.now desk.new }
     {
         self.is_known();
@@ -146,8 +158,10 @@ impl<'a> Case<'a> {
     ) -> Result<Option<Network>, RangeFault>
         requires desk { IsDesk self.now desk.old }
         requires allowed { IsAllowedValue self.now.spot value }
-        ensures probed { IfOk result (IsProbed self.now.problem self.now.spot self.now.network value) }
-        ensures stopped { IfErr result (IsStopAt self.now.problem self.now.spot self.now.network self.now.budget value) }
+        ensures probed { IfOk result
+            (IsProbed self.now.problem self.now.spot self.now.network value) }
+        ensures stopped { IfErr result
+            (IsStopAt self.now.problem self.now.spot self.now.network self.now.budget value) }
         ensures desk { IsDesk self.now desk.new }
     {
         desk.set(self, value);
@@ -165,9 +179,14 @@ impl<'a> Case<'a> {
         away: u64,
     ) -> Result<Option<Network>, RangeFault>
         requires desk { IsDesk self.now desk.old }
-        requires allowed { IsAllowedValue self.now.spot (value_on side (value_at self.now.problem self.now.spot) away) }
-        ensures probed { IfOk result (IsProbed self.now.problem self.now.spot self.now.network (value_on side (value_at self.now.problem self.now.spot) away)) }
-        ensures stopped { IfErr result (IsStopAt self.now.problem self.now.spot self.now.network self.now.budget (value_on side (value_at self.now.problem self.now.spot) away)) }
+        requires allowed { IsAllowedValue self.now.spot
+            (value_on side (value_at self.now.problem self.now.spot) away) }
+        ensures probed { IfOk result
+            (IsProbed self.now.problem self.now.spot self.now.network
+            (value_on side (value_at self.now.problem self.now.spot) away)) }
+        ensures stopped { IfErr result
+            (IsStopAt self.now.problem self.now.spot self.now.network self.now.budget
+            (value_on side (value_at self.now.problem self.now.spot) away)) }
         ensures desk { IsDesk self.now desk.new }
     {
         self.probe(desk, self.value(side, away))

@@ -1,6 +1,7 @@
 //! Whether the network's cost rises on a side as little as that of any structure can: then no
 //! search is needed there.
-ghost use Rattle.std.specs.Prelude.{◌≡◌, ◌≤◌, ◌<◌, ◌^◌, ◌*ℤ◌, neg_ℤ, true, length, unsigned_abs, IfSome};
+ghost use Rattle.std.specs.Prelude.{◌≡◌, ◌≤◌, ◌<◌, ◌^◌, ◌*ℤ◌, neg_ℤ, true, length, unsigned_abs};
+ghost use Rattle.std.specs.Prelude.{IfSome};
 ghost use Rattle.problem_rules.specs.Problem.{unit_at};
 ghost use Rattle.problem_rules.specs.WellFormed.{IsInRange};
 ghost use Rattle.flow_rules.specs.Net.{million};
@@ -150,7 +151,8 @@ impl<'a> Case<'a> {
     /// What the network costs in the problem with this value in the spot.
     fn cost_with(&self, problem: &Problem, value: i64) -> Option<i128>
         requires { problem.now ≡ valued self.now.problem self.now.spot value }
-        ensures { IfSome result (λ cost. cost ≡ cost_at self.now.problem self.now.spot self.now.network value) }
+        ensures { IfSome result
+            (λ cost. cost ≡ cost_at self.now.problem self.now.spot self.now.network value) }
     {
         structures_stay();
         match cost_in(problem, self.graph, self.network) {

@@ -173,7 +173,8 @@ impl<'a> Case<'a> {
         requires is_bracket { IsBracket self.now side bracket }
         requires settled { IsSettled bracket }
         ensures end { IfOk result (IsEnd self.now side) }
-        ensures refusal { IfErr result (IsRefusal self.now.problem self.now.spot self.now.network self.now.budget) }
+        ensures refusal { IfErr result
+            (IsRefusal self.now.problem self.now.spot self.now.network self.now.budget) }
     {
         best_between();
         let away = bracket.good;
@@ -196,7 +197,8 @@ impl<'a> Case<'a> {
         requires desk { IsDesk self.now desk.old }
         requires is_bracket { IsBracket self.now side bracket }
         ensures end { IfOk result (IsEnd self.now side) }
-        ensures refusal { IfErr result (IsRefusal self.now.problem self.now.spot self.now.network self.now.budget) }
+        ensures refusal { IfErr result
+            (IsRefusal self.now.problem self.now.spot self.now.network self.now.budget) }
         ensures desk { IsDesk self.now desk.new }
     {
         let mut bracket = bracket;
@@ -213,9 +215,11 @@ impl<'a> Case<'a> {
     /// first.
     pub(crate) fn end<W: Watch>(&self, desk: &mut Desk<W>, side: Side) -> Result<End, RangeFault>
         requires desk { IsDesk self.now desk.old }
-        requires best { IsBestAt self.now.problem self.now.spot self.now.network (value_at self.now.problem self.now.spot) }
+        requires best { IsBestAt self.now.problem self.now.spot self.now.network
+            (value_at self.now.problem self.now.spot) }
         ensures end { IfOk result (IsEnd self.now side) }
-        ensures refusal { IfErr result (IsRefusal self.now.problem self.now.spot self.now.network self.now.budget) }
+        ensures refusal { IfErr result
+            (IsRefusal self.now.problem self.now.spot self.now.network self.now.budget) }
         ensures desk { IsDesk self.now desk.new }
     {
         best_away();

@@ -17,4 +17,5 @@ KnowsBeyond p (Some w) = AreBelow (length p.units) w.units
 
 -- the line of the value, and after it the text of what was found
 abbrev pub StopSays : Problem → ℤ → Found → Status → List (List ℕ) → Type 0
-StopSays p value found status lines = (rest : List (List ℕ)) × FoundSays p found status rest × (lines ≡ spelled (at_line value ∷ []) ++ rest)
+StopSays p value found status lines = (rest : List (List ℕ)) × FoundSays p found status rest
+    × (lines ≡ spelled (at_line value ∷ []) ++ rest)

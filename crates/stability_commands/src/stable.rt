@@ -12,7 +12,8 @@ ghost use Rattle.studio_rules.specs.TreeFile.{OnTree};
 ghost use Rattle.studio_rules.specs.Network.{OnNetwork};
 ghost use Rattle.stability_rules.specs.Spot.{KnowsSpot, IsAllowedValue, valued};
 ghost use Rattle.stability.specs.Refusal.{IsRefusal};
-ghost use Rattle.studio_rules.specs.Stable.{spot_named, not_best_lines, past_cost_lines, SpotWork, NamedWork, StableWork};
+ghost use Rattle.studio_rules.specs.Stable.{spot_named, not_best_lines, past_cost_lines, SpotWork};
+ghost use Rattle.studio_rules.specs.Stable.{NamedWork, StableWork};
 ghost use Rattle.stability_commands.specs.Beyond.{StopSays};
 ghost use Rattle.studio_rules.specs.declared.status.Status.TheVariants.{NotBest, Past};
 ghost use Rattle.studio_rules.specs.Printed.{OneAnswer};
@@ -76,7 +77,8 @@ fn say_not_best<K: Sink, E: Sink>(
     cheaper: &Network,
 ) -> Status
     requires { AreBelow (length problem.now.units) cheaper.now.units }
-    ensures { Ends (Tells (OneAnswer NotBest (not_best_lines problem.now cheaper.now))) out.old out.new result }
+    ensures { Ends (Tells (OneAnswer NotBest (not_best_lines problem.now cheaper.now))) out.old
+        out.new result }
 {
     match print_not_best(alloc, problem, cheaper, &mut out.out) {
         Ok(()) => Status::NotBest,
@@ -110,8 +112,10 @@ fn say_stopped<K: Sink, E: Sink>(
 ) -> Status
     requires known { KnowsSpot problem.now spot }
     requires allowed { IsAllowedValue spot value }
-    requires found { (budget : ℕ) × IsFound (valued problem.now spot value) first_node budget found }
-    ensures { Ends (Tells (StopSays (valued problem.now spot value) value found)) out.old out.new result }
+    requires found { (budget : ℕ)
+        × IsFound (valued problem.now spot value) first_node budget found }
+    ensures { Ends (Tells (StopSays (valued problem.now spot value) value found)) out.old out.new
+        result }
 {
     let Ok(other) = valued(alloc, problem, spot, value) else {
         return say_memory(out);
@@ -196,7 +200,8 @@ fn say_range<K: Sink, E: Sink, W: Watch>(
     requires known { KnowsSpot problem.now spot }
     requires some { 1 ≤ effort.budget }
     requires few { effort.budget ≤ 1000000 }
-    ensures { Ends (Tells (SpotWork spot effort.budget problem.now network.now)) out.old out.new result }
+    ensures { Ends (Tells (SpotWork spot effort.budget problem.now network.now)) out.old out.new
+        result }
 {
     structures_stay();
     let site = Site::of(problem, graph);
@@ -222,7 +227,9 @@ fn say_claimed<K: Sink, E: Sink, W: Watch>(
     requires known { KnowsSpot problem.now spot }
     requires some { 1 ≤ effort.budget }
     requires few { effort.budget ≤ 1000000 }
-    ensures { Ends (Tells (OnNetwork (SpotWork spot effort.budget) problem.now (claim_of claim) tree.now)) out.old out.new result }
+    ensures { Ends
+        (Tells (OnNetwork (SpotWork spot effort.budget) problem.now (claim_of claim) tree.now))
+        out.old out.new result }
 {
     let Ok(graph) = Graph::of(alloc, problem) else {
         return say_memory(out);
@@ -248,7 +255,8 @@ fn say_named<K: Sink, E: Sink, W: Watch>(
     requires known { IfSome spot (KnowsSpot problem.now) }
     requires some { 1 ≤ effort.budget }
     requires few { effort.budget ≤ 1000000 }
-    ensures { Ends (Tells (NamedWork spot effort.budget problem.now (claim_of claim) tree.now)) out.old out.new result }
+    ensures { Ends (Tells (NamedWork spot effort.budget problem.now (claim_of claim) tree.now))
+        out.old out.new result }
 {
     match spot {
         Some(spot) => say_claimed(alloc, out, problem, claim, tree, spot, effort),
@@ -269,7 +277,11 @@ fn say_tree<F: Shelf, K: Sink, E: Sink, W: Watch>(
 ) -> Status
     requires some { 1 ≤ effort.budget }
     requires few { effort.budget ≤ 1000000 }
-    ensures ends { Ends (Says (OnTree (StableWork kind name.now effort.budget) (F.state shelf.old).held file.now problem.now) (λ other. other ≡ file.now) (F.state shelf.old) (F.state shelf.new)) out.old out.new result }
+    ensures ends { Ends
+        (Says
+        (OnTree (StableWork kind name.now effort.budget) (F.state shelf.old).held file.now
+        problem.now) (λ other. other ≡ file.now) (F.state shelf.old) (F.state shelf.new)) out.old
+        out.new result }
     ensures keeps { Keeps (F.state shelf.old) (F.state shelf.new) }
 {
     match tree_of(alloc, shelf, out, file, problem) {
@@ -297,7 +309,9 @@ pub fn stable<F: Shelf, K: Sink, E: Sink, W: Watch>(
 ) -> Status
     requires some { 1 ≤ effort.budget }
     requires few { effort.budget ≤ 1000000 }
-    ensures ends { Ends (TwoFilesSay (OnTree (StableWork kind name.now effort.budget)) file.now tree.now (F.state shelf.old) (F.state shelf.new)) out.old out.new result }
+    ensures ends { Ends
+        (TwoFilesSay (OnTree (StableWork kind name.now effort.budget)) file.now tree.now
+        (F.state shelf.old) (F.state shelf.new)) out.old out.new result }
     ensures keeps { Keeps (F.state shelf.old) (F.state shelf.new) }
 {
     match problem_of(alloc, shelf, out, file) {

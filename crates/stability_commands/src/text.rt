@@ -1,12 +1,14 @@
 //! The lines of a range, and of the answers in its place.
-ghost use Rattle.std.specs.Prelude.{◌≡◌, ◌≤◌, ◌++◌, ◌∷◌, [], List, codes, decimal, IfOk, string_bytes, length};
+ghost use Rattle.std.specs.Prelude.{◌≡◌, ◌≤◌, ◌++◌, ◌∷◌, [], List, codes, decimal, IfOk};
+ghost use Rattle.std.specs.Prelude.{string_bytes, length};
 ghost use Rattle.std.specs.Fmt.{signed_decimal};
 ghost use Rattle.number_sets.specs.Sets.{AreBelow};
 ghost use Rattle.tree_rules.specs.Known.{KnowsClaim, KnowsTree, KnowsTail};
 ghost use Rattle.tree_text_rules.specs.Line.{Token};
 ghost use Rattle.tree_text_rules.specs.Spelling.{line_text, network_lines, tree_text_lines};
 ghost use Rattle.tree_text.specs.Prints.{Prints};
-ghost use Rattle.studio_rules.specs.Stable.{side_word, beyond_lines, end_lines, range_lines, not_best_lines, at_line, past_cost_lines};
+ghost use Rattle.studio_rules.specs.Stable.{side_word, beyond_lines, end_lines, range_lines};
+ghost use Rattle.studio_rules.specs.Stable.{not_best_lines, at_line, past_cost_lines};
 ghost use Rattle.stability_commands.specs.Beyond.{KnowsBeyond};
 
 use branch_tree::Network;
@@ -19,7 +21,8 @@ use std::alloc::{AllocError, Global};
 use tree_text::{PrintFault, print_network};
 
 fn number_line(alloc: Global, head: &str, number: i64) -> Result<String, AllocError>
-    ensures { IfOk result (λ text. string_bytes text ≡ head.now ++ 32 ∷ signed_decimal number ++ 10 ∷ []) }
+    ensures { IfOk result
+        (λ text. string_bytes text ≡ head.now ++ 32 ∷ signed_decimal number ++ 10 ∷ []) }
 {
     let text = format!(in alloc; "{head} {number}\n")?;
     Ok(text)
@@ -27,7 +30,8 @@ fn number_line(alloc: Global, head: &str, number: i64) -> Result<String, AllocEr
 
 /// Prints a line that has its line feed.
 fn put<K: Sink>(out: &mut K, line: &[u8]) -> Result<(), PrintFault>
-    ensures prints { (tokens : List Token) → line.now ≡ line_text tokens → Prints (tokens ∷ []) (K.state out.old) (K.state out.new) result }
+    ensures prints { (tokens : List Token) → line.now ≡ line_text tokens
+        → Prints (tokens ∷ []) (K.state out.old) (K.state out.new) result }
     ensures later { (K.state out.old).faults ≤ (K.state out.new).faults }
 {
     match out.put(line) {
@@ -43,7 +47,8 @@ fn put_number<K: Sink>(
     head: &str,
     number: i64,
 ) -> Result<(), PrintFault>
-    ensures prints { Prints ((head.now ∷ signed_decimal number ∷ []) ∷ []) (K.state out.old) (K.state out.new) result }
+    ensures prints { Prints ((head.now ∷ signed_decimal number ∷ []) ∷ []) (K.state out.old)
+        (K.state out.new) result }
     ensures later { (K.state out.old).faults ≤ (K.state out.new).faults }
 {
     match number_line(alloc, head, number) {
@@ -53,7 +58,8 @@ fn put_number<K: Sink>(
 }
 
 fn step_line(alloc: Global, at: u32) -> Result<String, AllocError>
-    ensures { IfOk result (λ text. string_bytes text ≡ codes "place cost " ++ (decimal at ++ 10 ∷ [])) }
+    ensures { IfOk result
+        (λ text. string_bytes text ≡ codes "place cost " ++ (decimal at ++ 10 ∷ [])) }
 {
     let text = format!(in alloc; "place cost {at}\n")?;
     Ok(text)
@@ -61,7 +67,8 @@ fn step_line(alloc: Global, at: u32) -> Result<String, AllocError>
 
 /// Prints the line of a step of a cost.
 fn put_step<K: Sink>(alloc: Global, out: &mut K, at: u32) -> Result<(), PrintFault>
-    ensures prints { Prints ((codes "place" ∷ codes "cost" ∷ decimal at ∷ []) ∷ []) (K.state out.old) (K.state out.new) result }
+    ensures prints { Prints ((codes "place" ∷ codes "cost" ∷ decimal at ∷ []) ∷ [])
+        (K.state out.old) (K.state out.new) result }
     ensures later { (K.state out.old).faults ≤ (K.state out.new).faults }
 {
     match step_line(alloc, at) {
@@ -100,7 +107,8 @@ fn put_headed<K: Sink>(
 ) -> Result<(), PrintFault>
     requires { AreBelow (length problem.now.units) network.now.units }
     ensures prints { (tokens : List Token) → head.now ≡ line_text tokens
-        → Prints (tokens ∷ network_lines problem.now network.now) (K.state out.old) (K.state out.new) result }
+        → Prints (tokens ∷ network_lines problem.now network.now) (K.state out.old)
+        (K.state out.new) result }
     ensures later { (K.state out.old).faults ≤ (K.state out.new).faults }
 {
     network.is_sized();
@@ -119,7 +127,8 @@ fn put_beyond<K: Sink>(
     beyond: &Option<Network>,
 ) -> Result<(), PrintFault>
     requires { KnowsBeyond problem.now beyond.now }
-    ensures prints { Prints (beyond_lines problem.now (side_word side) beyond.now) (K.state out.old) (K.state out.new) result }
+    ensures prints { Prints (beyond_lines problem.now (side_word side) beyond.now) (K.state out.old)
+        (K.state out.new) result }
     ensures later { (K.state out.old).faults ≤ (K.state out.new).faults }
 {
     match beyond {
@@ -139,7 +148,8 @@ fn put_end<K: Sink>(
     beyond: &Option<Network>,
 ) -> Result<(), PrintFault>
     requires { KnowsBeyond problem.now beyond.now }
-    ensures prints { Prints (end_lines problem.now head.now value (side_word side) beyond.now) (K.state out.old) (K.state out.new) result }
+    ensures prints { Prints (end_lines problem.now head.now value (side_word side) beyond.now)
+        (K.state out.old) (K.state out.new) result }
     ensures later { (K.state out.old).faults ≤ (K.state out.new).faults }
 {
     match put_number(alloc, out, head, value) {
@@ -157,7 +167,9 @@ pub(crate) fn print_range<K: Sink>(
 ) -> Result<(), PrintFault>
     requires below { KnowsBeyond problem.now range.now.below }
     requires above { KnowsBeyond problem.now range.now.above }
-    ensures prints { Prints (range_lines problem.now range.now.from range.now.to range.now.below range.now.above) (K.state out.old) (K.state out.new) result }
+    ensures prints { Prints
+        (range_lines problem.now range.now.from range.now.to range.now.below range.now.above)
+        (K.state out.old) (K.state out.new) result }
     ensures later { (K.state out.old).faults ≤ (K.state out.new).faults }
 {
     let below = &range.below;
@@ -183,7 +195,8 @@ pub(crate) fn print_not_best<K: Sink>(
     out: &mut K,
 ) -> Result<(), PrintFault>
     requires { AreBelow (length problem.now.units) cheaper.now.units }
-    ensures prints { Prints (not_best_lines problem.now cheaper.now) (K.state out.old) (K.state out.new) result }
+    ensures prints { Prints (not_best_lines problem.now cheaper.now) (K.state out.old)
+        (K.state out.new) result }
     ensures later { (K.state out.old).faults ≤ (K.state out.new).faults }
 {
     put_headed(alloc, problem, out, b"not best\n", cheaper)
@@ -216,7 +229,9 @@ pub(crate) fn print_stopped<K: Sink>(
     requires claim { KnowsClaim problem.now certificate.now.claim }
     requires tree { KnowsTree problem.now certificate.now.tree }
     requires tail { KnowsTail problem.now certificate.now.tail }
-    ensures prints { Prints (at_line value ∷ tree_text_lines problem.now certificate.now.claim certificate.now.tree certificate.now.tail) (K.state out.old) (K.state out.new) result }
+    ensures prints { Prints
+        (at_line value ∷ tree_text_lines problem.now certificate.now.claim certificate.now.tree
+        certificate.now.tail) (K.state out.old) (K.state out.new) result }
     ensures later { (K.state out.old).faults ≤ (K.state out.new).faults }
 {
     match put_number(alloc, out, "at", value) {

@@ -1,6 +1,7 @@
 -- Straight lines: a sum or a multiple of them is one, and one that is not below 0 at two values is
 -- not below 0 between them.
-use Rattle.std.proofs.Common.{◌≡◌, ℕ, zero, suc, Bool, true, false, cond, List, [], ◌∷◌, inl, inr, ℤ, pos, ◌+ℤ◌, ◌-ℤ◌, ◌*ℤ◌, ◌≤ℤ◌, ap, ◌∙◌, arith}
+use Rattle.std.proofs.Common.{◌≡◌, ℕ, zero, suc, Bool, true, false, cond, List, [], ◌∷◌, inl, inr}
+use Rattle.std.proofs.Common.{ℤ, pos, ◌+ℤ◌, ◌-ℤ◌, ◌*ℤ◌, ◌≤ℤ◌, ap, ◌∙◌, arith}
 use Rattle.std.proofs.lemmas.Int.{ints}
 use Rattle.integer_laws.specs.Total.{total, total_below}
 use Rattle.integer_laws.proofs.Ring.{ring_z}
@@ -55,15 +56,19 @@ pub either_line : (b : Bool) (f g : ℤ → ℤ) → IsLine f → IsLine g → I
 either_line true f g a c = a
 either_line false f g a c = c
 
-pub total_line : {X : Type 0} (f : ℤ → X → ℤ) → ((x : X) → IsLine (λ v. f v x)) → (xs : List X) → IsLine (λ v. total (f v) xs)
+pub total_line : {X : Type 0} (f : ℤ → X → ℤ) → ((x : X) → IsLine (λ v. f v x)) → (xs : List X)
+    → IsLine (λ v. total (f v) xs)
 total_line f h [] = constant (pos 0)
 total_line f h (x ∷ xs) = added (λ v. f v x) (λ v. total (f v) xs) (h x) (total_line f h xs)
 
-pub total_below_line : (n : ℕ) (f : ℤ → ℕ → ℤ) → ((x : ℕ) → IsLine (λ v. f v x)) → IsLine (λ v. total_below n (f v))
+pub total_below_line : (n : ℕ) (f : ℤ → ℕ → ℤ) → ((x : ℕ) → IsLine (λ v. f v x))
+    → IsLine (λ v. total_below n (f v))
 total_below_line zero f h = constant (pos 0)
-total_below_line (suc n) f h = added (λ v. total_below n (f v)) (λ v. f v n) (total_below_line n f h) (h n)
+total_below_line (suc n) f h =
+    added (λ v. total_below n (f v)) (λ v. f v n) (total_below_line n f h) (h n)
 
-pub not_below : (f : ℤ → ℤ) → IsLine f → (x y v : ℤ) → x ≤ℤ v → v ≤ℤ y → pos 0 ≤ℤ f x → pos 0 ≤ℤ f y → pos 0 ≤ℤ f v
+pub not_below : (f : ℤ → ℤ) → IsLine f → (x y v : ℤ) → x ≤ℤ v → v ≤ℤ y → pos 0 ≤ℤ f x → pos 0 ≤ℤ f y
+    → pos 0 ≤ℤ f v
 not_below f a x y v l r at_x at_y =
     let ex = a.is_line x in
     let ey = a.is_line y in

@@ -1,9 +1,11 @@
 -- The net of a problem with another value in the spot: that of the problem, at other costs.
-use Rattle.std.proofs.Common.{◌≡◌, ℕ, ◌==◌, Bool, cond, List, [], ◌∷◌, ◌++◌, length, ℤ, pos, ◌+ℤ◌, ◌-ℤ◌, ◌*ℤ◌, refl, sym, ap, ◌∙◌, subst}
+use Rattle.std.proofs.Common.{◌≡◌, ℕ, ◌==◌, Bool, cond, List, [], ◌∷◌, ◌++◌, length, ℤ, pos, ◌+ℤ◌}
+use Rattle.std.proofs.Common.{◌-ℤ◌, ◌*ℤ◌, refl, sym, ap, ◌∙◌, subst}
 use Rattle.std.proofs.Math.ListN.{length-set}
 use Rattle.integer_laws.specs.Total.{total_below}
 use Rattle.number_sets.specs.Sets.{has}
-use Rattle.problem_rules.specs.Problem.{Problem, material_at, unit_at, exclusion_at, rate_of, rate_in, terms_have, is_raw_material, is_product}
+use Rattle.problem_rules.specs.Problem.{Problem, material_at, unit_at, exclusion_at, rate_of}
+use Rattle.problem_rules.specs.Problem.{rate_in, terms_have, is_raw_material, is_product}
 use Rattle.pns_rules.specs.Shape.{shape_of}
 use Rattle.pns_rules.specs.Structure.{IsStructure, IsAllowed}
 use Rattle.flow_rules.specs.Net.{Net, net_of, trillion, million, size_cost, units_of, materials_of}
@@ -17,11 +19,13 @@ use Rattle.stability_rules.specs.declared.spot.Spot.TheVariants.{Price, Fix, Pro
 use Rattle.stability_rules.specs.Spot.{KnowsSpot, valued}
 use Rattle.stability_rules.specs.Range.{repriced}
 use Rattle.stability_laws.specs.Laws.{IsLine}
-use Rattle.stability_laws.proofs.LineLemmas.{constant, itself, added, subtracted, times, by, either_line, total_line, total_below_line}
+use Rattle.stability_laws.proofs.LineLemmas.{constant, itself, added, subtracted, times, by}
+use Rattle.stability_laws.proofs.LineLemmas.{either_line, total_line, total_below_line}
 use Rattle.stability_laws.proofs.ValuedLemmas.{material_valued, unit_fixed, unit_proportioned}
 
 abbrev at_costs : Net → (ℕ → ℤ) → (ℕ → ℤ) → (ℕ → ℤ) → Net
-at_costs net price fix proportional = record net { price = price; fix = fix; proportional = proportional }
+at_costs net price fix proportional =
+    record net { price = price; fix = fix; proportional = proportional }
 
 -- ---- the costs with the value in the spot
 
@@ -38,12 +42,15 @@ fix_in p (Proportional u) v k = (net_of p).fix k
 abbrev proportional_in : Problem → Spot → ℤ → ℕ → ℤ
 proportional_in p (Price x) v k = (net_of p).proportional k
 proportional_in p (Fix u) v k = (net_of p).proportional k
-proportional_in p (Proportional u) v k = p.payout *ℤ cond (u == k) v (unit_at p k).proportional +ℤ (unit_at p k).investment_proportional
+proportional_in p (Proportional u) v k =
+    p.payout *ℤ cond (u == k) v (unit_at p k).proportional +ℤ (unit_at p k).investment_proportional
 
 abbrev pub net_in : Problem → Spot → ℤ → Net
-net_in p spot v = at_costs (net_of p) (price_in p spot v) (fix_in p spot v) (proportional_in p spot v)
+net_in p spot v =
+    at_costs (net_of p) (price_in p spot v) (fix_in p spot v) (proportional_in p spot v)
 
-pub net_valued : (p : Problem) (spot : Spot) → KnowsSpot p spot → (v : ℤ) → net_of (valued p spot v) ≡ net_in p spot v
+pub net_valued : (p : Problem) (spot : Spot) → KnowsSpot p spot → (v : ℤ)
+    → net_of (valued p spot v) ≡ net_in p spot v
 net_valued p (Price x) h v = λ i. record {
   graph = record {
     materials = length-set p.materials x (record (material_at p x) { price = v }) i;
@@ -61,7 +68,8 @@ net_valued p (Price x) h v = λ i. record {
   least = λ k. (unit_at p k).lower;
   most = λ k. (unit_at p k).upper;
   fix = λ k. p.payout *ℤ (unit_at p k).fix +ℤ (unit_at p k).investment_fix;
-  proportional = λ k. p.payout *ℤ (unit_at p k).proportional +ℤ (unit_at p k).investment_proportional;
+  proportional =
+      λ k. p.payout *ℤ (unit_at p k).proportional +ℤ (unit_at p k).investment_proportional;
   rate = rate_of p;
 }
 net_valued p (Fix u) h v = λ i. record {
@@ -81,8 +89,12 @@ net_valued p (Fix u) h v = λ i. record {
   least = λ k. (unit_fixed p u v h k i).lower;
   most = λ k. (unit_fixed p u v h k i).upper;
   fix = λ k. p.payout *ℤ (unit_fixed p u v h k i).fix +ℤ (unit_fixed p u v h k i).investment_fix;
-  proportional = λ k. p.payout *ℤ (unit_fixed p u v h k i).proportional +ℤ (unit_fixed p u v h k i).investment_proportional;
-  rate = λ j k. rate_in (unit_fixed p u v h k i).outputs j -ℤ rate_in (unit_fixed p u v h k i).inputs j;
+  proportional =
+      λ k. p.payout *ℤ (unit_fixed p u v h k i).proportional +ℤ
+      (unit_fixed p u v h k i).investment_proportional;
+  rate =
+      λ j k. rate_in (unit_fixed p u v h k i).outputs j -ℤ rate_in (unit_fixed p u v h k i).inputs
+      j;
 }
 net_valued p (Proportional u) h v = λ i. record {
   graph = record {
@@ -100,51 +112,85 @@ net_valued p (Proportional u) h v = λ i. record {
   price = λ j. p.payout *ℤ (material_at p j).price;
   least = λ k. (unit_proportioned p u v h k i).lower;
   most = λ k. (unit_proportioned p u v h k i).upper;
-  fix = λ k. p.payout *ℤ (unit_proportioned p u v h k i).fix +ℤ (unit_proportioned p u v h k i).investment_fix;
-  proportional = λ k. p.payout *ℤ (unit_proportioned p u v h k i).proportional +ℤ (unit_proportioned p u v h k i).investment_proportional;
-  rate = λ j k. rate_in (unit_proportioned p u v h k i).outputs j -ℤ rate_in (unit_proportioned p u v h k i).inputs j;
+  fix =
+      λ k. p.payout *ℤ (unit_proportioned p u v h k i).fix +ℤ
+      (unit_proportioned p u v h k i).investment_fix;
+  proportional =
+      λ k. p.payout *ℤ (unit_proportioned p u v h k i).proportional +ℤ
+      (unit_proportioned p u v h k i).investment_proportional;
+  rate =
+      λ j k. rate_in (unit_proportioned p u v h k i).outputs j -ℤ rate_in
+      (unit_proportioned p u v h k i).inputs j;
 }
 
 -- ---- what stays
 
-pub shape_stays : (p : Problem) (spot : Spot) → KnowsSpot p spot → (v : ℤ) → shape_of (valued p spot v) ≡ shape_of p
+pub shape_stays : (p : Problem) (spot : Spot) → KnowsSpot p spot → (v : ℤ)
+    → shape_of (valued p spot v) ≡ shape_of p
 shape_stays p spot h v = ap (λ (net : Net). net.graph) (net_valued p spot h v)
 
-pub flows_from : (p : Problem) (spot : Spot) → KnowsSpot p spot → (v : ℤ) (s : ℕ → Bool) (z : ℕ → ℤ) (d : ℤ)
+pub flows_from : (p : Problem) (spot : Spot) → KnowsSpot p spot
+    → (v : ℤ) (s : ℕ → Bool) (z : ℕ → ℤ) (d : ℤ)
     → IsFlows (net_of (valued p spot v)) s z d → IsFlows (net_of p) s z d
 flows_from p spot h v s z d flows =
     let f = subst (λ (net : Net). IsFlows net s z d) (net_valued p spot h v) flows in
-    record { positive = f.positive; at_least = f.at_least; at_most = f.at_most; no_others = f.no_others; low = f.low; high = f.high }
+    record {
+      positive = f.positive;
+      at_least = f.at_least;
+      at_most = f.at_most;
+      no_others =
+          f.no_others;
+      low = f.low;
+      high = f.high;
+    }
 
-pub flows_to : (p : Problem) (spot : Spot) → KnowsSpot p spot → (v : ℤ) (s : ℕ → Bool) (z : ℕ → ℤ) (d : ℤ)
+pub flows_to : (p : Problem) (spot : Spot) → KnowsSpot p spot
+    → (v : ℤ) (s : ℕ → Bool) (z : ℕ → ℤ) (d : ℤ)
     → IsFlows (net_of p) s z d → IsFlows (net_of (valued p spot v)) s z d
 flows_to p spot h v s z d f =
     subst (λ (net : Net). IsFlows net s z d) (sym (net_valued p spot h v))
-    (record { positive = f.positive; at_least = f.at_least; at_most = f.at_most; no_others = f.no_others; low = f.low; high = f.high })
+    (record {
+      positive = f.positive;
+      at_least = f.at_least;
+      at_most = f.at_most;
+      no_others =
+          f.no_others;
+      low = f.low;
+      high = f.high;
+    })
 
-same_balance : (net : Net) (a b c : ℕ → ℤ) (z : ℕ → ℤ) (j : ℕ) (is : List ℕ) (sum : ℤ) → balance_steps (at_costs net a b c) z j is sum ≡ balance_steps net z j is sum
+same_balance : (net : Net) (a b c : ℕ → ℤ) (z : ℕ → ℤ) (j : ℕ) (is : List ℕ) (sum : ℤ)
+    → balance_steps (at_costs net a b c) z j is sum ≡ balance_steps net z j is sum
 same_balance net a b c z j [] sum = refl
 same_balance net a b c z j (k ∷ is) sum =
-    ap (λ (zs : List ℤ). (net.rate j k *ℤ z k) ∷ (sum +ℤ net.rate j k *ℤ z k) ∷ zs) (same_balance net a b c z j is (sum +ℤ net.rate j k *ℤ z k))
+    ap (λ (zs : List ℤ). (net.rate j k *ℤ z k) ∷ (sum +ℤ net.rate j k *ℤ z k) ∷ zs)
+    (same_balance net a b c z j is (sum +ℤ net.rate j k *ℤ z k))
 
-same_steps : (net : Net) (a b c : ℕ → ℤ) (s : ℕ → Bool) (z : ℕ → ℤ) (js : List ℕ) → materials_steps (at_costs net a b c) s z js ≡ materials_steps net s z js
+same_steps : (net : Net) (a b c : ℕ → ℤ) (s : ℕ → Bool) (z : ℕ → ℤ) (js : List ℕ)
+    → materials_steps (at_costs net a b c) s z js ≡ materials_steps net s z js
 same_steps net a b c s z [] = refl
-same_steps net a b c s z (j ∷ js) = λ i. same_balance net a b c z j (units_at net s j) (pos 0) i ++ same_steps net a b c s z js i
+same_steps net a b c s z (j ∷ js) =
+    λ i. same_balance net a b c z j (units_at net s j) (pos 0) i ++ same_steps net a b c s z js i
 
-balances_stay : (p : Problem) (spot : Spot) → KnowsSpot p spot → (v : ℤ) (s : ℕ → Bool) (z : ℕ → ℤ) (d : ℤ)
+balances_stay : (p : Problem) (spot : Spot) → KnowsSpot p spot
+    → (v : ℤ) (s : ℕ → Bool) (z : ℕ → ℤ) (d : ℤ)
     → feasible_steps (net_of p) s z d ≡ feasible_steps (net_of (valued p spot v)) s z d
 balances_stay p spot h v s z d =
-    sym (same_steps (net_of p) (price_in p spot v) (fix_in p spot v) (proportional_in p spot v) s z (materials_of (net_of p) s))
+    sym (same_steps (net_of p) (price_in p spot v) (fix_in p spot v) (proportional_in p spot v) s z
+    (materials_of (net_of p) s))
     ∙ ap (λ (net : Net). feasible_steps net s z d) (sym (net_valued p spot h v))
 
-pub feasible_stays : (p : Problem) (spot : Spot) → KnowsSpot p spot → (w : Network) → IsFeasible p w → (v : ℤ)
-    → AreInRange (cost_steps (net_of (valued p spot v)) (has w.units) (size_in w) w.d) → IsFeasible (valued p spot v) (repriced p spot w v)
+pub feasible_stays : (p : Problem) (spot : Spot) → KnowsSpot p spot → (w : Network) → IsFeasible p w
+    → (v : ℤ)
+    → AreInRange (cost_steps (net_of (valued p spot v)) (has w.units) (size_in w) w.d)
+    → IsFeasible (valued p spot v) (repriced p spot w v)
 feasible_stays p spot h w f v costs =
     let shape = sym (shape_stays p spot h v) in
     record {
       structure = subst (λ g. IsStructure g (has w.units)) shape f.structure;
       allowed = subst (λ g. IsAllowed g (has w.units)) shape f.allowed;
-      balances = subst AreInRange (balances_stay p spot h v (has w.units) (size_in w) w.d) f.balances;
+      balances =
+          subst AreInRange (balances_stay p spot h v (has w.units) (size_in w) w.d) f.balances;
       flows = flows_to p spot h v (has w.units) (size_in w) w.d f.flows;
       costs = costs;
       cost_is = refl;
@@ -153,7 +199,10 @@ feasible_stays p spot h w f v costs =
 -- ---- lines
 
 price_line : (p : Problem) (spot : Spot) (j : ℕ) → IsLine (λ v. price_in p spot v j)
-price_line p (Price x) j = times p.payout (λ v. cond (x == j) v (material_at p j).price) (either_line (x == j) (λ v. v) (λ v. (material_at p j).price) itself (constant (material_at p j).price))
+price_line p (Price x) j =
+    times p.payout (λ v. cond (x == j) v (material_at p j).price)
+    (either_line (x == j) (λ v. v) (λ v. (material_at p j).price) itself
+    (constant (material_at p j).price))
 price_line p (Fix u) j = constant ((net_of p).price j)
 price_line p (Proportional u) j = constant ((net_of p).price j)
 
@@ -161,7 +210,9 @@ fix_line : (p : Problem) (spot : Spot) (k : ℕ) → IsLine (λ v. fix_in p spot
 fix_line p (Price x) k = constant ((net_of p).fix k)
 fix_line p (Fix u) k =
     added (λ v. p.payout *ℤ cond (u == k) v (unit_at p k).fix) (λ v. (unit_at p k).investment_fix)
-    (times p.payout (λ v. cond (u == k) v (unit_at p k).fix) (either_line (u == k) (λ v. v) (λ v. (unit_at p k).fix) itself (constant (unit_at p k).fix)))
+    (times p.payout (λ v. cond (u == k) v (unit_at p k).fix)
+    (either_line (u == k) (λ v. v) (λ v. (unit_at p k).fix) itself
+    (constant (unit_at p k).fix)))
     (constant (unit_at p k).investment_fix)
 fix_line p (Proportional u) k = constant ((net_of p).fix k)
 
@@ -169,25 +220,36 @@ proportional_line : (p : Problem) (spot : Spot) (k : ℕ) → IsLine (λ v. prop
 proportional_line p (Price x) k = constant ((net_of p).proportional k)
 proportional_line p (Fix u) k = constant ((net_of p).proportional k)
 proportional_line p (Proportional u) k =
-    added (λ v. p.payout *ℤ cond (u == k) v (unit_at p k).proportional) (λ v. (unit_at p k).investment_proportional)
-    (times p.payout (λ v. cond (u == k) v (unit_at p k).proportional) (either_line (u == k) (λ v. v) (λ v. (unit_at p k).proportional) itself (constant (unit_at p k).proportional)))
+    added (λ v. p.payout *ℤ cond (u == k) v (unit_at p k).proportional)
+    (λ v. (unit_at p k).investment_proportional)
+    (times p.payout (λ v. cond (u == k) v (unit_at p k).proportional)
+    (either_line (u == k) (λ v. v) (λ v. (unit_at p k).proportional) itself
+    (constant (unit_at p k).proportional)))
     (constant (unit_at p k).investment_proportional)
 
 size_line : (p : Problem) (spot : Spot) (k : ℕ) → IsLine (λ v. size_cost (net_in p spot v) k)
 size_line p spot k =
-    subtracted (λ v. proportional_in p spot v k *ℤ million) (λ v. total_below (length p.materials) (λ j. price_in p spot v j *ℤ rate_of p j k))
+    subtracted (λ v. proportional_in p spot v k *ℤ million)
+    (λ v. total_below (length p.materials) (λ j. price_in p spot v j *ℤ rate_of p j k))
     (by million (λ v. proportional_in p spot v k) (proportional_line p spot k))
-    (total_below_line (length p.materials) (λ v j. price_in p spot v j *ℤ rate_of p j k) (λ j. by (rate_of p j k) (λ v. price_in p spot v j) (price_line p spot j)))
+    (total_below_line (length p.materials) (λ v j. price_in p spot v j *ℤ rate_of p j k)
+    (λ j. by (rate_of p j k) (λ v. price_in p spot v j) (price_line p spot j)))
 
-unit_line : (p : Problem) (spot : Spot) (z : ℕ → ℤ) (d : ℤ) (k : ℕ) → IsLine (λ v. (fix_in p spot v k *ℤ trillion) *ℤ d +ℤ size_cost (net_in p spot v) k *ℤ z k)
+unit_line : (p : Problem) (spot : Spot) (z : ℕ → ℤ) (d : ℤ) (k : ℕ)
+    → IsLine (λ v. (fix_in p spot v k *ℤ trillion) *ℤ d +ℤ size_cost (net_in p spot v) k *ℤ z k)
 unit_line p spot z d k =
     added (λ v. (fix_in p spot v k *ℤ trillion) *ℤ d) (λ v. size_cost (net_in p spot v) k *ℤ z k)
-    (by d (λ v. fix_in p spot v k *ℤ trillion) (by trillion (λ v. fix_in p spot v k) (fix_line p spot k)))
+    (by d (λ v. fix_in p spot v k *ℤ trillion)
+    (by trillion (λ v. fix_in p spot v k) (fix_line p spot k)))
     (by (z k) (λ v. size_cost (net_in p spot v) k) (size_line p spot k))
 
-pub cost_is_a_line : (p : Problem) (spot : Spot) → KnowsSpot p spot → (s : ℕ → Bool) (z : ℕ → ℤ) (d : ℤ) → IsLine (λ v. cost (net_of (valued p spot v)) s z d)
+pub cost_is_a_line : (p : Problem) (spot : Spot) → KnowsSpot p spot
+    → (s : ℕ → Bool) (z : ℕ → ℤ) (d : ℤ) → IsLine (λ v. cost (net_of (valued p spot v)) s z d)
 cost_is_a_line p spot h s z d =
-    let a = total_line (λ v k. (fix_in p spot v k *ℤ trillion) *ℤ d +ℤ size_cost (net_in p spot v) k *ℤ z k) (unit_line p spot z d) (units_of (net_of p) s) in
+    let a =
+    total_line
+    (λ v k. (fix_in p spot v k *ℤ trillion) *ℤ d +ℤ size_cost (net_in p spot v) k *ℤ z k)
+    (unit_line p spot z d) (units_of (net_of p) s) in
     record {
       start = a.start;
       slope = a.slope;

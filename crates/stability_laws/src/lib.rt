@@ -8,7 +8,9 @@
 //! proof its law.
 #![tactic(auto)]
 
-ghost use Rattle.stability_laws.specs.Laws.{ValuedIsValid, PresentIsAllowed, ValuedIsSame, ShapeStays, FeasibleStays, CostIsALine, BestBetween, RisesEnough, BestAway};
+ghost use Rattle.stability_laws.specs.Laws.{ValuedIsValid, PresentIsAllowed, ValuedIsSame};
+ghost use Rattle.stability_laws.specs.Laws.{ShapeStays, FeasibleStays, CostIsALine, BestBetween};
+ghost use Rattle.stability_laws.specs.Laws.{RisesEnough, BestAway};
 
 /// An allowed value in the spot leaves a problem valid.
 pub fn valued_is_valid()

@@ -1,4 +1,5 @@
--- A price or a cost that may vary, and the problem with another value there. Values are whole millionths.
+-- A price or a cost that may vary, and the problem with another value there. Values are whole
+-- millionths.
 use Rattle.std.specs.Prelude.{ℕ, ◌<◌, length, slice_set, ℤ, pos, neg_ℤ, ◌+ℤ◌, ◌-ℤ◌, ◌≤ℤ◌}
 use Rattle.problem_rules.specs.Problem.{Problem, material_at, unit_at}
 use Rattle.stability_rules.specs.declared.spot.Spot.{Spot}
@@ -6,7 +7,7 @@ use Rattle.stability_rules.specs.declared.spot.Spot.TheVariants.{Price, Fix, Pro
 use Rattle.stability_rules.specs.declared.side.Side.{Side}
 use Rattle.stability_rules.specs.declared.side.Side.TheVariants.{Below, Above}
 
--- the spot's material or unit is one of the problem
+-- the spot's material or unit is in the problem
 abbrev pub KnowsSpot : Problem → Spot → Type 0
 KnowsSpot p (Price x) = x < length p.materials
 KnowsSpot p (Fix u) = u < length p.units
@@ -20,9 +21,11 @@ value_at p (Proportional u) = (unit_at p u).proportional
 
 -- the problem with this value in the spot
 abbrev pub valued : Problem → Spot → ℤ → Problem
-valued p (Price x) v = record p { materials = slice_set p.materials x (record (material_at p x) { price = v }) }
+valued p (Price x) v =
+    record p { materials = slice_set p.materials x (record (material_at p x) { price = v }) }
 valued p (Fix u) v = record p { units = slice_set p.units u (record (unit_at p u) { fix = v }) }
-valued p (Proportional u) v = record p { units = slice_set p.units u (record (unit_at p u) { proportional = v }) }
+valued p (Proportional u) v =
+    record p { units = slice_set p.units u (record (unit_at p u) { proportional = v }) }
 
 -- the limits of the values: a fixed cost is at least 0
 abbrev pub greatest_value : ℤ
@@ -37,7 +40,7 @@ pub record IsAllowedValue (spot : Spot) (v : ℤ) : Type 0 where
   pub low : least_value spot ≤ℤ v
   pub high : v ≤ℤ greatest_value
 
--- the value that lies so far away from the present one
+-- the value that is so far away from the present one
 abbrev pub value_on : Side → ℤ → ℕ → ℤ
 value_on Below present away = present -ℤ pos away
 value_on Above present away = present +ℤ pos away

@@ -1,9 +1,10 @@
-//! What the sensitivity range of one price or cost is: the values of that number, all others kept, at which a network stays optimal
-//! among the allowed ones.
+//! What the sensitivity range of one price or cost is.
 //!
-//! [`Spot`] names the number, [`SpotKind`] its kind, and [`Side`] on which side of its present value another one lies. The definitions stand in `specs/`:
-//! `Spot` (the problem with another value in the spot) and `Range` (the network's cost there, when it is optimal, what a range
-//! is, and where one may be left open). Their laws are those of `stability_laws`.
+//! It has the values of that number, with all others unchanged, at which a network stays optimal
+//! among the clash-free ones. [`Spot`] names the number, [`SpotKind`] its kind, and [`Side`] the
+//! side of its present value on which another one is. The definitions are in `specs/`. `Spot` has
+//! the problem with another value in the spot. `Range` has the network's cost there, when it is
+//! optimal, what a range is, and when one may be left open. The laws are in `stability_laws`.
 #![tactic(auto)]
 
 mod side;

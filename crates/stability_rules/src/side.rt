@@ -1,4 +1,4 @@
-/// On which side of the present value another one lies.
+/// The side of the present value on which another value is.
 #[derive(Clone, Copy, Debug, PartialEq, Eq)]
 pub enum Side {
     Below,

@@ -1,4 +1,4 @@
-/// A number of a problem that may vary while all others are kept.
+/// A number of a problem that may vary while all others stay the same.
 #[derive(Clone, Copy, Debug, PartialEq, Eq)]
 pub enum Spot {
     /// The price of the material of this number.

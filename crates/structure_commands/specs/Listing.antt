@@ -9,4 +9,5 @@ use Rattle.studio_rules.specs.declared.status.Status.TheVariants.{Done}
 -- what is printed of a listing from this place on
 abbrev pub RestSays : Problem → ℕ → Rest → Status → List (List ℕ) → Type 0
 RestSays p count rest status lines =
-    (status ≡ Done) × ((all : List (List ℕ)) × IsToCome rest all × (lines ≡ listing_lines p count all))
+    (status ≡ Done)
+    × ((all : List (List ℕ)) × IsToCome rest all × (lines ≡ listing_lines p count all))

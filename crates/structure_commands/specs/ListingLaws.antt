@@ -9,6 +9,8 @@ use Rattle.studio_rules.specs.declared.status.Status.TheVariants.{Done}
 -- part without its line `more`, and then the second, are the listing printed at once.
 abbrev pub PartsJoin : Type 0
 PartsJoin =
-    (p : Problem) (word token : List ℕ) (m n : ℕ) (first second : List (List ℕ)) → IsWellFormed p → 0 < m → 0 < n
-    → ListingWork word m p Done (first ++ (codes "more " ++ token) ∷ []) → ListingWork token n p Done second
+    (p : Problem) (word token : List ℕ) (m n : ℕ) (first second : List (List ℕ)) → IsWellFormed p
+    → 0 < m → 0 < n
+    → ListingWork word m p Done (first ++ (codes "more " ++ token) ∷ [])
+    → ListingWork token n p Done second
     → ListingWork word (m + n) p Done (first ++ second)

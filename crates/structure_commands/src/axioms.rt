@@ -3,7 +3,9 @@ ghost use Rattle.std.specs.Prelude.{◌≡◌, ◌<◌, ◌≤◌, ◌||◌, ℕ
 ghost use Rattle.number_sets.specs.Sets.{has};
 ghost use Rattle.studio_rules.specs.Lines.{line};
 ghost use Rattle.studio_rules.specs.Reading.{FileSays};
-ghost use Rattle.studio_rules.specs.Axioms.{AxiomsWork, NamesSay, VerdictSays, axiom_word, breaks_line, place_name, is_stranger, first_stranger, is_name_of, units_named};
+ghost use Rattle.studio_rules.specs.Axioms.{AxiomsWork, NamesSay, VerdictSays, axiom_word};
+ghost use Rattle.studio_rules.specs.Axioms.{breaks_line, place_name, is_stranger, first_stranger};
+ghost use Rattle.studio_rules.specs.Axioms.{is_name_of, units_named};
 ghost use Rattle.studio_rules.specs.Ending.{Ends, Tells, Only, OrMemory};
 ghost use Rattle.studio_rules.specs.Keeps.{Keeps};
 ghost use Rattle.studio_rules.specs.declared.status.Status.TheVariants.{Refused};
@@ -49,7 +51,8 @@ pub fn say_breaks<K: Sink, E: Sink>(
     broken: Axiom,
     name: &str,
 ) -> Status
-    ensures { Ends (OrMemory (Only Refused (line (breaks_line broken name.now)))) out.old out.new result }
+    ensures { Ends (OrMemory (Only Refused (line (breaks_line broken name.now)))) out.old out.new
+        result }
 {
     match breaks_line(alloc, broken, name) {
         Ok(bytes) => say(out, &bytes, Status::Refused),
@@ -91,7 +94,8 @@ pub fn first_stranger<'a>(problem: &Problem, units: &'a UnitNames) -> Option<&'a
 fn with_named(problem: &Problem, name: &str, set: UnitSet) -> UnitSet
     requires { length problem.now.units ≤ 128 }
     ensures named { (u : ℕ) → has result u ≡ (is_name_of problem.now u name.now || has set u) }
-    ensures known { ((u : ℕ) → has set u ≡ true → u < length problem.now.units) → (u : ℕ) → has result u ≡ true → u < length problem.now.units }
+    ensures known { ((u : ℕ) → has set u ≡ true → u < length problem.now.units) → (u : ℕ)
+        → has result u ≡ true → u < length problem.now.units }
 {
     match problem.unit_named(name) {
         Some(unit) => set.with(unit),
@@ -169,7 +173,9 @@ pub fn axioms<F: Shelf, K: Sink, E: Sink>(
     shelf: &mut F,
     out: &mut Outputs<K, E>,
 ) -> Status
-    ensures ends { Ends (FileSays (AxiomsWork units.now) file.now (F.state shelf.old) (F.state shelf.new)) out.old out.new result }
+    ensures ends { Ends
+        (FileSays (AxiomsWork units.now) file.now (F.state shelf.old) (F.state shelf.new)) out.old
+        out.new result }
     ensures keeps { Keeps (F.state shelf.old) (F.state shelf.new) }
 {
     match problem_of(alloc, shelf, out, file) {

@@ -1,5 +1,6 @@
 //! The command `list`.
-ghost use Rattle.std.specs.Prelude.{◌≡◌, ◌≤◌, ◌<◌, ◌++◌, ◌∷◌, ◌↔◌, [], ℕ, List, Some, IfOk, IfSome, IfNone, OnOk, OnErr, length, codes};
+ghost use Rattle.std.specs.Prelude.{◌≡◌, ◌≤◌, ◌<◌, ◌++◌, ◌∷◌, ◌↔◌, [], ℕ, List, Some, IfOk, IfSome};
+ghost use Rattle.std.specs.Prelude.{IfNone, OnOk, OnErr, length, codes};
 ghost use Rattle.number_sets.specs.Sets.{has, IsSet};
 ghost use Rattle.std.specs.Io.KnownBytes.{Appends};
 ghost use Rattle.text_rules.specs.Outside.{HasRisen, AppendsFront};
@@ -8,7 +9,8 @@ ghost use Rattle.pns_rules.specs.Tokens.{digit, token_of};
 ghost use Rattle.structure_list.specs.Rest.{IsToCome};
 ghost use Rattle.studio_rules.specs.Lines.{line};
 ghost use Rattle.studio_rules.specs.Reading.{FileSays};
-ghost use Rattle.studio_rules.specs.Listing.{ListingWork, IsAfter, IsBadToken, structure_line, more_line};
+ghost use Rattle.studio_rules.specs.Listing.{ListingWork, IsAfter, IsBadToken, structure_line};
+ghost use Rattle.studio_rules.specs.Listing.{more_line};
 ghost use Rattle.structure_commands.specs.Listing.{RestSays};
 ghost use Rattle.studio_rules.specs.Ending.{Ends, Tells, Only, OrMemory};
 ghost use Rattle.studio_rules.specs.Keeps.{Keeps};
@@ -33,7 +35,8 @@ use unit_sets::UnitSet;
 // Gives the next structure. It also counts viability tests, which nobody reads.
 fn next_counted<L: Ledger>(blank: Blank, list: &mut StructureList<'_>) -> Option<UnitSet>
     requires { (blank.name ≡ L.name) × (blank.parts ≡ L.parts) × (0 < L.parts) }
-    ensures head { IfSome result (λ r. (xs : List (List ℕ)) → IsToCome list.new xs ↔ IsToCome list.old (r ∷ xs)) }
+    ensures head { IfSome result
+        (λ r. (xs : List (List ℕ)) → IsToCome list.new xs ↔ IsToCome list.old (r ∷ xs)) }
     ensures end { IfNone result (IsToCome list.old []) }
 {
     let mut steps = Steps::<L>::start(blank);
@@ -41,7 +44,8 @@ fn next_counted<L: Ledger>(blank: Blank, list: &mut StructureList<'_>) -> Option
 }
 
 fn next(list: &mut StructureList<'_>) -> Option<UnitSet>
-    ensures head { IfSome result (λ r. (xs : List (List ℕ)) → IsToCome list.new xs ↔ IsToCome list.old (r ∷ xs)) }
+    ensures head { IfSome result
+        (λ r. (xs : List (List ℕ)) → IsToCome list.new xs ↔ IsToCome list.old (r ∷ xs)) }
     ensures end { IfNone result (IsToCome list.old []) }
 {
     next_counted::<Brand>(Blank::new(1), list)
@@ -69,7 +73,8 @@ fn push_token(bytes: &mut Vec<u8>, set: UnitSet) -> Result<(), AllocError>
 // Appends the line of a structure.
 fn push_line(bytes: &mut Vec<u8>, problem: &Problem, set: UnitSet) -> Result<(), AllocError>
     requires { length problem.now.units ≤ 128 }
-    ensures { OnOk result (bytes.new.items ≡ bytes.old.items ++ line (structure_line problem.now set)) }
+    ensures { OnOk result
+        (bytes.new.items ≡ bytes.old.items ++ line (structure_line problem.now set)) }
 {
     push_token(bytes, set)?;
     push_unit_names(bytes, problem.units(), set)?;
@@ -91,7 +96,8 @@ fn say_more<K: Sink, E: Sink>(alloc: Global, out: &mut Outputs<K, E>, last: Unit
 fn put_waiting<K: Sink, E: Sink>(out: &mut Outputs<K, E>, bytes: &mut Vec<u8>) -> Result<(), Failed>
     ensures ok { OnOk result (Appends out.old.out.written out.new.out.written bytes.old.items) }
     ensures none { OnOk result (bytes.new.items ≡ []) }
-    ensures err { OnErr result (AppendsFront out.old.out.written out.new.out.written bytes.old.items) }
+    ensures err { OnErr result
+        (AppendsFront out.old.out.written out.new.out.written bytes.old.items) }
     ensures cause { OnErr result (HasRisen out.old.out.faults out.new.out.faults) }
     ensures later { out.old.out.faults ≤ out.new.out.faults }
     ensures quiet { out.new.err ≡ out.old.err }
@@ -155,8 +161,10 @@ fn say_rest<K: Sink, E: Sink>(
 // The set of the token, or no set for `start`. There is no answer if the word is neither.
 fn after_of(word: &str) -> Option<Option<UnitSet>>
     ensures start { IfSome result (λ after. IfNone after (word.now ≡ codes "start")) }
-    ensures token { IfSome result (λ after. IfSome after (λ s. IsSet 128 s × (word.now ≡ token_of s))) }
-    ensures other { IfNone result ((word.now ≡ codes "start" → ⊥) × ((s : List ℕ) → word.now ≡ token_of s → ⊥)) }
+    ensures token { IfSome result
+        (λ after. IfSome after (λ s. IsSet 128 s × (word.now ≡ token_of s))) }
+    ensures other { IfNone result
+        ((word.now ≡ codes "start" → ⊥) × ((s : List ℕ) → word.now ≡ token_of s → ⊥)) }
 {
     if word == "start" {
         return Some(None);
@@ -209,7 +217,9 @@ pub fn list<F: Shelf, K: Sink, E: Sink>(
     shelf: &mut F,
     out: &mut Outputs<K, E>,
 ) -> Status
-    ensures ends { Ends (FileSays (ListingWork after.now count) file.now (F.state shelf.old) (F.state shelf.new)) out.old out.new result }
+    ensures ends { Ends
+        (FileSays (ListingWork after.now count) file.now (F.state shelf.old) (F.state shelf.new))
+        out.old out.new result }
     ensures keeps { Keeps (F.state shelf.old) (F.state shelf.new) }
 {
     match problem_of(alloc, shelf, out, file) {

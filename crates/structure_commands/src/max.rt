@@ -52,7 +52,12 @@ fn say_structure<K: Sink, E: Sink>(
 ) -> Status
     requires graph { shape graph.now ≡ shape_of problem.now }
     requires known { (u : ℕ) → has set u ≡ true → u < (shape graph.now).units }
-    ensures { Ends (OrMemory (Only Done (line (units_line problem.now (has set)) ++ line (materials_line problem.now (mats (shape_of problem.now) (has set)))))) out.old out.new result }
+    ensures { Ends
+        (OrMemory
+        (Only Done
+        (line (units_line problem.now (has set))
+        ++ line (materials_line problem.now (mats (shape_of problem.now) (has set)))))) out.old
+        out.new result }
 {
     graph.is_proper();
     let Ok(units) = units_line(alloc, problem, set) else {
@@ -87,7 +92,8 @@ pub fn max<F: Shelf, K: Sink, E: Sink>(
     shelf: &mut F,
     out: &mut Outputs<K, E>,
 ) -> Status
-    ensures ends { Ends (FileSays MaxWork file.now (F.state shelf.old) (F.state shelf.new)) out.old out.new result }
+    ensures ends { Ends (FileSays MaxWork file.now (F.state shelf.old) (F.state shelf.new)) out.old
+        out.new result }
     ensures keeps { Keeps (F.state shelf.old) (F.state shelf.new) }
 {
     match problem_of(alloc, shelf, out, file) {

@@ -20,7 +20,8 @@ pub record IsLeastFor (p : Problem) (us : List ℕ) (w : Network) (d : ℤ) (ys 
   pub flows : IsLeastFlows p w d ys
 
 -- a number overflows at the place, at the basis that leaves the columns out, and both have names
-pub record IsPastFor (p : Problem) (us : List ℕ) (nonbasic : List Column) (place : Place) : Type 0 where
+pub record IsPastFor (p : Problem) (us : List ℕ) (nonbasic : List Column) (place : Place) : Type
+    0 where
   pub past : IsPastNamed (net_of p) (decided p us) nonbasic place
   pub columns : Each (KnowsColumn p) nonbasic
   pub known : KnowsPlace p place

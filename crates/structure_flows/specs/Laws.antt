@@ -11,7 +11,8 @@ use Rattle.pns_rules.specs.Ends.{IsSound, IsDecided}
 use Rattle.flow_rules.specs.Net.{net_of, beside}
 use Rattle.flow_rules.specs.Relaxed.{units, Refutes}
 use Rattle.tree_rules.specs.Claim.{Network}
-use Rattle.tree_rules.specs.LeastFlows.{decided, rows_of, HasFlows, ProveCost, IsLeastFlows, HasNoFlows}
+use Rattle.tree_rules.specs.LeastFlows.{decided, rows_of, HasFlows, ProveCost, IsLeastFlows}
+use Rattle.tree_rules.specs.LeastFlows.{HasNoFlows}
 
 -- flows whose cost is the bound of multipliers are least
 abbrev pub ProvedIsLeast : Type 0
@@ -23,17 +24,20 @@ ProvedIsLeast =
 abbrev pub RefutedHasNone : Type 0
 RefutedHasNone =
     (p : Problem) → IsValid p → (us : List ℕ) → IsStructure (shape_of p) (has us)
-    → (ys : List ℤ) → length ys ≡ length (rows_of p us) → Refutes (net_of p) (decided p us) (beside (rows_of p us) ys) → HasNoFlows p us ys
+    → (ys : List ℤ) → length ys ≡ length (rows_of p us)
+    → Refutes (net_of p) (decided p us) (beside (rows_of p us) ys) → HasNoFlows p us ys
 
 -- at the node of a set of units each unit is taken in or left out, and its program has just these
 -- units
 abbrev pub NodeIsDecided : Type 0
 NodeIsDecided =
     (p : Problem) (us : List ℕ) → IsSet (length p.units) us
-    → ((i : ℕ) → i < length p.units → (decided p us).outside i ≡ not ((decided p us).inside i)) × (units (net_of p) (decided p us) ≡ us)
+    → ((i : ℕ) → i < length p.units → (decided p us).outside i ≡ not ((decided p us).inside i))
+    × (units (net_of p) (decided p us) ≡ us)
 
 -- the node of a clash-free solution structure is sound, and all is decided there
 abbrev pub AllowedIsDecided : Type 0
 AllowedIsDecided =
-    (p : Problem) → IsValid p → (us : List ℕ) → IsStructure (shape_of p) (has us) → IsAllowed (shape_of p) (has us)
+    (p : Problem) → IsValid p → (us : List ℕ) → IsStructure (shape_of p) (has us)
+    → IsAllowed (shape_of p) (has us)
     → IsSound (shape_of p) (decided p us) × IsDecided (shape_of p) (decided p us)

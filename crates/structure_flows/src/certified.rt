@@ -4,7 +4,8 @@ ghost use Rattle.number_sets.specs.Sets.{has};
 ghost use Rattle.pns_rules.specs.Shape.{shape_of};
 ghost use Rattle.pns_rules.specs.Structure.{IsStructure};
 ghost use Rattle.tree_rules.specs.Leaf.{IsRefuted};
-ghost use Rattle.certified_bounds.specs.Certified.{IsLeastBound, IsNetworkAt, HasUnits, IsCertified};
+ghost use Rattle.certified_bounds.specs.Certified.{IsLeastBound, IsNetworkAt, HasUnits};
+ghost use Rattle.certified_bounds.specs.Certified.{IsCertified};
 ghost use Rattle.tree_rules.specs.LeastFlows.{decided};
 ghost use Rattle.structure_flows.specs.Answers.{AnswersFor};
 

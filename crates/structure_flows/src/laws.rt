@@ -1,5 +1,6 @@
 // Laws of the flows of a solution structure.
-ghost use Rattle.structure_flows.specs.Laws.{ProvedIsLeast, RefutedHasNone, NodeIsDecided, AllowedIsDecided};
+ghost use Rattle.structure_flows.specs.Laws.{ProvedIsLeast, RefutedHasNone, NodeIsDecided};
+ghost use Rattle.structure_flows.specs.Laws.{AllowedIsDecided};
 
 use flow_rules::{refutation, weak_duality};
 use pns_rules::valid_is_proper;

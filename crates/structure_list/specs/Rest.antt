@@ -1,4 +1,5 @@
--- What contracts see of a listing that is under way: what is still to come is the listing after the structure given last.
+-- What contracts see of a listing that is under way: what is still to come is the listing after the
+-- structure given last.
 use Rattle.std.specs.Prelude.{ℕ, List, Option}
 use Rattle.number_sets.specs.Sets.{has}
 use Rattle.pns_rules.specs.Shape.{Shape}

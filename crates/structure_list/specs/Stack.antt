@@ -1,5 +1,7 @@
--- The positions that are still to be searched, the first to be searched last: at each the turns that were not taken.
-use Rattle.std.specs.Prelude.{◌≡◌, ℕ, suc, ◌+◌, ◌^◌, ◌≤◌, Bool, false, List, [], ◌∷◌, ◌⊎◌, length, ◌↔◌, Option, Some, None}
+-- The positions that are still to be searched, the first to be searched last: at each the turns
+-- that were not taken.
+use Rattle.std.specs.Prelude.{◌≡◌, ℕ, suc, ◌+◌, ◌^◌, ◌≤◌, Bool, false, List, [], ◌∷◌, ◌⊎◌, length}
+use Rattle.std.specs.Prelude.{◌↔◌, Option, Some, None}
 use Rattle.std.specs.List.{sum_by}
 use Rattle.number_sets.specs.Sets.{has, IsRising}
 use Rattle.pns_rules.specs.Shape.{Shape}
@@ -10,13 +12,14 @@ use Rattle.decisions.specs.Position.{IsPosition, free_count}
 use Rattle.structure_list.specs.Family.{IsOf}
 use Rattle.structure_list.specs.Tight.{IsTight}
 
--- an allowed structure of one of the positions
+-- a clash-free structure of one of the positions
 abbrev pub InStack : Shape → List Position → (ℕ → Bool) → Type 0
 InStack g [] s = ⊥
 InStack g (p ∷ ps) s = IsOf g p.decided.node s ⊎ InStack g ps s
 
--- A position that has k below it: its structures stand behind those of the positions above it, and the units that it has not
--- decided are so few that there is room for a position for each of them.
+-- A position that has k positions below it. Its structures come after those of the positions above
+-- it. The units that it has not decided are so few that there is room for a position for each of
+-- them.
 pub record IsPlaced (g : Shape) (most k : ℕ) (p : Position) (above : List Position) : Type 0 where
   pub position : IsPosition g p
   pub tight : IsTight g p.decided.node
@@ -34,8 +37,10 @@ pub record IsStack (g : Shape) (ps : List Position) : Type 0 where
   pub few : (m : List ℕ) → IsRising m → IsUnion g (λ u. false) (has m) → most ≤ length m
   pub placed : ArePlaced g most 0 ps
 
--- the first structure of the positions `before` is r, and the others are those of the positions `after`
-pub record IsCut (g : Shape) (before : List Position) (r : List ℕ) (after : List Position) : Type 0 where
+-- the first structure of the positions `before` is r, and the others are those of the positions
+-- `after`
+pub record IsCut (g : Shape) (before : List Position) (r : List ℕ) (after : List Position) : Type
+    0 where
   pub there : InStack g before (has r)
   pub first : (s : ℕ → Bool) → InStack g after s → IsBefore g (has r) s
   pub rest : (s : ℕ → Bool) → InStack g before s → ((u : ℕ) → has r u ≡ s u) ⊎ InStack g after s

@@ -1,4 +1,4 @@
--- Where the search begins.
+-- The position at which the search begins.
 use Rattle.std.specs.Prelude.{ℕ, ◌≤◌, Bool, false, List, length, Option, Some, None}
 use Rattle.number_sets.specs.Sets.{has, IsRising}
 use Rattle.pns_rules.specs.Shape.{Shape}
@@ -13,9 +13,10 @@ pub record IsStart (g : Shape) (p : Position) : Type 0 where
   pub tight : IsTight g p.decided.node
   pub has_all : (s : ℕ → Bool) → IsStructure g s → IsWithinNode g p.decided.node s
   pub small : free_count g p.decided.node ≤ 128
-  pub few : (m : List ℕ) → IsRising m → IsUnion g (λ u. false) (has m) → free_count g p.decided.node ≤ length m
+  pub few : (m : List ℕ) → IsRising m → IsUnion g (λ u. false) (has m)
+      → free_count g p.decided.node ≤ length m
 
--- where the search starts, nowhere where there is no structure
+-- the position at which the search starts; none if there is no structure
 abbrev pub StartsAt : Shape → Option Position → Type 0
 StartsAt g None = (s : ℕ → Bool) → IsStructure g s → ⊥
 StartsAt g (Some p) = IsStart g p

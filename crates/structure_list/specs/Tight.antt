@@ -1,5 +1,6 @@
--- Nodes at which a unit can be taken in without a test, and where leaving one out is a local repair: the units that are not
--- left out are the greatest set in which each material that is used and not raw has a maker.
+-- Nodes at which a unit can be taken in without a test, and at which leaving one out is a local
+-- repair. There the units that are not left out are the greatest set in which each material that is
+-- used and not raw has a maker.
 use Rattle.std.specs.Prelude.{◌≡◌, ℕ, ◌<◌, Bool, true, false, not, ◌&&◌, nat_lt, ◌↔◌}
 use Rattle.number_sets.specs.Sets.{has, IsWithin}
 use Rattle.pns_rules.specs.Shape.{Shape}
@@ -14,18 +15,20 @@ use Rattle.decisions.specs.Position.{IsPosition, IsWithinNode, free_count}
 abbrev pub kept_units : Shape → Node → ℕ → Bool
 kept_units g n u = nat_lt u g.units && not (has n.outside u)
 
--- What is kept makes no raw material, and all else that it uses or that is needed. It has the units that are taken in, and
--- each of these has a path to a product through such units.
+-- What is kept makes no raw material, and makes all else that it uses or that is needed. It has the
+-- units that are taken in, and each of these has a path to a product through such units.
 pub record IsTight (g : Shape) (n : Node) : Type 0 where
   pub kept : IsKept g (is_needed g (has n.inside)) (kept_units g n)
   pub inside : IsWithin (has n.inside) (kept_units g n)
   pub leads : (u : ℕ) → has n.inside u ≡ true → HasPath g (has n.inside) u
 
--- a position after the turn, with the structures in which its unit is, or with those in which it is not
+-- a position after the turn, with the structures in which its unit is, or with those in which it is
+-- not
 pub record IsSide (g : Shape) (t : Turn) (taken : Bool) (p : Position) : Type 0 where
   pub position : IsPosition g p
   pub tight : IsTight g p.decided.node
-  pub same : (s : ℕ → Bool) → IsWithinNode g p.decided.node s ↔ (IsWithinNode g t.position.decided.node s × (s t.unit ≡ taken))
+  pub same : (s : ℕ → Bool) → IsWithinNode g p.decided.node s
+      ↔ (IsWithinNode g t.position.decided.node s × (s t.unit ≡ taken))
   pub fewer : free_count g p.decided.node < free_count g t.position.decided.node
 
 -- each structure of the turn's node has its unit

@@ -1,5 +1,6 @@
 //! The list of structures that are still to come.
-ghost use Rattle.std.specs.Prelude.{◌≡◌, ◌+◌, ◌*◌, ◌<◌, ◌≤◌, ◌↔◌, ◌∷◌, ◌++◌, ℕ, List, [], false, length, Some, IfOk, IfErr, IfSome, IfNone, IsOk, IsTrue};
+ghost use Rattle.std.specs.Prelude.{◌≡◌, ◌+◌, ◌*◌, ◌<◌, ◌≤◌, ◌↔◌, ◌∷◌, ◌++◌, ℕ, List, [], false};
+ghost use Rattle.std.specs.Prelude.{length, Some, IfOk, IfErr, IfSome, IfNone, IsOk, IsTrue};
 ghost use Rattle.number_sets.specs.Sets.{has, IsRising};
 ghost use Rattle.pns_rules.specs.Structure.{IsStructure, IsUnion};
 ghost use Rattle.pgraph.specs.Tables.{shape};
@@ -19,16 +20,16 @@ use unit_sets::UnitSet;
 /// Why a listing cannot begin.
 #[derive(Clone, Copy, PartialEq, Eq, Debug, Drop, Error)]
 pub enum OpenFault {
-    /// The set has a unit that the problem has not, or breaks an axiom.
+    /// The set has a unit that the problem does not have, or breaks an axiom.
     #[error("the set is no solution structure of this problem")]
     NotAStructure,
-    /// There is no memory left. A listing has its room in itself, so it never comes today.
+    /// There is no memory left. A listing has its room in itself, so this never comes today.
     #[error("out of memory")]
     Memory,
 }
 
-/// A listing of which a part was given. Contracts see it by its graph and the structure that was given last: what is
-/// still to come is the listing after that.
+/// A listing of which a part was given. Contracts see it by its graph and the structure that was
+/// given last: what is still to come is the listing after that.
 #[derive(Drop)]
 pub struct StructureList<'a> {
     graph: &'a Graph,
@@ -48,15 +49,16 @@ impl<'a> Model for StructureList<'a> {
 }
 
 impl<'a> StructureList<'a> {
-    /// The listing after a solution structure, allowed or not, or from the beginning. `NotAStructure` exactly where
-    /// `after` is no solution structure of this graph.
+    /// The listing after a solution structure, clash-free or not, or from the beginning.
+    /// `NotAStructure` exactly if `after` is no solution structure of this graph.
     pub fn open(
         _alloc: Global,
         graph: &'a Graph,
         after: Option<UnitSet>,
     ) -> Result<StructureList<'a>, OpenFault>
         ensures ok { IfOk result (λ l. l ≡ record { graph = graph.now; last = after }) }
-        ensures structure { IsOk result ↔ IfSome after (λ s. IsStructure (shape graph.now) (has s)) }
+        ensures structure { IsOk result
+            ↔ IfSome after (λ s. IsStructure (shape graph.now) (has s)) }
         ensures fault { IfErr result (λ e. e ≡ OpenFault.NotAStructure) }
     {
         if let Some(set) = after {
@@ -75,15 +77,20 @@ impl<'a> StructureList<'a> {
         StructureList { graph, stack, last }
     }
 
-    /// Gives the next structure, and leaves those after it, so that the list is the one that `open` gives at this
-    /// structure. `None` exactly where nothing is to come, and again at each later call. Without exclusions it counts at
-    /// most two viability tests for each unit of the maximal structure. It takes no memory.
+    /// Gives the next structure, and leaves those after it: the list is then the one that `open`
+    /// gives at this structure. `None` exactly if nothing is to come, and again at each later call.
+    /// Without exclusions it counts at most two viability tests for each unit of the maximal
+    /// structure. It takes no memory.
     pub fn next<L: Ledger>(&mut self, steps: &mut Steps<L>) -> Option<UnitSet>
-        ensures head { IfSome result (λ r. (xs : List (List ℕ)) → IsToCome self.new xs ↔ IsToCome self.old (r ∷ xs)) }
-        ensures last { IfSome result (λ r. self.new ≡ record { graph = self.old.graph; last = Some r }) }
+        ensures head { IfSome result
+            (λ r. (xs : List (List ℕ)) → IsToCome self.new xs ↔ IsToCome self.old (r ∷ xs)) }
+        ensures last { IfSome result
+            (λ r. self.new ≡ record { graph = self.old.graph; last = Some r }) }
         ensures end { IfNone result (IsToCome self.old []) }
         ensures stays { IfNone result (self.new ≡ self.old) }
-        ensures few_tests { (shape self.old.graph).exclusions ≡ 0 → (m : List ℕ) → IsRising m → IsUnion (shape self.old.graph) (λ _. false) (has m) → steps.new ≤ steps.old + 2 * length m }
+        ensures few_tests { (shape self.old.graph).exclusions ≡ 0 → (m : List ℕ) → IsRising m
+            → IsUnion (shape self.old.graph) (λ _. false) (has m)
+            → steps.new ≤ steps.old + 2 * length m }
     {
         let Some(set) = next_structure(self.graph, &mut self.stack, steps) else {
             return None;
@@ -93,10 +100,11 @@ impl<'a> StructureList<'a> {
         Some(set)
     }
 
-    /// Tells a proof that what is to come is one list, and no other.
+    /// What is to come is one list, and no other. A call gives this to a proof.
     pub fn is_one(&self)
         ensures exists { (xs : List (List ℕ)) × IsToCome self.now xs }
-        ensures unique { (xs ys : List (List ℕ)) → IsToCome self.now xs → IsToCome self.now ys → xs ≡ ys }
+        ensures unique { (xs ys : List (List ℕ)) → IsToCome self.now xs → IsToCome self.now ys
+            → xs ≡ ys }
     {
         self.graph.is_proper();
         pns_rules::listing_exists();

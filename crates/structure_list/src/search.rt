@@ -1,5 +1,6 @@
-//! The search for the next allowed structure.
-ghost use Rattle.std.specs.Prelude.{◌≡◌, ◌+◌, ◌<◌, ◌≤◌, ◌++◌, ◌∷◌, ◌↔◌, [], ℕ, List, false, length, IsTrue, IfSome, IfNone};
+//! The search for the next clash-free structure.
+ghost use Rattle.std.specs.Prelude.{◌≡◌, ◌+◌, ◌<◌, ◌≤◌, ◌++◌, ◌∷◌, ◌↔◌, [], ℕ, List, false, length};
+ghost use Rattle.std.specs.Prelude.{IsTrue, IfSome, IfNone};
 ghost use Rattle.number_sets.specs.Sets.{has, IsRising};
 ghost use Rattle.pns_rules.specs.Structure.{IsStructure, IsAllowed, IsUnion};
 ghost use Rattle.pgraph.specs.Tables.{shape};
@@ -16,7 +17,8 @@ use pgraph::Graph;
 use std::sync::ledger::Ledger;
 use unit_sets::UnitSet;
 
-/// The position at which the units outside the maximal structure are left out. `None` exactly where there is no structure.
+/// The position at which the units outside the maximal structure are left out. `None` exactly if
+/// there is no structure.
 fn start(graph: &Graph) -> Option<Position>
     ensures { StartsAt (shape graph.now) result }
 {
@@ -45,8 +47,8 @@ pub(crate) fn stack_after(graph: &Graph, after: &Option<UnitSet>) -> Stack
     stack
 }
 
-/// Follows the turns of the structure, and puts the position at which a unit is taken in on the stack where the structure has
-/// it not.
+/// Follows the turns of the structure. If the structure does not have the unit of a turn, the
+/// position that takes it in goes on the stack.
 fn follow(graph: &Graph, stack: &mut Stack, position: &Position, set: UnitSet)
     requires none { stack.old ≡ [] }
     requires start { IsStart (shape graph.now) position.now }
@@ -72,7 +74,8 @@ fn follow(graph: &Graph, stack: &mut Stack, position: &Position, set: UnitSet)
     }
 }
 
-/// The first allowed structure of the positions of the stack, which is then left with the others.
+/// The first clash-free structure of the positions of the stack, which is then left with the
+/// others.
 pub(crate) fn next_structure<L: Ledger>(
     graph: &Graph,
     stack: &mut Stack,
@@ -82,7 +85,8 @@ pub(crate) fn next_structure<L: Ledger>(
     ensures stack { IsStack (shape graph.now) stack.new }
     ensures finds { Finds (shape graph.now) stack.old result stack.new }
     ensures end { IfNone result (stack.new ≡ []) }
-    ensures few_tests { (shape graph.now).exclusions ≡ 0 → (m : List ℕ) → IsRising m → IsUnion (shape graph.now) (λ _. false) (has m) → steps.new ≤ steps.old + length m }
+    ensures few_tests { (shape graph.now).exclusions ≡ 0 → (m : List ℕ) → IsRising m
+        → IsUnion (shape graph.now) (λ _. false) (has m) → steps.new ≤ steps.old + length m }
 {
     'pop: loop {
         let Some(position) = stack.pop() else {
@@ -96,7 +100,8 @@ pub(crate) fn next_structure<L: Ledger>(
     }
 }
 
-/// The first allowed structure of the position, which goes with the turns not taken on the stack.
+/// The first clash-free structure of the position, which goes with the turns not taken on the
+/// stack.
 fn first_in<L: Ledger>(
     graph: &Graph,
     stack: &mut Stack,
@@ -107,9 +112,12 @@ fn first_in<L: Ledger>(
     requires allowed { IsAllowed (shape graph.now) (has position.now.decided.node.inside) }
     ensures stack { IsStack (shape graph.now) stack.new }
     ensures finds { Finds (shape graph.now) (stack.old ++ position.now ∷ []) result stack.new }
-    ensures smaller { IfNone result (weight (shape graph.now) stack.new < weight (shape graph.now) (stack.old ++ position.now ∷ [])) }
+    ensures smaller { IfNone result
+        (weight (shape graph.now) stack.new
+        < weight (shape graph.now) (stack.old ++ position.now ∷ [])) }
     ensures surely { IfNone result ((shape graph.now).exclusions ≡ 0 → ⊥) }
-    ensures few_tests { (shape graph.now).exclusions ≡ 0 → steps.new ≤ steps.old + free_count (shape graph.now) position.now.decided.node }
+    ensures few_tests { (shape graph.now).exclusions ≡ 0
+        → steps.new ≤ steps.old + free_count (shape graph.now) position.now.decided.node }
 {
     graph.is_proper();
     let mut here = *position;

@@ -4,7 +4,8 @@ ghost use Rattle.std.specs.Prelude.{◌≡◌, ◌<◌, ◌++◌, ◌∷◌, [],
 use decisions::Position;
 use std::marker::Model;
 
-/// A stack of positions that takes no memory of its own. Contracts see it as the list of its positions, the one on top last.
+/// A stack of positions that takes no memory of its own. Contracts see it as the list of its
+/// positions, the one on top last.
 #[derive(Drop)]
 pub(crate) struct Stack {
     cells: [Position; 128],
@@ -41,7 +42,7 @@ impl Stack {
         self.depth += 1;
     }
 
-    /// Takes the position on top off, `None` exactly where there is none.
+    /// Takes the position on top off; `None` exactly if there is none.
     pub(crate) fn pop(&mut self) -> Option<Position>
         ensures top { IfSome result (λ p. self.old ≡ self.new ++ p ∷ []) }
         ensures none { IfNone result ((self.old ≡ []) × (self.new ≡ [])) }

@@ -1,5 +1,6 @@
 //! Tokens of sets of units.
-ghost use Rattle.std.specs.Prelude.{◌≡◌, ◌<◌, ◌≤◌, ℕ, List, [], ◌∷◌, ◌↔◌, IfOk, IfErr, IfSome, IfNone, IsOk, string_bytes};
+ghost use Rattle.std.specs.Prelude.{◌≡◌, ◌<◌, ◌≤◌, ℕ, List, [], ◌∷◌, ◌↔◌, IfOk, IfErr, IfSome};
+ghost use Rattle.std.specs.Prelude.{IfNone, IsOk, string_bytes};
 ghost use Rattle.pns_rules.specs.Tokens.{digit, token_of, IsDigit, IsToken};
 
 use std::alloc::{AllocError, Global};
@@ -9,7 +10,7 @@ use unit_sets::UnitSet;
 #[derive(Clone, Copy, PartialEq, Eq, Debug, Drop)]
 pub struct BadForm;
 
-/// The token of the set: its mask as 32 hexadecimal digits, where unit u counts 2^u.
+/// The token of the set: its mask as 32 hexadecimal digits. Unit u counts 2^u.
 pub fn print_token(alloc: Global, set: UnitSet) -> Result<String, AllocError>
     ensures { IfOk result (λ text. string_bytes text ≡ token_of set) }
 {
@@ -21,8 +22,8 @@ pub fn print_token(alloc: Global, set: UnitSet) -> Result<String, AllocError>
     Ok(text)
 }
 
-/// Reads what `print_token` prints, and nothing else: it answers `BadForm` exactly where the text has not the form of a
-/// token. It takes no memory.
+/// Reads what `print_token` prints, and nothing else. It answers `BadForm` exactly if the text does
+/// not have the form of a token. It takes no memory.
 pub fn read_token(text: &str) -> Result<UnitSet, BadForm>
     ensures token { IfOk result (λ set. text.now ≡ token_of set) }
     ensures form { IsOk result ↔ IsToken text.now }

@@ -21,12 +21,15 @@ fn kept_at(graph: &Graph, node: Node) -> UnitSet
     UnitSet::below(graph.unit_count()).minus(node.outside)
 }
 
-/// The position at which the unit of the turn is left out, and with it all that is not kept without it.
+/// The position at which the unit of the turn is left out, and with it all that is not kept without
+/// it.
 fn left_with(graph: &Graph, turn: &Turn, kept: UnitSet, rest: UnitSet) -> Position
     requires turn { IsTurn (shape graph.now) turn.now }
     requires tight { IsTight (shape graph.now) turn.now.position.decided.node }
     requires kept { has kept ≡ kept_units (shape graph.now) turn.now.position.decided.node }
-    requires rest { IsRest (shape graph.now) (is_needed (shape graph.now) (has turn.now.position.decided.node.inside)) (has kept) turn.now.unit (has rest) }
+    requires rest { IsRest (shape graph.now)
+        (is_needed (shape graph.now) (has turn.now.position.decided.node.inside)) (has kept)
+        turn.now.unit (has rest) }
     ensures side { IsSide (shape graph.now) turn.now false result }
     ensures inside { result.decided.node.inside ≡ turn.now.position.decided.node.inside }
 {
@@ -51,12 +54,14 @@ fn left_with(graph: &Graph, turn: &Turn, kept: UnitSet, rest: UnitSet) -> Positi
     }
 }
 
-/// The position at which the unit of the turn is left out; `None` exactly where no structure is there without it.
+/// The position at which the unit of the turn is left out; `None` exactly if there is no structure
+/// without it.
 pub(crate) fn leaving(graph: &Graph, turn: &Turn) -> Option<Position>
     requires turn { IsTurn (shape graph.now) turn.now }
     requires tight { IsTight (shape graph.now) turn.now.position.decided.node }
     ensures side { IfSome result (IsSide (shape graph.now) turn.now false) }
-    ensures inside { IfSome result (λ p. p.decided.node.inside ≡ turn.now.position.decided.node.inside) }
+    ensures inside { IfSome result
+        (λ p. p.decided.node.inside ≡ turn.now.position.decided.node.inside) }
     ensures forced { IfNone result (IsForced (shape graph.now) turn.now) }
 {
     graph.is_proper();
@@ -76,7 +81,8 @@ pub(crate) fn leaving_counted<L: Ledger>(
     requires turn { IsTurn (shape graph.now) turn.now }
     requires tight { IsTight (shape graph.now) turn.now.position.decided.node }
     ensures side { IfSome result (IsSide (shape graph.now) turn.now false) }
-    ensures inside { IfSome result (λ p. p.decided.node.inside ≡ turn.now.position.decided.node.inside) }
+    ensures inside { IfSome result
+        (λ p. p.decided.node.inside ≡ turn.now.position.decided.node.inside) }
     ensures forced { IfNone result (IsForced (shape graph.now) turn.now) }
     ensures counted { steps.new ≡ steps.old + 1 }
 {
@@ -88,7 +94,8 @@ pub(crate) fn leaving_counted<L: Ledger>(
     Some(left_with(graph, turn, kept, rest))
 }
 
-/// The position at which the unit of the turn is taken in. Some structure is there, allowed or not, so it needs no test.
+/// The position at which the unit of the turn is taken in. It has some structure, clash-free or
+/// not, so it needs no test.
 pub(crate) fn taking(graph: &Graph, turn: &Turn) -> Position
     requires turn { IsTurn (shape graph.now) turn.now }
     requires tight { IsTight (shape graph.now) turn.now.position.decided.node }

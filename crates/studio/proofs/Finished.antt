@@ -16,7 +16,8 @@ use Rattle.tree_rules.specs.Tail.{Tail, whole, spent, past}
 use Rattle.stability_rules.specs.declared.spot.Spot.{Spot}
 use Rattle.stability_rules.specs.declared.spot.SpotKind.{SpotKind}
 use Rattle.stability_rules.specs.Spot.{valued}
-use Rattle.studio_rules.specs.Command.{Command, Flows, Solving, Showing, Ranking, Trial, Ranging, Planning, Parting, PartingAgainst, command_of}
+use Rattle.studio_rules.specs.Command.{Command, Flows, Solving, Showing, Ranking, Trial, Ranging}
+use Rattle.studio_rules.specs.Command.{Planning, Parting, PartingAgainst, command_of}
 use Rattle.studio_rules.specs.Reading.{AreHeld}
 use Rattle.studio_rules.specs.TreeFile.{TreeFault, GivesTree, OnTree}
 use Rattle.studio_rules.specs.Plan.{PlanFileFault, OnPlan}
@@ -31,8 +32,13 @@ use Rattle.studio_rules.specs.Ending.{Ends}
 use Rattle.studio_rules.specs.Answers.{AnswersTo, CommandAnswers, WordsSay, IsNotStopped}
 use Rattle.studio_rules.specs.Answers.{SearchCanFinish, PlanCanFinish, RangeCanFinish}
 use Rattle.studio_rules.specs.declared.status.Status.{Status}
-use Rattle.studio_rules.specs.declared.status.Status.TheVariants.{Done, Refused, Past, Spent, ReadFault, WriteFault, Memory, TooLong, BadTree, BadPlan, BadNode, NotBest, UnknownName, BadClaim}
-use Rattle.studio.proofs.Statuses.{finished, show_finished, rank_finished, search_finished, fault_not_stopped, plan_status, tree_status}
+use Rattle.studio_rules.specs.declared.status.Status.TheVariants.{Done, Refused, Past, Spent}
+use Rattle.studio_rules.specs.declared.status.Status.TheVariants.{ReadFault, WriteFault, Memory}
+use Rattle.studio_rules.specs.declared.status.Status.TheVariants.{TooLong, BadTree, BadPlan}
+use Rattle.studio_rules.specs.declared.status.Status.TheVariants.{BadNode, NotBest, UnknownName}
+use Rattle.studio_rules.specs.declared.status.Status.TheVariants.{BadClaim}
+use Rattle.studio.proofs.Statuses.{finished, show_finished, rank_finished, search_finished}
+use Rattle.studio.proofs.Statuses.{fault_not_stopped, plan_status, tree_status}
 
 -- ---- files that give nothing
 

@@ -1,10 +1,11 @@
 -- A fault of an output that standard error shows.
-use Rattle.std.proofs.Common.{◌≡◌, ◌≤◌, ◌++◌, [], ℕ, List, Option, Result, Ok, Err, OnOk, OnErr}
-use Rattle.std.proofs.Common.{refl, sym, subst, arith, inl, inr, append-nil}
+use Rattle.std.proofs.Common.{◌≡◌, ◌≤◌, ℕ, List, Result, Ok, Err, OnOk, OnErr, codes}
+use Rattle.std.proofs.Common.{refl, sym, subst, arith, inl, inr}
 use Rattle.std.specs.Io.KnownBytes.{Appends}
 use Rattle.text_rules.specs.Outside.{HasRisen, AppendsFront, last_count}
 use Rattle.io_rules.specs.State.{SinkState, OutputsState}
-use Rattle.studio_rules.specs.Ending.{Ends, Finishes, HasFault}
+use Rattle.studio_rules.specs.Lines.{line}
+use Rattle.studio_rules.specs.Ending.{Ends, Finishes, HasFault, TakesFault}
 use Rattle.studio_rules.specs.declared.status.Status.{Status}
 use Rattle.studio_rules.specs.declared.status.Status.TheVariants.{WriteFault}
 use Rattle.studio.specs.Noted.{ShowsFault, IsNoted}
@@ -31,16 +32,18 @@ still_fault before mid after status same fault =
 pub finished_as : (P : Status → List ℕ → Type 0) (before mid after : OutputsState)
     (status : Status) → Ends P before mid status → IsNoted status mid after
     → Finishes P before after status
-finished_as P before mid after WriteFault ends shown = (mid, ends, shown.quiet, shown.front)
+finished_as P before mid after WriteFault ends shown = (mid, ends, shown.quiet, shown.taken)
 finished_as P before mid after status ends same =
     subst (λ (o : OutputsState). Ends P before o status) (sym same) ends
 
--- all of a piece, or a front of it
-pub front_of : {A E : Type 0} (old new : Option (List ℕ)) (piece : List ℕ) (r : Result A E)
-    → OnOk r (Appends old new piece) → OnErr r (AppendsFront old new piece)
-    → AppendsFront old new piece
-front_of old new piece (Ok u) ok err = (piece, [], sym (append-nil piece), ok)
-front_of old new piece (Err e) ok err = err
+-- the line was put, or standard error failed
+pub taken_of : {A E : Type 0} (old new : SinkState) (r : Result A E)
+    → OnOk r (Appends old.written new.written (line (codes "write fault")))
+    → OnErr r (HasRisen old.faults new.faults)
+    → OnErr r (AppendsFront old.written new.written (line (codes "write fault")))
+    → TakesFault old new
+taken_of old new (Ok u) ok cause err = inl ok
+taken_of old new (Err e) ok cause err = inr (cause, err)
 
 pub noted_shown : (status : Status) (old new : OutputsState) → status ≡ WriteFault
     → ShowsFault old new → IsNoted status old new

@@ -1,5 +1,6 @@
 -- What `rank` prints with status 0 is accepted by `rankcheck`.
-use Rattle.std.proofs.Common.{◌≡◌, ◌≤◌, ℕ, false, List, Result, Ok, Err, length, refl, sym, ◌∙◌, subst, inl, inr}
+use Rattle.std.proofs.Common.{◌≡◌, ◌≤◌, ℕ, false, List, Result, Ok, Err, length, refl, sym, ◌∙◌}
+use Rattle.std.proofs.Common.{subst, inl, inr}
 use Rattle.problem_rules.specs.Problem.{Problem}
 use Rattle.rank_rules.specs.Ranked.{IsRanked}
 use Rattle.rank_laws.specs.Laws.{PassingNetworksHaveNoFault, PassingTreeHasNoFault}
@@ -20,35 +21,56 @@ use Rattle.studio.specs.RankLaws.{RankedIsAccepted}
 use Rattle.studio.proofs.Accepted.{is_held, no_fault, one_problem}
 
 -- the ranking of a text with status 0
-proves : (count budget : ℕ) (p : Problem) (t : Text) (tail : Tail) → Done ≡ status_of tail → Holds count budget p t tail → IsRanked p (ranking_of t)
+proves : (count budget : ℕ) (p : Problem) (t : Text) (tail : Tail) → Done ≡ status_of tail
+    → Holds count budget p t tail → IsRanked p (ranking_of t)
 proves count budget p t whole e holds = holds.lists.proves
 proves count budget p t (spent next options) e holds = cc
 proves count budget p t (past node nonbasic place) e holds = cc
 
-module _ (no_network_fault : PassingNetworksHaveNoFault) (no_tree_fault : PassingTreeHasNoFault) where
-  checked : (p : Problem) (t : Text) (name file : List ℕ) (s : Status) (lines : List (List ℕ)) → length file ≤ tree_limit → IsRanked p (ranking_of t) → RankcheckWork p t s lines → IsAcceptedOrLong name file s lines
+module _ (no_network_fault : PassingNetworksHaveNoFault)
+    (no_tree_fault : PassingTreeHasNoFault) where
+  checked : (p : Problem) (t : Text) (name file : List ℕ) (s : Status) (lines : List (List ℕ))
+      → length file ≤ tree_limit → IsRanked p (ranking_of t) → RankcheckWork p t s lines
+      → IsAcceptedOrLong name file s lines
   checked p t name file Done lines short ranked work = inl (short, refl, work.1)
-  checked p t name file Refused lines short ranked (inl (number, why, fails, told)) = absurd (no_network_fault p (ranking_of t) number why ranked.listed fails)
-  checked p t name file Refused lines short ranked (inr (passing, (node, why, fails, told))) = absurd (no_tree_fault false p (ranking_of t) node why ranked fails)
+  checked p t name file Refused lines short ranked (inl (number, why, fails, told)) =
+      absurd (no_network_fault p (ranking_of t) number why ranked.listed fails)
+  checked p t name file Refused lines short ranked (inr (passing, (node, why, fails, told))) =
+      absurd (no_tree_fault false p (ranking_of t) node why ranked fails)
   checked p t name file s lines short ranked work = absurd work
 
-  read : (p : Problem) (t : Text) (name file : List ℕ) (s : Status) (lines : List (List ℕ)) → read_text p file ≡ Ok t → IsRanked p (ranking_of t) → RankcheckSays name p file s lines → IsAcceptedOrLong name file s lines
+  read : (p : Problem) (t : Text) (name file : List ℕ) (s : Status) (lines : List (List ℕ))
+      → read_text p file ≡ Ok t → IsRanked p (ranking_of t) → RankcheckSays name p file s lines
+      → IsAcceptedOrLong name file s lines
   read p t name file TooLong lines reads ranked (inl fault) = inr (fault.0, refl, fault.1)
-  read p t name file BadTree lines reads ranked (inl fault) = let e : ◌≡◌ {A = Result Text Fault} (Ok t) (Err (fault.1.0, fault.1.1)) = sym reads ∙ fault.1.2 in cc
+  read p t name file BadTree lines reads ranked (inl fault) =
+      let e : ◌≡◌ {A = Result Text Fault} (Ok t) (Err (fault.1.0, fault.1.1)) =
+      sym reads ∙ fault.1.2 in cc
   read p t name file s lines reads ranked (inl fault) = absurd fault
   read p t name file s lines reads ranked (inr (other, given, work)) =
       let same : Ok t ≡ Ok other = sym reads ∙ given.1 in
       let one : t ≡ other = cc in
-      checked p other name file s lines given.0 (subst (λ (d : Text). IsRanked p (ranking_of d)) one ranked) work
+      checked p other name file s lines given.0
+      (subst (λ (d : Text). IsRanked p (ranking_of d)) one ranked) work
 
   pub ranked_is_accepted : RankedIsAccepted
-  ranked_is_accepted held file rank bytes count budget ranked is (f, there, inl fault) text s lines said = absurd fault
-  ranked_is_accepted held file rank bytes count budget ranked is (f, there, inr (p, given, (t, e, holds, are))) text s lines (g, again, inl fault) =
-      let same : g ≡ f = is_held (held file) bytes g is again ∙ sym (is_held (held file) bytes f is there) in
-      absurd (no_fault file f p s lines given (subst (λ (b : List ℕ). FileFault file b s lines) same fault))
-  ranked_is_accepted held file rank bytes count budget ranked is (f, there, inr (p, given, (t, e, holds, are))) text s lines (g, again, inr (q, gives, (b, told, judged))) =
-      let same : g ≡ f = is_held (held file) bytes g is again ∙ sym (is_held (held file) bytes f is there) in
-      let one : q ≡ p = one_problem f p q given (subst (λ (c : List ℕ). GivesProblem c q) same gives) in
+  ranked_is_accepted held file rank bytes count budget ranked is (f, there, inl fault) text s lines
+      said = absurd fault
+  ranked_is_accepted held file rank bytes count budget ranked is
+      (f, there, inr (p, given, (t, e, holds, are))) text s lines (g, again, inl fault) =
+      let same : g ≡ f = is_held (held file) bytes g is again
+      ∙ sym (is_held (held file) bytes f is there) in
+      absurd
+      (no_fault file f p s lines given
+      (subst (λ (b : List ℕ). FileFault file b s lines) same fault))
+  ranked_is_accepted held file rank bytes count budget ranked is
+      (f, there, inr (p, given, (t, e, holds, are))) text s lines
+      (g, again, inr (q, gives, (b, told, judged))) =
+      let same : g ≡ f = is_held (held file) bytes g is again
+      ∙ sym (is_held (held file) bytes f is there) in
+      let one : q ≡ p =
+      one_problem f p q given (subst (λ (c : List ℕ). GivesProblem c q) same gives) in
       let the_text : b ≡ text_of ranked = is_held (held rank) (text_of ranked) b text told in
       read p t rank (text_of ranked) s lines are.reads (proves count budget p t t.tail e holds)
-      (subst (λ (c : List ℕ). RankcheckSays rank p c s lines) the_text (subst (λ (r : Problem). RankcheckSays rank r b s lines) one judged))
+      (subst (λ (c : List ℕ). RankcheckSays rank p c s lines) the_text
+      (subst (λ (r : Problem). RankcheckSays rank r b s lines) one judged))

@@ -3,12 +3,14 @@
 use Rattle.std.specs.Prelude.{◌≡◌, ◌⊎◌, ◌≤◌, ◌<◌, ◌+◌, ◌++◌, ℕ, List, [], ◌∷◌, Some, length, codes}
 use Rattle.io_rules.specs.State.{ShelfState, OutputsState}
 use Rattle.studio_rules.specs.TreeFile.{tree_limit}
-use Rattle.studio_rules.specs.Command.{Command, Listing, Checking, RankChecking, Solving, Ranking, Splitting, Merging, command_of}
+use Rattle.studio_rules.specs.Command.{Command, Listing, Checking, RankChecking, Solving, Ranking}
+use Rattle.studio_rules.specs.Command.{Splitting, Merging, command_of}
 use Rattle.studio_rules.specs.Lines.{line, text_of}
 use Rattle.studio_rules.specs.Ending.{Finishes, Writes, IsOneOf}
 use Rattle.studio_rules.specs.Keeps.{Keeps}
 use Rattle.studio_rules.specs.declared.status.Status.{Status}
-use Rattle.studio_rules.specs.declared.status.Status.TheVariants.{Done, ReadFault, WriteFault, Memory, TooLong}
+use Rattle.studio_rules.specs.declared.status.Status.TheVariants.{Done, ReadFault, WriteFault}
+use Rattle.studio_rules.specs.declared.status.Status.TheVariants.{Memory, TooLong}
 use Rattle.studio_rules.specs.Answers.{WordsSay}
 
 -- A call: its words, the shelf and the outputs before and after, and the status with which the call
@@ -23,7 +25,8 @@ pub record Call : Type 0 where
 
 -- what `studio` says of it: the clause `ends`, and the clauses `keeps` and `later`
 pub record IsCall (c : Call) : Type 0 where
-  pub ends : Finishes (WordsSay c.shelf_before c.shelf_after c.words) c.out_before c.out_after c.status
+  pub ends : Finishes (WordsSay c.shelf_before c.shelf_after c.words) c.out_before c.out_after
+      c.status
   pub keeps : Keeps c.shelf_before c.shelf_after
 
 -- a call of the command
@@ -74,17 +77,21 @@ abbrev pub RankcheckAcceptsRanked : Type 0
 RankcheckAcceptsRanked =
     (ranking checking : Call) (file rank : List ℕ) (count budget : ℕ) (text : List ℕ)
     → Calls ranking (Ranking file count budget) → Puts ranking text
-    → Calls checking (RankChecking file rank) → Keep ranking checking file → Holds checking rank text
+    → Calls checking (RankChecking file rank) → Keep ranking checking file
+    → Holds checking rank text
     → Accepts checking rank text ⊎ HasFailed checking
 
 -- What `merge` put out and is kept as TREE, `check` accepts with the same problem file, if `split`
 -- finds no open leaf in it.
 abbrev pub CheckAcceptsMerged : Type 0
 CheckAcceptsMerged =
-    (merging splitting checking : Call) (file tree merged part : List ℕ) (parts : List (List ℕ)) (text : List ℕ)
+    (merging splitting checking : Call) (file tree merged part : List ℕ) (parts : List (List ℕ))
+    (text : List ℕ)
     → Calls merging (Merging file tree (part ∷ parts)) → Puts merging text
-    → Calls splitting (Splitting file merged) → Puts splitting (line (codes "end")) → Keep merging splitting file → Holds splitting merged text
-    → Calls checking (Checking file merged) → Keep splitting checking file → Holds checking merged text
+    → Calls splitting (Splitting file merged) → Puts splitting (line (codes "end"))
+    → Keep merging splitting file → Holds splitting merged text
+    → Calls checking (Checking file merged) → Keep splitting checking file
+    → Holds checking merged text
     → Accepts checking merged text ⊎ HasFailed checking
 
 -- What `list` put out for `m` structures, and then for `n` after the token of its last line, joins
@@ -92,8 +99,10 @@ CheckAcceptsMerged =
 -- the line `more`.
 abbrev pub ListingsJoin : Type 0
 ListingsJoin =
-    (first second whole : Call) (file after token : List ℕ) (m n : ℕ) (lines : List (List ℕ)) (rest : List ℕ) → 0 < m → 0 < n
-    → Calls first (Listing file after m) → Puts first (text_of (lines ++ (codes "more " ++ token) ∷ []))
+    (first second whole : Call) (file after token : List ℕ) (m n : ℕ) (lines : List (List ℕ))
+    (rest : List ℕ) → 0 < m → 0 < n
+    → Calls first (Listing file after m)
+    → Puts first (text_of (lines ++ (codes "more " ++ token) ∷ []))
     → Calls second (Listing file token n) → Puts second rest → Keep first second file
     → Calls whole (Listing file after (m + n)) → Keep second whole file
     → EndsWith whole Done (text_of lines ++ rest) ⊎ HasFailed whole

@@ -1,14 +1,14 @@
 -- What standard error shows of a fault of an output.
-use Rattle.std.specs.Prelude.{◌≡◌, ◌≤◌, codes}
-use Rattle.text_rules.specs.Outside.{AppendsFront, last_count}
+use Rattle.std.specs.Prelude.{◌≡◌, ◌≤◌}
+use Rattle.text_rules.specs.Outside.{last_count}
 use Rattle.io_rules.specs.State.{OutputsState}
-use Rattle.studio_rules.specs.Lines.{line}
+use Rattle.studio_rules.specs.Ending.{TakesFault}
 use Rattle.studio_rules.specs.declared.status.Status.{Status}
 use Rattle.studio_rules.specs.declared.status.Status.TheVariants.{WriteFault}
 
--- between two states of the outputs, standard error took a front of the line `write fault`
+-- between two states of the outputs, standard error took the line `write fault`, or failed
 pub record ShowsFault (old new : OutputsState) : Type 0 where
-  pub front : AppendsFront old.err.written new.err.written (line (codes "write fault"))
+  pub taken : TakesFault old.err new.err
   pub later : old.err.faults ≤ new.err.faults
   pub few : new.err.faults ≤ last_count
   pub quiet : new.out ≡ old.out

@@ -12,7 +12,10 @@ use Rattle.studio.specs.SolveLaws.{IsAcceptedOrLong}
 -- too long.
 abbrev pub RankedIsAccepted : Type 0
 RankedIsAccepted =
-    (held : List ℕ → Told) (file rank bytes : List ℕ) (count budget : ℕ) (ranked : List (List ℕ)) → held file ≡ Some (Some bytes)
-    → CommandAnswers held (Ranking file count budget) Done ranked → held rank ≡ Some (Some (text_of ranked))
-    → (status : Status) (checked : List (List ℕ)) → CommandAnswers held (RankChecking file rank) status checked
+    (held : List ℕ → Told) (file rank bytes : List ℕ) (count budget : ℕ) (ranked : List (List ℕ))
+    → held file ≡ Some (Some bytes)
+    → CommandAnswers held (Ranking file count budget) Done ranked
+    → held rank ≡ Some (Some (text_of ranked))
+    → (status : Status) (checked : List (List ℕ))
+    → CommandAnswers held (RankChecking file rank) status checked
     → IsAcceptedOrLong rank (text_of ranked) status checked

@@ -18,7 +18,10 @@ IsAcceptedOrLong name file status lines =
 -- long.
 abbrev pub SolvedIsAccepted : Type 0
 SolvedIsAccepted =
-    (held : List ℕ → Told) (file tree bytes : List ℕ) (budget : ℕ) (solved : List (List ℕ)) → held file ≡ Some (Some bytes)
-    → CommandAnswers held (Solving file budget) Done solved → held tree ≡ Some (Some (text_of solved))
-    → (status : Status) (checked : List (List ℕ)) → CommandAnswers held (Checking file tree) status checked
+    (held : List ℕ → Told) (file tree bytes : List ℕ) (budget : ℕ) (solved : List (List ℕ))
+    → held file ≡ Some (Some bytes)
+    → CommandAnswers held (Solving file budget) Done solved
+    → held tree ≡ Some (Some (text_of solved))
+    → (status : Status) (checked : List (List ℕ))
+    → CommandAnswers held (Checking file tree) status checked
     → IsAcceptedOrLong tree (text_of solved) status checked

@@ -8,7 +8,8 @@ ghost use Rattle.studio_rules.specs.Command as rules;
 ghost use Rattle.studio_rules.specs.Command.{command_of, AreWithin, IsFileWord};
 ghost use Rattle.studio_rules.specs.Ending.{Ends, Finishes, Only, IsOneOf, HasFault};
 ghost use Rattle.studio_rules.specs.Keeps.{Keeps};
-ghost use Rattle.studio_rules.specs.Answers.{CommandSays, WordsSay, IsUndisturbed, IsNotStopped, SearchCanFinish, first_file, statuses_of};
+ghost use Rattle.studio_rules.specs.Answers.{CommandSays, WordsSay, IsUndisturbed, IsNotStopped};
+ghost use Rattle.studio_rules.specs.Answers.{SearchCanFinish, first_file, statuses_of};
 ghost use Rattle.studio_rules.specs.Causes.{EndsExactly};
 ghost use Rattle.studio_words.specs.View.{command_view};
 ghost use Rattle.studio.specs.Noted.{ShowsFault, IsNoted};
@@ -55,7 +56,9 @@ fn perform<F: Shelf, K: Sink, E: Sink, W: Watch>(
     watch: W,
 ) -> Status
     requires { AreWithin (command_view command) }
-    ensures ends { Ends (CommandSays (F.state shelf.old) (F.state shelf.new) (command_view command.entry)) out.old out.new result }
+    ensures ends { Ends
+        (CommandSays (F.state shelf.old) (F.state shelf.new) (command_view command.entry)) out.old
+        out.new result }
     ensures keeps { Keeps (F.state shelf.old) (F.state shelf.new) }
 {
     match command {
@@ -152,7 +155,9 @@ fn run<F: Shelf, K: Sink, E: Sink, W: Watch>(
     out: &mut Outputs<K, E>,
     watch: W,
 ) -> Status
-    ensures ends { Ends (WordsSay (F.state shelf.old) (F.state shelf.new) (map string_bytes words.now)) out.old out.new result }
+    ensures ends { Ends
+        (WordsSay (F.state shelf.old) (F.state shelf.new) (map string_bytes words.now)) out.old
+        out.new result }
     ensures keeps { Keeps (F.state shelf.old) (F.state shelf.new) }
 {
     let Ok(found) = command_of(alloc, words) else {
@@ -166,8 +171,11 @@ fn run<F: Shelf, K: Sink, E: Sink, W: Watch>(
 
 // Puts the line `write fault` on standard error.
 fn put_fault<K: Sink, E: Sink>(out: &mut Outputs<K, E>) -> Result<(), Failed>
-    ensures ok { OnOk result (Appends out.old.err.written out.new.err.written (line (codes "write fault"))) }
-    ensures err { OnErr result (AppendsFront out.old.err.written out.new.err.written (line (codes "write fault"))) }
+    ensures ok { OnOk result
+        (Appends out.old.err.written out.new.err.written (line (codes "write fault"))) }
+    ensures err { OnErr result
+        (AppendsFront out.old.err.written out.new.err.written (line (codes "write fault"))) }
+    ensures cause { OnErr result (HasRisen out.old.err.faults out.new.err.faults) }
     ensures later { out.old.err.faults ≤ out.new.err.faults }
     ensures few { out.new.err.faults ≤ last_count }
     ensures quiet { out.new.out ≡ out.old.out }
@@ -175,7 +183,7 @@ fn put_fault<K: Sink, E: Sink>(out: &mut Outputs<K, E>) -> Result<(), Failed>
     out.err.put(b"write fault\n")
 }
 
-// The same, or as much of the line as standard error takes.
+// The same. If that fails, nothing more is done.
 fn show_fault<K: Sink, E: Sink>(out: &mut Outputs<K, E>)
     ensures { ShowsFault out.old out.new }
 {
@@ -196,7 +204,7 @@ fn note_fault<K: Sink, E: Sink>(out: &mut Outputs<K, E>, status: Status)
 ///
 /// The watch gets reports of how far a search is. What is put does not depend on it.
 ///
-/// If an output fails, the line `write fault` follows on `err`, as far as `err` takes it.
+/// If an output fails, the line `write fault` follows on `err`, or `err` fails as well.
 ///
 /// The clause `ends` says which text is written with which status, and `keeps` and `later` what is
 /// left of the shelf. The others are parts of `ends` in words of their own.
@@ -207,45 +215,61 @@ pub fn studio<F: Shelf, K: Sink, E: Sink, W: Watch>(
     out: &mut Outputs<K, E>,
     watch: W,
 ) -> Status
-    ensures ends { Finishes (WordsSay (F.state shelf.old) (F.state shelf.new) (map string_bytes words.now)) out.old out.new result }
+    ensures ends { Finishes
+        (WordsSay (F.state shelf.old) (F.state shelf.new) (map string_bytes words.now)) out.old
+        out.new result }
     // The files are known as before.
-    ensures keeps { (name : List ℕ) → (F.state shelf.new).held name ≡ (F.state shelf.old).held name }
+    ensures keeps { (name : List ℕ)
+        → (F.state shelf.new).held name ≡ (F.state shelf.old).held name }
     // No count of faults fell.
-    ensures later { (name : List ℕ) → (F.state shelf.old).faults name ≤ (F.state shelf.new).faults name }
+    ensures later { (name : List ℕ)
+        → (F.state shelf.old).faults name ≤ (F.state shelf.new).faults name }
     // `usage` comes only if the words have no form.
     ensures usage { result ≡ Status.Usage → command_of (map string_bytes words.now) ≡ None }
     // Words without a form get it, unless an output or memory fails.
-    ensures no_form { command_of (map string_bytes words.now) ≡ None → IsOneOf (Status.Usage ∷ Status.WriteFault ∷ Status.Memory ∷ []) result }
+    ensures no_form { command_of (map string_bytes words.now) ≡ None
+        → IsOneOf (Status.Usage ∷ Status.WriteFault ∷ Status.Memory ∷ []) result }
     // A fault of reading comes only if the count of faults of a file of the words rose.
-    ensures read_fault { result ≡ Status.ReadFault → (name : List ℕ) × IsFileWord (map string_bytes words.now) name × HasRisen ((F.state shelf.old).faults name) ((F.state shelf.new).faults name) }
+    ensures read_fault { result ≡ Status.ReadFault → (name : List ℕ)
+        × IsFileWord (map string_bytes words.now) name
+        × HasRisen ((F.state shelf.old).faults name) ((F.state shelf.new).faults name) }
     // A fault of writing comes only if the count of faults of an output rose.
     ensures write_fault { result ≡ Status.WriteFault → HasFault out.old out.new }
     // A command whose first file is missing says so, unless an output or memory fails.
-    ensures missing { (command : rules.Command) (name : List ℕ) → command_of (map string_bytes words.now) ≡ Some command → first_file command ≡ Some name
-        → (F.state shelf.old).held name ≡ Some None → IsOneOf (Status.ReadFault ∷ Status.WriteFault ∷ Status.Memory ∷ []) result }
+    ensures missing { (command : rules.Command) (name : List ℕ)
+        → command_of (map string_bytes words.now) ≡ Some command → first_file command ≡ Some name
+        → (F.state shelf.old).held name ≡ Some None
+        → IsOneOf (Status.ReadFault ∷ Status.WriteFault ∷ Status.Memory ∷ []) result }
     // Each status of `caused` comes only if it has its cause. If it has, and the shelf knows the
     // files of the command, it comes, unless a read, an output or memory fails. The causes are a
     // file above its limit, the first fault of its text, a bad token, an unknown name, words of no
     // sound node, and a problem that can't be migrated.
-    ensures exact { (command : rules.Command) → command_of (map string_bytes words.now) ≡ Some command → EndsExactly (F.state shelf.old).held command result }
+    ensures exact { (command : rules.Command)
+        → command_of (map string_bytes words.now) ≡ Some command
+        → EndsExactly (F.state shelf.old).held command result }
     // If the files of a command are there, within their limits, and no count of faults rises, the
     // call ends with a status of the command.
-    ensures complete { (command : rules.Command) → command_of (map string_bytes words.now) ≡ Some command
+    ensures complete { (command : rules.Command)
+        → command_of (map string_bytes words.now) ≡ Some command
         → IsUndisturbed (F.state shelf.old) (F.state shelf.new) out.old out.new command
         → IsOneOf (statuses_of command) result }
     // With a large enough budget and no overflow, a search ends neither with 4 nor 5, `flows`
     // not with 4.
-    ensures finishes { (command : rules.Command) → command_of (map string_bytes words.now) ≡ Some command → SearchCanFinish (F.state shelf.old).held command → IsNotStopped result }
+    ensures finishes { (command : rules.Command)
+        → command_of (map string_bytes words.now) ≡ Some command
+        → SearchCanFinish (F.state shelf.old).held command → IsNotStopped result }
     // If `check` ends with status 0, its files give a valid problem and a claim that is best. The
     // network of the claim is a clash-free solution structure with flows of its cost, and none
     // costs less. Or none has flows.
-    ensures accepted { (file : List ℕ) (tree : List ℕ) → command_of (map string_bytes words.now) ≡ Some (rules.Checking file tree)
+    ensures accepted { (file : List ℕ) (tree : List ℕ)
+        → command_of (map string_bytes words.now) ≡ Some (rules.Checking file tree)
         → result ≡ Status.Done → FilesClaimBest (F.state shelf.old).held file tree }
     // If `rankcheck` ends with status 0, its files give a valid problem and a ranking that is
     // right. No flows for the units of a listed network cost less than it. No other clash-free
     // solution structure costs less than the last one; if fewer are listed than were asked for, no
     // other has flows.
-    ensures ranked { (file : List ℕ) (rank : List ℕ) → command_of (map string_bytes words.now) ≡ Some (rules.RankChecking file rank)
+    ensures ranked { (file : List ℕ) (rank : List ℕ)
+        → command_of (map string_bytes words.now) ≡ Some (rules.RankChecking file rank)
         → result ≡ Status.Done → FilesListBest (F.state shelf.old).held file rank }
 {
     accepted_is_best();

@@ -3,7 +3,8 @@
 ghost use Rattle.structure_commands.specs.ListingLaws.{PartsJoin};
 ghost use Rattle.studio.specs.SolveLaws.{SolvedIsAccepted};
 ghost use Rattle.studio.specs.RankLaws.{RankedIsAccepted};
-ghost use Rattle.studio.specs.Calls.{CheckAcceptsSolved, RankcheckAcceptsRanked, CheckAcceptsMerged, ListingsJoin};
+ghost use Rattle.studio.specs.Calls.{CheckAcceptsSolved, RankcheckAcceptsRanked};
+ghost use Rattle.studio.specs.Calls.{CheckAcceptsMerged, ListingsJoin};
 
 use part_laws::{grafts_are_partial, open_leaves_stand};
 use part_text::read_parts_are_spelled;

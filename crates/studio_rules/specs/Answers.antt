@@ -4,8 +4,12 @@ use Rattle.std.specs.Prelude.{◌≡◌, ◌≤◌, ◌⊎◌, ℕ, List, [], �
 use Rattle.text_rules.specs.Outside.{HasRisen, Told, IsToldAnd}
 use Rattle.io_rules.specs.State.{ShelfState, OutputsState}
 use Rattle.studio_rules.specs.Command.{Command, command_of, IsFileOf, IsFileWord}
-use Rattle.studio_rules.specs.Command.{Max, Axioms, Flows, Listing, Make, Migrate, Editing, Undoing, Checking, RankChecking, Solving, Showing, Ranking, Trial, Telling}
-use Rattle.studio_rules.specs.Command.{Table, Splitting, Expanding, Drawing, DrawingNetwork, Reporting, Json, Ranging, Planning, Parting, PartingAgainst, Merging}
+use Rattle.studio_rules.specs.Command.{Max, Axioms, Flows, Listing, Make, Migrate, Editing, Undoing}
+use Rattle.studio_rules.specs.Command.{Checking, RankChecking, Solving, Showing, Ranking, Trial}
+use Rattle.studio_rules.specs.Command.{Telling}
+use Rattle.studio_rules.specs.Command.{Table, Splitting, Expanding, Drawing, DrawingNetwork}
+use Rattle.studio_rules.specs.Command.{Reporting, Json, Ranging, Planning, Parting, PartingAgainst}
+use Rattle.studio_rules.specs.Command.{Merging}
 use Rattle.problem_rules.specs.Generated.{generated}
 use Rattle.problem_rules.specs.Problem.{Problem}
 use Rattle.tree_rules.specs.Claim.{Network, network}
@@ -45,41 +49,68 @@ use Rattle.studio_rules.specs.Trial.{TrialWork}
 use Rattle.studio_rules.specs.Ending.{Says, HasFault}
 use Rattle.studio_rules.specs.Lines.{text_of}
 use Rattle.studio_rules.specs.declared.status.Status.{Status}
-use Rattle.studio_rules.specs.declared.status.Status.TheVariants.{Done, Refused, Usage, BadProblem, Past, Spent, Memory, BadToken, BadTree, BadEdit, NotMigrated, BadPlan, BadNode, NoLeaf, NotBest, UnknownName, BadClaim}
+use Rattle.studio_rules.specs.declared.status.Status.TheVariants.{Done, Refused, Usage, BadProblem}
+use Rattle.studio_rules.specs.declared.status.Status.TheVariants.{Past, Spent, Memory, BadToken}
+use Rattle.studio_rules.specs.declared.status.Status.TheVariants.{BadTree, BadEdit, NotMigrated}
+use Rattle.studio_rules.specs.declared.status.Status.TheVariants.{BadPlan, BadNode, NoLeaf, NotBest}
+use Rattle.studio_rules.specs.declared.status.Status.TheVariants.{UnknownName, BadClaim}
 
 -- The statuses and lines of a command that searches, while neither shelf, sink nor memory fails.
 -- Other commands have none here.
 abbrev pub SearchAnswers : (List ℕ → Told) → Command → Status → List (List ℕ) → Type 0
-SearchAnswers held (Ranging file tree kind name budget) status lines = OnFile (OnTree (StableWork kind name budget) held tree) held file status lines
-SearchAnswers held (Planning file plan budget) status lines = OnFile (OnPlan (PeriodsWork budget) held plan) held file status lines
-SearchAnswers held (Parting file inside outside budget) status lines = OnFile (PartWork budget inside outside) held file status lines
-SearchAnswers held (PartingAgainst file inside outside budget tree) status lines = OnFile (AgainstWork budget held tree inside outside) held file status lines
-SearchAnswers held (Solving file budget) status lines = OnFile (SolveWork budget) held file status lines
-SearchAnswers held (Showing file budget) status lines = OnFile (ShowWork budget) held file status lines
-SearchAnswers held (Ranking file count budget) status lines = OnFile (RankWork count budget) held file status lines
-SearchAnswers held (Trial number units budget) status lines = TrialWork number units budget status lines
+SearchAnswers held (Ranging file tree kind name budget) status lines =
+    OnFile (OnTree (StableWork kind name budget) held tree) held file status lines
+SearchAnswers held (Planning file plan budget) status lines =
+    OnFile (OnPlan (PeriodsWork budget) held plan) held file status lines
+SearchAnswers held (Parting file inside outside budget) status lines =
+    OnFile (PartWork budget inside outside) held file status lines
+SearchAnswers held (PartingAgainst file inside outside budget tree) status lines =
+    OnFile (AgainstWork budget held tree inside outside) held file status lines
+SearchAnswers held (Solving file budget) status lines =
+    OnFile (SolveWork budget) held file status lines
+SearchAnswers held (Showing file budget) status lines =
+    OnFile (ShowWork budget) held file status lines
+SearchAnswers held (Ranking file count budget) status lines =
+    OnFile (RankWork count budget) held file status lines
+SearchAnswers held (Trial number units budget) status lines =
+    TrialWork number units budget status lines
 SearchAnswers held command status lines = ⊥
 
 -- the statuses and lines of a command
 abbrev pub CommandAnswers : (List ℕ → Told) → Command → Status → List (List ℕ) → Type 0
 CommandAnswers held (Max file) status lines = OnFile MaxWork held file status lines
-CommandAnswers held (Axioms file units) status lines = OnFile (AxiomsWork units) held file status lines
-CommandAnswers held (Flows file units) status lines = OnFile (FlowsWork units) held file status lines
-CommandAnswers held (Listing file after count) status lines = OnFile (ListingWork after count) held file status lines
+CommandAnswers held (Axioms file units) status lines =
+    OnFile (AxiomsWork units) held file status lines
+CommandAnswers held (Flows file units) status lines =
+    OnFile (FlowsWork units) held file status lines
+CommandAnswers held (Listing file after count) status lines =
+    OnFile (ListingWork after count) held file status lines
 CommandAnswers held (Make number units) status lines = MakeWork number units status lines
-CommandAnswers held (Migrate file years) status lines = OnFile (MigrateWork years) held file status lines
-CommandAnswers held (Editing file script) status lines = OnFile (OnScript EditWork held script) held file status lines
-CommandAnswers held (Undoing file script) status lines = OnFile (OnScript UndoWork held script) held file status lines
-CommandAnswers held (Checking file tree) status lines = OnFile (OnTree CheckWork held tree) held file status lines
-CommandAnswers held (RankChecking file rank) status lines = OnFile (OnRank held rank) held file status lines
-CommandAnswers held (Table file tree) status lines = OnFile (OnTree (OnNetwork TableWork) held tree) held file status lines
-CommandAnswers held (Splitting file tree) status lines = OnFile (OnTree SplitWork held tree) held file status lines
-CommandAnswers held (Expanding file plan) status lines = OnFile (OnPlan ExpandWork held plan) held file status lines
+CommandAnswers held (Migrate file years) status lines =
+    OnFile (MigrateWork years) held file status lines
+CommandAnswers held (Editing file script) status lines =
+    OnFile (OnScript EditWork held script) held file status lines
+CommandAnswers held (Undoing file script) status lines =
+    OnFile (OnScript UndoWork held script) held file status lines
+CommandAnswers held (Checking file tree) status lines =
+    OnFile (OnTree CheckWork held tree) held file status lines
+CommandAnswers held (RankChecking file rank) status lines =
+    OnFile (OnRank held rank) held file status lines
+CommandAnswers held (Table file tree) status lines =
+    OnFile (OnTree (OnNetwork TableWork) held tree) held file status lines
+CommandAnswers held (Splitting file tree) status lines =
+    OnFile (OnTree SplitWork held tree) held file status lines
+CommandAnswers held (Expanding file plan) status lines =
+    OnFile (OnPlan ExpandWork held plan) held file status lines
 CommandAnswers held (Drawing file) status lines = OnFile PlantGraphWork held file status lines
-CommandAnswers held (DrawingNetwork file tree) status lines = OnFile (OnTree (OnNetwork NetworkGraphWork) held tree) held file status lines
-CommandAnswers held (Reporting file tree) status lines = OnFile (OnTree ReportWork held tree) held file status lines
-CommandAnswers held (Json file tree) status lines = OnFile (OnTree JsonWork held tree) held file status lines
-CommandAnswers held (Merging file tree parts) status lines = OnFile (OnTree (MergeWork held parts) held tree) held file status lines
+CommandAnswers held (DrawingNetwork file tree) status lines =
+    OnFile (OnTree (OnNetwork NetworkGraphWork) held tree) held file status lines
+CommandAnswers held (Reporting file tree) status lines =
+    OnFile (OnTree ReportWork held tree) held file status lines
+CommandAnswers held (Json file tree) status lines =
+    OnFile (OnTree JsonWork held tree) held file status lines
+CommandAnswers held (Merging file tree parts) status lines =
+    OnFile (OnTree (MergeWork held parts) held tree) held file status lines
 CommandAnswers held (Telling text) status lines = (status ≡ Done) × (text ≡ text_of lines)
 CommandAnswers held command status lines = SearchAnswers held command status lines
 
@@ -128,23 +159,37 @@ first_file command = None
 
 -- the command reads the file, which is to hold no more bytes
 abbrev pub IsReadWithin : Command → List ℕ → ℕ → Type 0
-IsReadWithin (Checking file tree) name limit = ((name ≡ file) × (limit ≡ file_limit)) ⊎ ((name ≡ tree) × (limit ≡ tree_limit))
-IsReadWithin (RankChecking file rank) name limit = ((name ≡ file) × (limit ≡ file_limit)) ⊎ ((name ≡ rank) × (limit ≡ tree_limit))
-IsReadWithin (Table file tree) name limit = ((name ≡ file) × (limit ≡ file_limit)) ⊎ ((name ≡ tree) × (limit ≡ tree_limit))
-IsReadWithin (Splitting file tree) name limit = ((name ≡ file) × (limit ≡ file_limit)) ⊎ ((name ≡ tree) × (limit ≡ tree_limit))
-IsReadWithin (DrawingNetwork file tree) name limit = ((name ≡ file) × (limit ≡ file_limit)) ⊎ ((name ≡ tree) × (limit ≡ tree_limit))
-IsReadWithin (Reporting file tree) name limit = ((name ≡ file) × (limit ≡ file_limit)) ⊎ ((name ≡ tree) × (limit ≡ tree_limit))
-IsReadWithin (Json file tree) name limit = ((name ≡ file) × (limit ≡ file_limit)) ⊎ ((name ≡ tree) × (limit ≡ tree_limit))
-IsReadWithin (Ranging file tree kind word budget) name limit = ((name ≡ file) × (limit ≡ file_limit)) ⊎ ((name ≡ tree) × (limit ≡ tree_limit))
-IsReadWithin (PartingAgainst file inside outside budget tree) name limit = ((name ≡ file) × (limit ≡ file_limit)) ⊎ ((name ≡ tree) × (limit ≡ tree_limit))
-IsReadWithin (Merging file tree parts) name limit = ((name ≡ file) × (limit ≡ file_limit)) ⊎ (((name ≡ tree) ⊎ Contains parts name) × (limit ≡ tree_limit))
+IsReadWithin (Checking file tree) name limit =
+    ((name ≡ file) × (limit ≡ file_limit)) ⊎ ((name ≡ tree) × (limit ≡ tree_limit))
+IsReadWithin (RankChecking file rank) name limit =
+    ((name ≡ file) × (limit ≡ file_limit)) ⊎ ((name ≡ rank) × (limit ≡ tree_limit))
+IsReadWithin (Table file tree) name limit =
+    ((name ≡ file) × (limit ≡ file_limit)) ⊎ ((name ≡ tree) × (limit ≡ tree_limit))
+IsReadWithin (Splitting file tree) name limit =
+    ((name ≡ file) × (limit ≡ file_limit)) ⊎ ((name ≡ tree) × (limit ≡ tree_limit))
+IsReadWithin (DrawingNetwork file tree) name limit =
+    ((name ≡ file) × (limit ≡ file_limit)) ⊎ ((name ≡ tree) × (limit ≡ tree_limit))
+IsReadWithin (Reporting file tree) name limit =
+    ((name ≡ file) × (limit ≡ file_limit)) ⊎ ((name ≡ tree) × (limit ≡ tree_limit))
+IsReadWithin (Json file tree) name limit =
+    ((name ≡ file) × (limit ≡ file_limit)) ⊎ ((name ≡ tree) × (limit ≡ tree_limit))
+IsReadWithin (Ranging file tree kind word budget) name limit =
+    ((name ≡ file) × (limit ≡ file_limit)) ⊎ ((name ≡ tree) × (limit ≡ tree_limit))
+IsReadWithin (PartingAgainst file inside outside budget tree) name limit =
+    ((name ≡ file) × (limit ≡ file_limit)) ⊎ ((name ≡ tree) × (limit ≡ tree_limit))
+IsReadWithin (Merging file tree parts) name limit =
+    ((name ≡ file) × (limit ≡ file_limit))
+    ⊎ (((name ≡ tree) ⊎ Contains parts name) × (limit ≡ tree_limit))
 IsReadWithin command name limit = IsFileOf command name × (limit ≡ file_limit)
 
 -- The files of the command are known and within their limits. Neither their counts of faults nor
 -- those of the outputs rise.
-pub record IsUndisturbed (old new : ShelfState) (before after : OutputsState) (command : Command) : Type 0 where
-  pub held : (name : List ℕ) (limit : ℕ) → IsReadWithin command name limit → IsToldAnd (old.held name) (λ file. length file ≤ limit)
-  pub read : (name : List ℕ) → IsFileOf command name → HasRisen (old.faults name) (new.faults name) → ⊥
+pub record IsUndisturbed (old new : ShelfState) (before after : OutputsState)
+    (command : Command) : Type 0 where
+  pub held : (name : List ℕ) (limit : ℕ) → IsReadWithin command name limit
+      → IsToldAnd (old.held name) (λ file. length file ≤ limit)
+  pub read : (name : List ℕ) → IsFileOf command name → HasRisen (old.faults name) (new.faults name)
+      → ⊥
   pub written : HasFault before after → ⊥
 
 -- the statuses with which an undisturbed command may end
@@ -165,11 +210,15 @@ statuses_of (Drawing file) = Done ∷ BadProblem ∷ Memory ∷ []
 statuses_of (DrawingNetwork file tree) = Done ∷ BadClaim ∷ BadProblem ∷ BadTree ∷ Memory ∷ []
 statuses_of (Reporting file tree) = Done ∷ BadClaim ∷ BadProblem ∷ BadTree ∷ Memory ∷ []
 statuses_of (Json file tree) = Done ∷ BadClaim ∷ BadProblem ∷ BadTree ∷ Memory ∷ []
-statuses_of (Ranging file tree kind name budget) = Done ∷ BadClaim ∷ Spent ∷ Past ∷ BadProblem ∷ BadTree ∷ NotBest ∷ UnknownName ∷ Memory ∷ []
+statuses_of (Ranging file tree kind name budget) =
+    Done ∷ BadClaim ∷ Spent ∷ Past ∷ BadProblem ∷ BadTree ∷ NotBest ∷ UnknownName ∷ Memory ∷ []
 statuses_of (Planning file plan budget) = Done ∷ Spent ∷ Past ∷ BadPlan ∷ BadProblem ∷ Memory ∷ []
-statuses_of (Parting file inside outside budget) = Done ∷ Spent ∷ Past ∷ BadNode ∷ BadProblem ∷ Memory ∷ []
-statuses_of (PartingAgainst file inside outside budget tree) = Done ∷ BadClaim ∷ Spent ∷ Past ∷ BadNode ∷ BadProblem ∷ BadTree ∷ Memory ∷ []
-statuses_of (Merging file tree parts) = Done ∷ BadClaim ∷ NoLeaf ∷ BadProblem ∷ BadTree ∷ Memory ∷ []
+statuses_of (Parting file inside outside budget) =
+    Done ∷ Spent ∷ Past ∷ BadNode ∷ BadProblem ∷ Memory ∷ []
+statuses_of (PartingAgainst file inside outside budget tree) =
+    Done ∷ BadClaim ∷ Spent ∷ Past ∷ BadNode ∷ BadProblem ∷ BadTree ∷ Memory ∷ []
+statuses_of (Merging file tree parts) =
+    Done ∷ BadClaim ∷ NoLeaf ∷ BadProblem ∷ BadTree ∷ Memory ∷ []
 statuses_of (Solving file budget) = Done ∷ Spent ∷ Past ∷ BadProblem ∷ Memory ∷ []
 statuses_of (Showing file budget) = Done ∷ Spent ∷ Past ∷ BadProblem ∷ Memory ∷ []
 statuses_of (Ranking file count budget) = Done ∷ Spent ∷ Past ∷ BadProblem ∷ Memory ∷ []

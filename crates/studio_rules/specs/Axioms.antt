@@ -1,6 +1,7 @@
 -- `axioms FILE UNITS`: whether the units are a solution structure, or else the first broken axiom
 -- with its least place. A name that is no unit of the problem breaks S3 and is judged first.
-use Rattle.std.specs.Prelude.{◌≡◌, ◌==◌, ◌++◌, ℕ, Bool, false, List, [], ◌∷◌, Option, Some, None, codes, find, is_none}
+use Rattle.std.specs.Prelude.{◌≡◌, ◌==◌, ◌++◌, ℕ, Bool, false, List, [], ◌∷◌, Option, Some, None}
+use Rattle.std.specs.Prelude.{codes, find, is_none}
 use Rattle.std.specs.List.{list_any, position}
 use Rattle.std.specs.Str.{bytes_eq}
 use Rattle.problem_rules.specs.Problem.{Problem, unit_names, material_at, unit_at}
@@ -58,13 +59,16 @@ place_name p S5 at = (material_at p at).name
 -- what a verdict says
 abbrev pub VerdictSays : Problem → Verdict → Status → List (List ℕ) → Type 0
 VerdictSays p Meets status lines = (status ≡ Done) × (lines ≡ codes "meets" ∷ [])
-VerdictSays p (Breaks broken at) status lines = (status ≡ Refused) × (lines ≡ breaks_line broken (place_name p broken at) ∷ [])
+VerdictSays p (Breaks broken at) status lines =
+    (status ≡ Refused) × (lines ≡ breaks_line broken (place_name p broken at) ∷ [])
 
 -- what is said of the names, given the first of them that no unit has, if there is one
 abbrev pub NamesSay : List (List ℕ) → Problem → Option (List ℕ) → Status → List (List ℕ) → Type 0
-NamesSay names p (Some stranger) status lines = (status ≡ Refused) × (lines ≡ breaks_line S3 stranger ∷ [])
+NamesSay names p (Some stranger) status lines =
+    (status ≡ Refused) × (lines ≡ breaks_line S3 stranger ∷ [])
 NamesSay names p None status lines =
-    (verdict : Verdict) × Judges (shape_of p) (units_named p names) verdict × VerdictSays p verdict status lines
+    (verdict : Verdict) × Judges (shape_of p) (units_named p names) verdict
+    × VerdictSays p verdict status lines
 
 abbrev pub AxiomsWork : List (List ℕ) → Problem → Status → List (List ℕ) → Type 0
 AxiomsWork names p = NamesSay names p (first_stranger p names)

@@ -25,7 +25,8 @@ NoneCostsLess p much d =
 -- no clash-free solution structure has flows
 abbrev pub NoneHasFlows : Problem → Type 0
 NoneHasFlows p =
-    (s : ℕ → Bool) → IsStructure (shape_of p) s → IsAllowed (shape_of p) s → (z : ℕ → ℤ) (e : ℤ) → IsFlows (net_of p) s z e → ⊥
+    (s : ℕ → Bool) → IsStructure (shape_of p) s → IsAllowed (shape_of p) s → (z : ℕ → ℤ) (e : ℤ)
+    → IsFlows (net_of p) s z e → ⊥
 
 -- the network is a clash-free solution structure with flows of its cost, and none costs less
 pub record IsBestNetwork (p : Problem) (w : Network) : Type 0 where

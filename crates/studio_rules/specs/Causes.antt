@@ -1,7 +1,8 @@
 -- Why a call ends with a status that depends on its words and its files alone. The cause of each
 -- status is in what the words are and in what the bytes of the files stand for. No line that is
 -- printed is named here.
-use Rattle.std.specs.Prelude.{◌≡◌, ◌<◌, ◌≤◌, ◌⊎◌, ℕ, true, List, [], ◌∷◌, Some, None, IsSome, Err, length, pos}
+use Rattle.std.specs.Prelude.{◌≡◌, ◌<◌, ◌≤◌, ◌⊎◌, ℕ, true, List, [], ◌∷◌, Some, None, IsSome, Err}
+use Rattle.std.specs.Prelude.{length, pos}
 use Rattle.text_rules.specs.Outside.{Told}
 use Rattle.problem_rules.specs.Problem.{Problem}
 use Rattle.pns_rules.specs.Shape.{shape_of}
@@ -26,22 +27,30 @@ use Rattle.studio_rules.specs.PartFile.{GivesPart}
 use Rattle.studio_rules.specs.Start.{IsStart}
 use Rattle.studio_rules.specs.Stable.{spot_named}
 use Rattle.studio_rules.specs.Command.{Command, IsFileOf}
-use Rattle.studio_rules.specs.Command.{Max, Axioms, Flows, Listing, Migrate, Editing, Undoing, Checking, RankChecking, Solving, Showing, Ranking}
-use Rattle.studio_rules.specs.Command.{Table, Splitting, Expanding, Drawing, DrawingNetwork, Reporting, Json, Ranging, Planning, Parting, PartingAgainst, Merging}
+use Rattle.studio_rules.specs.Command.{Max, Axioms, Flows, Listing, Migrate, Editing, Undoing}
+use Rattle.studio_rules.specs.Command.{Checking, RankChecking, Solving, Showing, Ranking}
+use Rattle.studio_rules.specs.Command.{Table, Splitting, Expanding, Drawing, DrawingNetwork}
+use Rattle.studio_rules.specs.Command.{Reporting, Json, Ranging, Planning, Parting, PartingAgainst}
+use Rattle.studio_rules.specs.Command.{Merging}
 use Rattle.studio_rules.specs.Ending.{IsOneOf}
 use Rattle.studio_rules.specs.declared.status.Status.{Status}
-use Rattle.studio_rules.specs.declared.status.Status.TheVariants.{BadProblem, ReadFault, WriteFault, Memory, BadToken, BadTree, BadEdit, TooLong, UnknownName, NotMigrated, BadNode, BadPlan}
+use Rattle.studio_rules.specs.declared.status.Status.TheVariants.{BadProblem, ReadFault, WriteFault}
+use Rattle.studio_rules.specs.declared.status.Status.TheVariants.{Memory, BadToken, BadTree}
+use Rattle.studio_rules.specs.declared.status.Status.TheVariants.{BadEdit, TooLong, UnknownName}
+use Rattle.studio_rules.specs.declared.status.Status.TheVariants.{NotMigrated, BadNode, BadPlan}
 
 -- the statuses that have such a cause
 abbrev pub caused : List Status
-caused = BadProblem ∷ BadToken ∷ BadTree ∷ BadEdit ∷ TooLong ∷ UnknownName ∷ NotMigrated ∷ BadNode ∷ BadPlan ∷ []
+caused = BadProblem ∷ BadToken ∷ BadTree ∷ BadEdit ∷ TooLong ∷ UnknownName ∷ NotMigrated ∷ BadNode
+    ∷ BadPlan ∷ []
 
 -- ---- the text of a file
 
 -- the file is above its limit, or it is within and its text has a first fault
 abbrev pub FileCause : ℕ → Status → (List ℕ → Type 0) → List ℕ → Status → Type 0
 FileCause limit bad HasFault file status =
-    ((status ≡ TooLong) × (limit < length file)) ⊎ ((status ≡ bad) × (length file ≤ limit) × HasFault file)
+    ((status ≡ TooLong) × (limit < length file))
+    ⊎ ((status ≡ bad) × (length file ≤ limit) × HasFault file)
 
 -- a first fault of the text of a problem, and of each other text for a problem
 abbrev pub HasProblemFault : List ℕ → Type 0
@@ -75,7 +84,8 @@ TokenCause word p status = (status ≡ BadToken) × IsBadToken (shape_of p) word
 -- range.
 abbrev pub MigrationCause : ℕ → Problem → Status → Type 0
 MigrationCause years p status =
-    (status ≡ NotMigrated) × ((has_payout p ≡ true) ⊎ ((unit : ℕ) × (out_of_range_at (pos years) p ≡ Some unit)))
+    (status ≡ NotMigrated)
+    × ((has_payout p ≡ true) ⊎ ((unit : ℕ) × (out_of_range_at (pos years) p ≡ Some unit)))
 
 -- no material, or no unit, has the name
 abbrev pub NameCause : SpotKind → List ℕ → Problem → Status → Type 0
@@ -86,34 +96,42 @@ NameCause kind name p status = (status ≡ UnknownName) × (spot_named p kind na
 abbrev pub InFile : (Problem → Status → Type 0) → (List ℕ → Told) → List ℕ → Status → Type 0
 InFile behind held name status =
     (file : List ℕ) × AreHeld (held name) file
-    × (FileCause file_limit BadProblem HasProblemFault file status ⊎ ((p : Problem) × GivesProblem file p × behind p status))
+    × (FileCause file_limit BadProblem HasProblemFault file status
+    ⊎ ((p : Problem) × GivesProblem file p × behind p status))
 
 -- a script, a plan or a ranking; nothing after it can be the cause
 abbrev pub InScript : (List ℕ → Told) → List ℕ → Problem → Status → Type 0
-InScript held name p status = (file : List ℕ) × AreHeld (held name) file × FileCause file_limit BadEdit (HasScriptFault p) file status
+InScript held name p status = (file : List ℕ) × AreHeld (held name) file
+    × FileCause file_limit BadEdit (HasScriptFault p) file status
 
 abbrev pub InPlan : (List ℕ → Told) → List ℕ → Problem → Status → Type 0
-InPlan held name p status = (file : List ℕ) × AreHeld (held name) file × FileCause file_limit BadPlan (HasPlanFault p) file status
+InPlan held name p status = (file : List ℕ) × AreHeld (held name) file
+    × FileCause file_limit BadPlan (HasPlanFault p) file status
 
 abbrev pub InRank : (List ℕ → Told) → List ℕ → Problem → Status → Type 0
-InRank held name p status = (file : List ℕ) × AreHeld (held name) file × FileCause tree_limit BadTree (HasRankFault p) file status
+InRank held name p status = (file : List ℕ) × AreHeld (held name) file
+    × FileCause tree_limit BadTree (HasRankFault p) file status
 
-abbrev pub InTree : (Problem → Status → Type 0) → (List ℕ → Told) → List ℕ → Problem → Status → Type 0
+abbrev pub InTree : (Problem → Status → Type 0) → (List ℕ → Told) → List ℕ → Problem → Status
+    → Type 0
 InTree behind held name p status =
     (file : List ℕ) × AreHeld (held name) file
-    × (FileCause tree_limit BadTree (HasTreeFault p) file status ⊎ ((claim : Claim) × (tree : Tree) × GivesTree p file claim tree × behind p status))
+    × (FileCause tree_limit BadTree (HasTreeFault p) file status
+    ⊎ ((claim : Claim) × (tree : Tree) × GivesTree p file claim tree × behind p status))
 
 abbrev pub InParts : (List ℕ → Told) → List (List ℕ) → Problem → Status → Type 0
 InParts held [] p status = ⊥
 InParts held (name ∷ names) p status =
     (file : List ℕ) × AreHeld (held name) file
-    × (FileCause tree_limit BadTree (HasPartFault p) file status ⊎ ((part : Part) × GivesPart p file part × InParts held names p status))
+    × (FileCause tree_limit BadTree (HasPartFault p) file status
+    ⊎ ((part : Part) × GivesPart p file part × InParts held names p status))
 
 -- two words that name no sound node, or else a node and the cause after it
 abbrev pub AtNode : (Problem → Status → Type 0) → List ℕ → List ℕ → Problem → Status → Type 0
 AtNode behind word other p status =
     ((status ≡ BadNode) × ((inside outside : List ℕ) → IsStart p word other inside outside → ⊥))
-    ⊎ ((inside : List ℕ) × (outside : List ℕ) × IsStart p word other inside outside × behind p status)
+    ⊎ ((inside : List ℕ) × (outside : List ℕ) × IsStart p word other inside outside
+    × behind p status)
 
 -- ---- the cause
 
@@ -134,11 +152,15 @@ CauseOf held (Drawing file) status = InFile NoCause held file status
 CauseOf held (DrawingNetwork file tree) status = InFile (InTree NoCause held tree) held file status
 CauseOf held (Reporting file tree) status = InFile (InTree NoCause held tree) held file status
 CauseOf held (Json file tree) status = InFile (InTree NoCause held tree) held file status
-CauseOf held (Ranging file tree kind name budget) status = InFile (InTree (NameCause kind name) held tree) held file status
+CauseOf held (Ranging file tree kind name budget) status =
+    InFile (InTree (NameCause kind name) held tree) held file status
 CauseOf held (Planning file plan budget) status = InFile (InPlan held plan) held file status
-CauseOf held (Parting file inside outside budget) status = InFile (AtNode NoCause inside outside) held file status
-CauseOf held (PartingAgainst file inside outside budget tree) status = InFile (AtNode (InTree NoCause held tree) inside outside) held file status
-CauseOf held (Merging file tree parts) status = InFile (InTree (InParts held parts) held tree) held file status
+CauseOf held (Parting file inside outside budget) status =
+    InFile (AtNode NoCause inside outside) held file status
+CauseOf held (PartingAgainst file inside outside budget tree) status =
+    InFile (AtNode (InTree NoCause held tree) inside outside) held file status
+CauseOf held (Merging file tree parts) status =
+    InFile (InTree (InParts held parts) held tree) held file status
 CauseOf held (Solving file budget) status = InFile NoCause held file status
 CauseOf held (Showing file budget) status = InFile NoCause held file status
 CauseOf held (Ranking file count budget) status = InFile NoCause held file status
@@ -150,10 +172,13 @@ AreTold held command = (name : List ℕ) → IsFileOf command name → IsSome (h
 
 -- The call ends with the status only if the status has its cause. If it has, and the shelf knows
 -- the files of the command, the call ends with it, unless reading, the sink or memory fails.
-pub record IsExact (held : List ℕ → Told) (command : Command) (result status : Status) : Type 0 where
+pub record IsExact (held : List ℕ → Told) (command : Command) (result status : Status) : Type
+    0 where
   pub only : result ≡ status → CauseOf held command status
-  pub always : AreTold held command → CauseOf held command status → IsOneOf (status ∷ ReadFault ∷ WriteFault ∷ Memory ∷ []) result
+  pub always : AreTold held command → CauseOf held command status
+      → IsOneOf (status ∷ ReadFault ∷ WriteFault ∷ Memory ∷ []) result
 
 -- each status that has a cause is exact
 abbrev pub EndsExactly : (List ℕ → Told) → Command → Status → Type 0
-EndsExactly held command result = (status : Status) → IsOneOf caused status → IsExact held command result status
+EndsExactly held command result = (status : Status) → IsOneOf caused status
+    → IsExact held command result status

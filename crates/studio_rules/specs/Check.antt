@@ -13,9 +13,12 @@ use Rattle.studio_rules.specs.declared.status.Status.TheVariants.{Done, Refused}
 abbrev pub IsRefused : Problem → Claim → Tree → List (List ℕ) → Type 0
 IsRefused p claim tree lines =
     ((why : Why) × ClaimFails false p claim why × (lines ≡ claim_line why ∷ []))
-    ⊎ (ClaimPasses false p claim × ((node : ℕ) × (why : Why) × NodeIsFault false p first_node claim tree node why × (lines ≡ node_line node why ∷ [])))
+    ⊎ (ClaimPasses false p claim
+    × ((node : ℕ) × (why : Why) × NodeIsFault false p first_node claim tree node why
+    × (lines ≡ node_line node why ∷ [])))
 
 abbrev pub CheckWork : Problem → Claim → Tree → Status → List (List ℕ) → Type 0
-CheckWork p claim tree Done lines = IsAccepted p first_node claim tree × (lines ≡ codes "accepted" ∷ [])
+CheckWork p claim tree Done lines = IsAccepted p first_node claim tree
+    × (lines ≡ codes "accepted" ∷ [])
 CheckWork p claim tree Refused lines = IsRefused p claim tree lines
 CheckWork p claim tree status lines = ⊥

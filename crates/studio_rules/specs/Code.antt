@@ -1,8 +1,13 @@
 -- The numbers of the statuses with which the program ends.
 use Rattle.std.specs.Prelude.{ℕ}
 use Rattle.studio_rules.specs.declared.status.Status.{Status}
-use Rattle.studio_rules.specs.declared.status.Status.TheVariants.{Done, Refused, Usage, BadProblem, Past, Spent, ReadFault, WriteFault, Memory}
-use Rattle.studio_rules.specs.declared.status.Status.TheVariants.{BadToken, BadTree, BadEdit, TooLong, NotBest, UnknownName, NotMigrated, BadNode, NoLeaf, BadPlan, BadClaim}
+use Rattle.studio_rules.specs.declared.status.Status.TheVariants.{Done, Refused, Usage, BadProblem}
+use Rattle.studio_rules.specs.declared.status.Status.TheVariants.{Past, Spent, ReadFault}
+use Rattle.studio_rules.specs.declared.status.Status.TheVariants.{WriteFault, Memory}
+use Rattle.studio_rules.specs.declared.status.Status.TheVariants.{BadToken, BadTree, BadEdit}
+use Rattle.studio_rules.specs.declared.status.Status.TheVariants.{TooLong, NotBest, UnknownName}
+use Rattle.studio_rules.specs.declared.status.Status.TheVariants.{NotMigrated, BadNode, NoLeaf}
+use Rattle.studio_rules.specs.declared.status.Status.TheVariants.{BadPlan, BadClaim}
 
 -- There is no 15. A refused claim has the number of a refusal.
 abbrev pub code_of : Status → ℕ

@@ -1,5 +1,7 @@
 -- The commands, and the forms of the words that call them.
-use Rattle.std.specs.Prelude.{◌≡◌, ◌≤◌, ◌⊎◌, ◌==◌, ◌&&◌, ◌||◌, ◌*◌, nat_le, ℕ, Bool, true, false, List, [], ◌∷◌, Option, Some, None, IsSomeAnd, length, codes, not, option_map, if◌then◌else◌}
+use Rattle.std.specs.Prelude.{◌≡◌, ◌≤◌, ◌⊎◌, ◌==◌, ◌&&◌, ◌||◌, ◌*◌, nat_le, ℕ, Bool, true, false}
+use Rattle.std.specs.Prelude.{List, [], ◌∷◌, Option, Some, None, IsSomeAnd, length, codes, not}
+use Rattle.std.specs.Prelude.{option_map, if◌then◌else◌}
 use Rattle.std.specs.List.{list_all, slice_split, Contains}
 use Rattle.std.specs.Str.{bytes_eq, byte}
 use Rattle.problem_rules.specs.Names.{is_name, has_double}
@@ -45,7 +47,8 @@ pub data Command : Type 0 where
 abbrev pub unit_names_of : List ℕ → Option (List (List ℕ))
 unit_names_of word =
     if bytes_eq word (codes "-") then Some []
-    else if list_all is_name (slice_split (λ c. c == byte ",") word) && not (has_double (slice_split (λ c. c == byte ",") word)) then
+    else if list_all is_name (slice_split (λ c. c == byte ",") word) && not
+    (has_double (slice_split (λ c. c == byte ",") word)) then
     Some (slice_split (λ c. c == byte ",") word)
     else None
 
@@ -74,8 +77,10 @@ nodes_of = number_within 1 1000000
 
 abbrev pub budget_of : List ℕ → Option ℕ
 budget_of word =
-    if last_byte word == byte "k" then option_map (λ thousands. 1000 * thousands) (number_within 1 1000 (but_last word))
-    else if last_byte word == byte "M" then option_map (λ millions. 1000000 * millions) (number_within 1 1 (but_last word))
+    if last_byte word == byte "k" then option_map (λ thousands. 1000 * thousands)
+    (number_within 1 1000 (but_last word))
+    else if last_byte word == byte "M" then option_map (λ millions. 1000000 * millions)
+    (number_within 1 1 (but_last word))
     else nodes_of word
 
 -- the BUDGET of a call that gives none is the greatest one
@@ -97,7 +102,9 @@ is_input word = bytes_eq word (codes "-")
 -- already, and at most one if it is not.
 abbrev pub are_files_where : Bool → List (List ℕ) → Bool
 are_files_where taken [] = true
-are_files_where taken (word ∷ words) = is_file_word word && not (taken && is_input word) && are_files_where (taken || is_input word) words
+are_files_where taken (word ∷ words) =
+    is_file_word word && not (taken && is_input word) && are_files_where (taken || is_input word)
+    words
 
 abbrev pub are_files : List (List ℕ) → Bool
 are_files = are_files_where false
@@ -154,7 +161,8 @@ on_file word file second =
     else if bytes_eq word (codes "migrate") then option_map (Migrate file) (years_of second)
     else if bytes_eq word (codes "solve") then option_map (Solving file) (budget_of second)
     else if bytes_eq word (codes "show") then option_map (Showing file) (budget_of second)
-    else if bytes_eq word (codes "rank") then ranked_by file (rank_count_of second) (Some full_budget)
+    else if bytes_eq word (codes "rank") then ranked_by file (rank_count_of second)
+    (Some full_budget)
     else if are_files (file ∷ second ∷ []) then with_file word file second
     else None
 
@@ -170,17 +178,21 @@ of_file word file =
 
 -- help and the version, by any of their spellings
 abbrev pub is_help_word : List ℕ → Bool
-is_help_word word = bytes_eq word (codes "help") || bytes_eq word (codes "--help") || bytes_eq word (codes "-h")
+is_help_word word =
+    bytes_eq word (codes "help") || bytes_eq word (codes "--help") || bytes_eq word (codes "-h")
 
 abbrev pub is_version_word : List ℕ → Bool
-is_version_word word = bytes_eq word (codes "version") || bytes_eq word (codes "--version") || bytes_eq word (codes "-V")
+is_version_word word =
+    bytes_eq word (codes "version") || bytes_eq word (codes "--version") || bytes_eq word
+    (codes "-V")
 
 -- the page of a command, asked for by `--help` or `-h` right after it, whatever follows
 abbrev pub is_page_word : List ℕ → Bool
 is_page_word word = bytes_eq word (codes "--help") || bytes_eq word (codes "-h")
 
 abbrev pub page_asked : List (List ℕ) → Option Command
-page_asked (word ∷ next ∷ words) = if is_page_word next then option_map Telling (command_text word) else None
+page_asked (word ∷ next ∷ words) =
+    if is_page_word next then option_map Telling (command_text word) else None
 page_asked words = None
 
 -- what a word asks for that is the only one
@@ -193,7 +205,8 @@ alone word =
 -- a tree and the parts that are put back into it, at most a hundred
 abbrev pub merging_of : List (List ℕ) → Option Command
 merging_of (word ∷ file ∷ tree ∷ part ∷ parts) =
-    if bytes_eq word (codes "merge") && are_files (file ∷ tree ∷ part ∷ parts) && nat_le (length (part ∷ parts)) 100 then
+    if bytes_eq word (codes "merge") && are_files (file ∷ tree ∷ part ∷ parts) && nat_le
+    (length (part ∷ parts)) 100 then
     Some (Merging file tree (part ∷ parts))
     else None
 merging_of words = None
@@ -201,8 +214,10 @@ merging_of words = None
 -- the forms of five and of six words
 abbrev pub long_form_of : List (List ℕ) → Option Command
 long_form_of (word ∷ first ∷ second ∷ third ∷ fourth ∷ []) =
-    if bytes_eq word (codes "part") && is_file_word first then option_map (Parting first second third) (budget_of fourth)
-    else if bytes_eq word (codes "stable") && are_files (first ∷ second ∷ []) then ranged_by first second (kind_of third) fourth (Some full_budget)
+    if bytes_eq word (codes "part") && is_file_word first then option_map
+    (Parting first second third) (budget_of fourth)
+    else if bytes_eq word (codes "stable") && are_files (first ∷ second ∷ []) then ranged_by first
+    second (kind_of third) fourth (Some full_budget)
     else None
 long_form_of (word ∷ first ∷ second ∷ third ∷ fourth ∷ fifth ∷ []) =
     if bytes_eq word (codes "part") && are_files (first ∷ fifth ∷ []) then
@@ -221,15 +236,21 @@ form_of (word ∷ file ∷ []) =
     else None
 form_of (word ∷ first ∷ second ∷ []) =
     if bytes_eq word (codes "make") then made_by (seed_of first) (unit_count_of second)
-    else if bytes_eq word (codes "trial") then tried_by (seed_of first) (unit_count_of second) (Some full_budget)
+    else if bytes_eq word (codes "trial") then tried_by (seed_of first) (unit_count_of second)
+    (Some full_budget)
     else if is_file_word first then on_file word first second
     else None
 form_of (word ∷ first ∷ second ∷ third ∷ []) =
-    if bytes_eq word (codes "trial") then tried_by (seed_of first) (unit_count_of second) (budget_of third)
-    else if bytes_eq word (codes "list") && is_file_word first then option_map (Listing first second) (count_of third)
-    else if bytes_eq word (codes "periods") && are_files (first ∷ second ∷ []) then option_map (Planning first second) (budget_of third)
-    else if bytes_eq word (codes "rank") && is_file_word first then ranked_by first (rank_count_of second) (budget_of third)
-    else if bytes_eq word (codes "part") && is_file_word first then Some (Parting first second third full_budget)
+    if bytes_eq word (codes "trial") then tried_by (seed_of first) (unit_count_of second)
+    (budget_of third)
+    else if bytes_eq word (codes "list") && is_file_word first then option_map
+    (Listing first second) (count_of third)
+    else if bytes_eq word (codes "periods") && are_files (first ∷ second ∷ []) then option_map
+    (Planning first second) (budget_of third)
+    else if bytes_eq word (codes "rank") && is_file_word first then ranked_by first
+    (rank_count_of second) (budget_of third)
+    else if bytes_eq word (codes "part") && is_file_word first then Some
+    (Parting first second third full_budget)
     else None
 form_of words = long_form_of words
 
@@ -281,8 +302,10 @@ AreWithin (Ranging file tree kind name budget) = (1 ≤ budget) × (budget ≤ 1
 AreWithin (Planning file plan budget) = (1 ≤ budget) × (budget ≤ 1000000)
 AreWithin (Parting file inside outside budget) = (1 ≤ budget) × (budget ≤ 1000000)
 AreWithin (PartingAgainst file inside outside budget tree) = (1 ≤ budget) × (budget ≤ 1000000)
-AreWithin (Ranking file count budget) = ((1 ≤ count) × (count ≤ 1000)) × ((1 ≤ budget) × (budget ≤ 1000000))
-AreWithin (Trial number units budget) = ((1 ≤ units) × (units ≤ 128)) × ((1 ≤ budget) × (budget ≤ 1000000))
+AreWithin (Ranking file count budget) =
+    ((1 ≤ count) × (count ≤ 1000)) × ((1 ≤ budget) × (budget ≤ 1000000))
+AreWithin (Trial number units budget) =
+    ((1 ≤ units) × (units ≤ 128)) × ((1 ≤ budget) × (budget ≤ 1000000))
 AreWithin (Telling text) = IsOfLines text
 AreWithin command = Unit {0}
 

@@ -27,16 +27,23 @@ use Rattle.studio_rules.specs.declared.status.Status.TheVariants.{Done, Refused,
 -- the lines of the network, with one size for each unit in file order, and that of the bound
 abbrev pub LeastLines : Problem → List ℕ → List (List ℕ) → Type 0
 LeastLines p us lines =
-    (w : Network) × (d : ℤ) × (ys : List ℤ) × (w.units ≡ us) × IsSized w × IsLeastFlows p w d ys × (lines ≡ spelled (network_lines p w ++ end_line p (trees.leaf (leaves.bounded d ys)) ∷ []))
+    (w : Network) × (d : ℤ) × (ys : List ℤ) × (w.units ≡ us) × IsSized w × IsLeastFlows p w d ys
+    × (lines
+    ≡ spelled (network_lines p w ++ end_line p (trees.leaf (leaves.bounded d ys)) ∷ []))
 
 -- `infeasible`, and the line of the refutation
 abbrev pub NoneLines : Problem → List ℕ → List (List ℕ) → Type 0
 NoneLines p us lines =
-    (ys : List ℤ) × HasNoFlows p us ys × (lines ≡ spelled (claim_lines p claims.infeasible ++ end_line p (trees.leaf (leaves.refuted ys)) ∷ []))
+    (ys : List ℤ) × HasNoFlows p us ys
+    × (lines
+    ≡ spelled
+    (claim_lines p claims.infeasible ++ end_line p (trees.leaf (leaves.refuted ys)) ∷ []))
 
 -- the columns outside a basis, and what overflows at it
 abbrev pub PastLines : Problem → List ℕ → List (List ℕ) → Type 0
-PastLines p us lines = (nonbasic : List Column) × (place : Place) × IsPastNamed (net_of p) (decided p us) nonbasic place × (lines ≡ spelled (place_lines p nonbasic place))
+PastLines p us lines = (nonbasic : List Column) × (place : Place)
+    × IsPastNamed (net_of p) (decided p us) nonbasic place
+    × (lines ≡ spelled (place_lines p nonbasic place))
 
 -- what is said of the flows of a solution structure
 abbrev pub FlowsSay : Problem → List ℕ → Status → List (List ℕ) → Type 0
@@ -46,14 +53,18 @@ FlowsSay p us status lines = ⊥
 
 -- of names that are all known
 abbrev pub UnitsSay : List (List ℕ) → Problem → Verdict → Status → List (List ℕ) → Type 0
-UnitsSay names p Meets status lines = (us : List ℕ) × IsSet (length p.units) us × (has us ≡ units_named p names) × FlowsSay p us status lines
+UnitsSay names p Meets status lines = (us : List ℕ) × IsSet (length p.units) us
+    × (has us ≡ units_named p names) × FlowsSay p us status lines
 UnitsSay names p (Breaks broken at) status lines = VerdictSays p (Breaks broken at) status lines
 
 -- what is said of the names, given the first of them that no unit has, if there is one
-abbrev pub FlowNamesSay : List (List ℕ) → Problem → Option (List ℕ) → Status → List (List ℕ) → Type 0
-FlowNamesSay names p (Some stranger) status lines = (status ≡ Refused) × (lines ≡ breaks_line S3 stranger ∷ [])
+abbrev pub FlowNamesSay : List (List ℕ) → Problem → Option (List ℕ) → Status → List (List ℕ)
+    → Type 0
+FlowNamesSay names p (Some stranger) status lines =
+    (status ≡ Refused) × (lines ≡ breaks_line S3 stranger ∷ [])
 FlowNamesSay names p None status lines =
-    (verdict : Verdict) × Judges (shape_of p) (units_named p names) verdict × UnitsSay names p verdict status lines
+    (verdict : Verdict) × Judges (shape_of p) (units_named p names) verdict
+    × UnitsSay names p verdict status lines
 
 abbrev pub FlowsWork : List (List ℕ) → Problem → Status → List (List ℕ) → Type 0
 FlowsWork names p = FlowNamesSay names p (first_stranger p names)

@@ -55,11 +55,13 @@ json_lines p claim verdict = lines_behind (head_of claim verdict) p claim
 
 -- the verdict is that on the tree: `proved` exactly if `check` accepts it
 abbrev pub JsonSays : Problem → Claim → Tree → List (List ℕ) → Type 0
-JsonSays p claim tree lines = (verdict : Verdict) × IsVerdict p claim tree verdict × (lines ≡ json_lines p claim verdict)
+JsonSays p claim tree lines = (verdict : Verdict) × IsVerdict p claim tree verdict
+    × (lines ≡ json_lines p claim verdict)
 
 -- A claim that fails, though nothing may be claimed, is refused for the first of its lines that
 -- does.
 abbrev pub JsonWork : Problem → Claim → Tree → Status → List (List ℕ) → Type 0
 JsonWork p claim tree Done lines = JsonSays p claim tree lines
-JsonWork p claim tree BadClaim lines = (why : Why) × ClaimFails true p claim why × (lines ≡ claim_line why ∷ [])
+JsonWork p claim tree BadClaim lines =
+    (why : Why) × ClaimFails true p claim why × (lines ≡ claim_line why ∷ [])
 JsonWork p claim tree status lines = ⊥

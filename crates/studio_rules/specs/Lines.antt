@@ -15,4 +15,5 @@ spaced_names = flat_map (λ name. 32 ∷ name)
 -- the names whose numbers are in the set, in order; the first name has number k
 abbrev pub names_in : (ℕ → Bool) → ℕ → List (List ℕ) → List (List ℕ)
 names_in set k [] = []
-names_in set k (name ∷ names) = if set k then name ∷ names_in set (k + 1) names else names_in set (k + 1) names
+names_in set k (name ∷ names) =
+    if set k then name ∷ names_in set (k + 1) names else names_in set (k + 1) names

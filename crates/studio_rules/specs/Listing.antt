@@ -1,7 +1,8 @@
 -- `list FILE AFTER COUNT`: the clash-free solution structures after AFTER in the order of their
 -- traces, at most COUNT of them (solution structure generation of Friedler, Tarjan, Huang and Fan
 -- 1992).
-use Rattle.std.specs.Prelude.{◌≡◌, ◌++◌, ℕ, List, [], ◌∷◌, Option, Some, None, codes, length, map, take, nat_lt, if◌then◌else◌}
+use Rattle.std.specs.Prelude.{◌≡◌, ◌++◌, ℕ, List, [], ◌∷◌, Option, Some, None, codes, length, map}
+use Rattle.std.specs.Prelude.{take, nat_lt, if◌then◌else◌}
 use Rattle.number_sets.specs.Sets.{has, IsRising}
 use Rattle.problem_rules.specs.Problem.{Problem, unit_names}
 use Rattle.pns_rules.specs.Shape.{Shape, shape_of}
@@ -37,7 +38,8 @@ last_of (s ∷ t ∷ more) = last_of (t ∷ more)
 
 -- `end` if no structure follows the first count, else `more` and the token of the last of them
 abbrev pub last_line : ℕ → List (List ℕ) → List ℕ
-last_line count all = if nat_lt count (length all) then more_line (last_of (take count all)) else codes "end"
+last_line count all =
+    if nat_lt count (length all) then more_line (last_of (take count all)) else codes "end"
 
 -- the lines of a listing of which at most count structures are given
 abbrev pub listing_lines : Problem → ℕ → List (List ℕ) → List (List ℕ)
@@ -46,6 +48,8 @@ listing_lines p count all = map (structure_line p) (take count all) ++ last_line
 abbrev pub ListingWork : List ℕ → ℕ → Problem → Status → List (List ℕ) → Type 0
 ListingWork word count p Done lines =
     (after : Option (List ℕ)) × IsAfter (shape_of p) word after
-    × ((all : List (List ℕ)) × IsListing (shape_of p) after all × (lines ≡ listing_lines p count all))
-ListingWork word count p BadToken lines = IsBadToken (shape_of p) word × (lines ≡ codes "bad token" ∷ [])
+    × ((all : List (List ℕ)) × IsListing (shape_of p) after all
+    × (lines ≡ listing_lines p count all))
+ListingWork word count p BadToken lines =
+    IsBadToken (shape_of p) word × (lines ≡ codes "bad token" ∷ [])
 ListingWork word count p status lines = ⊥

@@ -7,4 +7,5 @@ use Rattle.studio_rules.specs.declared.status.Status.{Status}
 use Rattle.studio_rules.specs.declared.status.Status.TheVariants.{Done}
 
 abbrev pub MakeWork : ℕ → ℕ → Status → List (List ℕ) → Type 0
-MakeWork number units status lines = (status ≡ Done) × (lines ≡ canonical_lines (generated number units))
+MakeWork number units status lines = (status ≡ Done)
+    × (lines ≡ canonical_lines (generated number units))

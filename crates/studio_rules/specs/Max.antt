@@ -28,7 +28,8 @@ materials_line p m = codes "materials" ++ spaced_names (names_in m 0 (material_n
 abbrev pub MaxLines : Problem → List (List ℕ) → Type 0
 MaxLines p lines =
     (HasNoStructure (shape_of p) × (lines ≡ codes "none" ∷ []))
-    ⊎ ((s : ℕ → Bool) × IsMaximal (shape_of p) s × (lines ≡ units_line p s ∷ materials_line p (mats (shape_of p) s) ∷ []))
+    ⊎ ((s : ℕ → Bool) × IsMaximal (shape_of p) s
+    × (lines ≡ units_line p s ∷ materials_line p (mats (shape_of p) s) ∷ []))
 
 abbrev pub MaxWork : Problem → Status → List (List ℕ) → Type 0
 MaxWork p Done lines = MaxLines p lines

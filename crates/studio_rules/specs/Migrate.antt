@@ -16,10 +16,13 @@ out_of_range_line name = codes "out of range " ++ name
 abbrev pub NotMigratedLines : ℕ → Problem → List (List ℕ) → Type 0
 NotMigratedLines years p lines =
     ((has_payout p ≡ true) × (lines ≡ codes "has payout" ∷ []))
-    ⊎ ((has_payout p ≡ false) × ((unit : ℕ) × (out_of_range_at (pos years) p ≡ Some unit) × (lines ≡ out_of_range_line (unit_at p unit).name ∷ [])))
+    ⊎ ((has_payout p ≡ false)
+    × ((unit : ℕ) × (out_of_range_at (pos years) p ≡ Some unit)
+    × (lines ≡ out_of_range_line (unit_at p unit).name ∷ [])))
 
 abbrev pub MigrateWork : ℕ → Problem → Status → List (List ℕ) → Type 0
 MigrateWork years p Done lines =
-    (has_payout p ≡ false) × (out_of_range_at (pos years) p ≡ None) × (lines ≡ printed_lines (migration (pos years) p))
+    (has_payout p ≡ false) × (out_of_range_at (pos years) p ≡ None)
+    × (lines ≡ printed_lines (migration (pos years) p))
 MigrateWork years p NotMigrated lines = NotMigratedLines years p lines
 MigrateWork years p status lines = ⊥

@@ -4,7 +4,8 @@ use Rattle.std.specs.Prelude.{◌≡◌, ◌⊎◌, ℕ, false, List, [], ◌∷
 use Rattle.problem_rules.specs.Problem.{Problem}
 use Rattle.tree_rules.specs.declared.why.Why.{Why}
 use Rattle.tree_rules.specs.declared.why.Why.TheVariants.{Unknown}
-use Rattle.tree_rules.specs.Claim.{Network, Claim, network, infeasible, unknown, IsFeasible, ClaimFails}
+use Rattle.tree_rules.specs.Claim.{Network, Claim, network, infeasible, unknown, IsFeasible}
+use Rattle.tree_rules.specs.Claim.{ClaimFails}
 use Rattle.tree_rules.specs.Accepted.{Tree}
 use Rattle.studio_rules.specs.RefusalWords.{claim_line}
 use Rattle.studio_rules.specs.declared.status.Status.{Status}
@@ -17,7 +18,8 @@ IsRefusedFor p infeasible why = why ≡ Unknown
 IsRefusedFor p unknown why = why ≡ Unknown
 
 abbrev pub ClaimRefusal : Problem → Claim → Status → List (List ℕ) → Type 0
-ClaimRefusal p claim status lines = (status ≡ BadClaim) × ((why : Why) × IsRefusedFor p claim why × (lines ≡ claim_line why ∷ []))
+ClaimRefusal p claim status lines = (status ≡ BadClaim)
+    × ((why : Why) × IsRefusedFor p claim why × (lines ≡ claim_line why ∷ []))
 
 -- the claim is a network, and each of its lines is true
 abbrev pub ClaimsNetwork : Problem → Claim → Network → Type 0
@@ -25,5 +27,8 @@ ClaimsNetwork p claim w = (claim ≡ network w) × IsFeasible p w
 
 -- The status and lines of the work on a problem and the network of a claim: those of a claim that
 -- is refused, else those of the work.
-abbrev pub OnNetwork : (Problem → Network → Status → List (List ℕ) → Type 0) → Problem → Claim → Tree → Status → List (List ℕ) → Type 0
-OnNetwork work p claim tree status lines = ClaimRefusal p claim status lines ⊎ ((w : Network) × ClaimsNetwork p claim w × work p w status lines)
+abbrev pub OnNetwork : (Problem → Network → Status → List (List ℕ) → Type 0) → Problem → Claim
+    → Tree → Status → List (List ℕ) → Type 0
+OnNetwork work p claim tree status lines =
+    ClaimRefusal p claim status lines
+    ⊎ ((w : Network) × ClaimsNetwork p claim w × work p w status lines)

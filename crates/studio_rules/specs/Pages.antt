@@ -4,7 +4,8 @@ use Rattle.std.specs.Str.{bytes_eq}
 use Rattle.studio_rules.specs.PageLines.{text_of}
 use Rattle.studio_rules.specs.StructurePages.{max_page, axioms_page, list_page}
 use Rattle.studio_rules.specs.FlowPages.{flows_page, check_page}
-use Rattle.studio_rules.specs.ReportPages.{table_page, report_page, json_page, graph_page, stable_page}
+use Rattle.studio_rules.specs.ReportPages.{table_page, report_page, json_page, graph_page}
+use Rattle.studio_rules.specs.ReportPages.{stable_page}
 use Rattle.studio_rules.specs.SearchPages.{solve_page, show_page, trial_page}
 use Rattle.studio_rules.specs.RankPages.{rank_page, rankcheck_page}
 use Rattle.studio_rules.specs.PartPages.{split_page, part_page, merge_page}

@@ -6,7 +6,8 @@ use Rattle.number_sets.specs.Sets.{has}
 use Rattle.problem_rules.specs.Problem.{Problem}
 use Rattle.text_rules.specs.Outside.{Told}
 use Rattle.pns_rules.specs.Nodes.{Node}
-use Rattle.tree_rules.specs.Claim.{Network, Claim, network, infeasible, unknown, claimed_cost, IsFeasible}
+use Rattle.tree_rules.specs.Claim.{Network, Claim, network, infeasible, unknown, claimed_cost}
+use Rattle.tree_rules.specs.Claim.{IsFeasible}
 use Rattle.tree_rules.specs.Costs.{HasFallen}
 use Rattle.tree_rules.specs.Leaf.{IsUntried}
 use Rattle.tree_rules.specs.Accepted.{Tree}
@@ -28,7 +29,8 @@ use Rattle.studio_rules.specs.declared.status.Status.{Status}
 
 -- the part of a search that began at the node: its claim, its tree, and its tail
 abbrev pub part_from : List ℕ → List ℕ → Certificate → Part
-part_from inside outside c = record { inside = inside; outside = outside; claim = c.claim; tree = c.tree; tail = c.tail }
+part_from inside outside c =
+    record { inside = inside; outside = outside; claim = c.claim; tree = c.tree; tail = c.tail }
 
 -- From the node the tree is lean and proves the claim but for its open leaves. The claim is the
 -- cheapest network that was found, if any was.
@@ -42,9 +44,12 @@ pub record ProvesFrom (start : Node) (p : Problem) (claim : Claim) (tree : Tree)
 abbrev pub HoldsFrom : Node → ℕ → Problem → Claim → Tree → Tail → Type 0
 HoldsFrom start budget p claim tree whole = IsProved p start claim tree
 HoldsFrom start budget p claim tree (spent next options) =
-    ProvesFrom start p claim tree × IsSpent p IsUntried (claimed_cost claim) start tree next options budget × IsBelowLimit p budget
+    ProvesFrom start p claim tree
+    × IsSpent p IsUntried (claimed_cost claim) start tree next options budget
+    × IsBelowLimit p budget
 HoldsFrom start budget p claim tree (past node nonbasic place) =
-    ProvesFrom start p claim tree × IsPast p IsUntried start tree (λ n. IsPastAt p n nonbasic place) node
+    ProvesFrom start p claim tree
+    × IsPast p IsUntried start tree (λ n. IsPastAt p n nonbasic place) node
 
 -- the network that was found costs no more than the one that was known, if any was
 abbrev pub NoDearer : Option Network → Claim → Type 0
@@ -54,9 +59,11 @@ NoDearer (Some w) claim = HasFallen (claimed_cost (network w)) (claimed_cost cla
 -- What a search from the node finds within the budget: a claim with the lean tree that proves it,
 -- or the tree as far as it came and the place at which the search stopped. Its text reads as what
 -- was found. Its status is that of its tail.
-pub record PartSays (budget : ℕ) (known : Option Network) (inside outside : List ℕ) (p : Problem) (status : Status) (lines : List (List ℕ)) : Type 0 where
+pub record PartSays (budget : ℕ) (known : Option Network) (inside outside : List ℕ) (p : Problem)
+    (status : Status) (lines : List (List ℕ)) : Type 0 where
   pub found : Certificate
-  pub holds : HoldsFrom (record { inside = has inside; outside = has outside }) budget p found.claim found.tree found.tail
+  pub holds : HoldsFrom (record { inside = has inside; outside = has outside }) budget p found.claim
+      found.tree found.tail
   pub no_dearer : NoDearer known found.claim
   pub status_is : status ≡ status_of found.tail
   pub text : lines ≡ spelled (part_text_lines p (part_from inside outside found))
@@ -67,11 +74,17 @@ PartWork budget = OnStart (PartSays budget None)
 
 -- The network of a claim is judged by its lines, and is known to the search. Another claim is
 -- ignored, and the tree is not judged.
-abbrev pub ClaimSays : ℕ → List ℕ → List ℕ → Problem → Claim → Tree → Status → List (List ℕ) → Type 0
+abbrev pub ClaimSays : ℕ → List ℕ → List ℕ → Problem → Claim → Tree → Status → List (List ℕ)
+    → Type 0
 ClaimSays budget inside outside p (network w) tree status lines =
-    ClaimRefusal p (network w) status lines ⊎ (IsFeasible p w × PartSays budget (Some w) inside outside p status lines)
-ClaimSays budget inside outside p infeasible tree status lines = PartSays budget None inside outside p status lines
-ClaimSays budget inside outside p unknown tree status lines = PartSays budget None inside outside p status lines
+    ClaimRefusal p (network w) status lines
+    ⊎ (IsFeasible p w × PartSays budget (Some w) inside outside p status lines)
+ClaimSays budget inside outside p infeasible tree status lines =
+    PartSays budget None inside outside p status lines
+ClaimSays budget inside outside p unknown tree status lines =
+    PartSays budget None inside outside p status lines
 
-abbrev pub AgainstWork : ℕ → (List ℕ → Told) → List ℕ → List ℕ → List ℕ → Problem → Status → List (List ℕ) → Type 0
-AgainstWork budget held tree = OnStart (λ inside outside. OnTree (ClaimSays budget inside outside) held tree)
+abbrev pub AgainstWork : ℕ → (List ℕ → Told) → List ℕ → List ℕ → List ℕ → Problem → Status
+    → List (List ℕ) → Type 0
+AgainstWork budget held tree =
+    OnStart (λ inside outside. OnTree (ClaimSays budget inside outside) held tree)

@@ -1,11 +1,15 @@
 -- PLAN is read and judged after FILE: first its form, then its meaning on the problem.
-use Rattle.std.specs.Prelude.{◌≡◌, ◌≤◌, ◌⊎◌, ◌++◌, ℕ, List, [], ◌∷◌, Ok, Err, length, codes, decimal}
+use Rattle.std.specs.Prelude.{◌≡◌, ◌≤◌, ◌⊎◌, ◌++◌, ℕ, List, [], ◌∷◌, Ok, Err, length, codes}
+use Rattle.std.specs.Prelude.{decimal}
 use Rattle.text_rules.specs.Outside.{Told}
 use Rattle.problem_rules.specs.Problem.{Problem}
 use Rattle.plan_rules.specs.Meaning.{read_plan}
 use Rattle.plan_rules.specs.Plan.{Plan}
 use Rattle.plan_rules.specs.declared.PlanKind.{PlanKind}
-use Rattle.plan_rules.specs.declared.PlanKind.TheVariants.{FileType, BadLine, BadName, BadNumber, TooFine, TooLarge, Sign, DoubleLine, UnknownName, LowAboveHigh, NoPeriod, TooWide}
+use Rattle.plan_rules.specs.declared.PlanKind.TheVariants.{FileType, BadLine, BadName, BadNumber}
+use Rattle.plan_rules.specs.declared.PlanKind.TheVariants.{TooFine, TooLarge, Sign, DoubleLine}
+use Rattle.plan_rules.specs.declared.PlanKind.TheVariants.{UnknownName, LowAboveHigh, NoPeriod}
+use Rattle.plan_rules.specs.declared.PlanKind.TheVariants.{TooWide}
 use Rattle.studio_rules.specs.Reading.{AreHeld, IsLong, OnSecond, file_limit}
 use Rattle.studio_rules.specs.declared.status.Status.{Status}
 use Rattle.studio_rules.specs.declared.status.Status.TheVariants.{BadPlan, TooLong}
@@ -33,7 +37,9 @@ plan_fault_line line kind = codes "plan line " ++ decimal line ++ 32 ∷ plan_ki
 abbrev pub PlanFileFault : List ℕ → Problem → List ℕ → Status → List (List ℕ) → Type 0
 PlanFileFault name p file TooLong lines = IsLong name file_limit file lines
 PlanFileFault name p file BadPlan lines =
-    (length file ≤ file_limit) × ((line : ℕ) × (kind : PlanKind) × (read_plan p file ≡ Err (line, kind)) × (lines ≡ plan_fault_line line kind ∷ []))
+    (length file ≤ file_limit)
+    × ((line : ℕ) × (kind : PlanKind) × (read_plan p file ≡ Err (line, kind))
+    × (lines ≡ plan_fault_line line kind ∷ []))
 PlanFileFault name p file status lines = ⊥
 
 -- a file within the limit, whose text stands for the plan
@@ -42,12 +48,17 @@ GivesPlan p file plan = (length file ≤ file_limit) × (read_plan p file ≡ Ok
 
 -- what reading and judging the named plan says if it gives none for the problem
 abbrev pub PlanFaults : (List ℕ → Told) → List ℕ → Problem → Status → List (List ℕ) → Type 0
-PlanFaults held name p status lines = (file : List ℕ) × AreHeld (held name) file × PlanFileFault name p file status lines
+PlanFaults held name p status lines = (file : List ℕ) × AreHeld (held name) file
+    × PlanFileFault name p file status lines
 
 -- The status and lines of the work on a problem and its plan: those of a file that gives no plan,
 -- else those of the work.
-abbrev pub PlanSays : (Problem → Plan → Status → List (List ℕ) → Type 0) → List ℕ → Problem → List ℕ → Status → List (List ℕ) → Type 0
-PlanSays work name p file status lines = PlanFileFault name p file status lines ⊎ ((plan : Plan) × GivesPlan p file plan × work p plan status lines)
+abbrev pub PlanSays : (Problem → Plan → Status → List (List ℕ) → Type 0) → List ℕ → Problem → List ℕ
+    → Status → List (List ℕ) → Type 0
+PlanSays work name p file status lines =
+    PlanFileFault name p file status lines
+    ⊎ ((plan : Plan) × GivesPlan p file plan × work p plan status lines)
 
-abbrev pub OnPlan : (Problem → Plan → Status → List (List ℕ) → Type 0) → (List ℕ → Told) → List ℕ → Problem → Status → List (List ℕ) → Type 0
+abbrev pub OnPlan : (Problem → Plan → Status → List (List ℕ) → Type 0) → (List ℕ → Told) → List ℕ
+    → Problem → Status → List (List ℕ) → Type 0
 OnPlan work held name = OnSecond (PlanSays work name) held name

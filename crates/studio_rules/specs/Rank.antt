@@ -47,9 +47,13 @@ pub record Ranks (count : ℕ) (p : Problem) (t : Text) : Type 0 where
 abbrev pub Holds : ℕ → ℕ → Problem → Text → Tail → Type 0
 Holds count budget p t whole = Ranks count p t
 Holds count budget p t (spent next options) =
-    Lists true count p t × IsSpent p IsOpenLeaf (to_undercut t.count t.networks) first_node (marked t.marks t.tree) next options budget × IsBelowLimit p budget
+    Lists true count p t
+    × IsSpent p IsOpenLeaf (to_undercut t.count t.networks) first_node (marked t.marks t.tree)
+    next options budget × IsBelowLimit p budget
 Holds count budget p t (past node nonbasic place) =
-    Lists true count p t × IsPast p IsOpenLeaf first_node (marked t.marks t.tree) (λ n. IsPastAt p n nonbasic place) node
+    Lists true count p t
+    × IsPast p IsOpenLeaf first_node (marked t.marks t.tree) (λ n. IsPastAt p n nonbasic place)
+    node
 
 abbrev pub RankWork : ℕ → ℕ → Problem → Status → List (List ℕ) → Type 0
 RankWork count budget p status lines =

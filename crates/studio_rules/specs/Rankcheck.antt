@@ -1,6 +1,7 @@
 -- `rankcheck FILE RANK`: whether the tree of a ranking proves it, or else the first network, or the
 -- first node, that fails, with its cause.
-use Rattle.std.specs.Prelude.{◌≡◌, ◌⊎◌, ◌≤◌, ◌<◌, ℕ, ℤ, Bool, false, List, [], ◌∷◌, Some, Ok, Err, length, codes}
+use Rattle.std.specs.Prelude.{◌≡◌, ◌⊎◌, ◌≤◌, ◌<◌, ℕ, ℤ, Bool, false, List, [], ◌∷◌, Some, Ok, Err}
+use Rattle.std.specs.Prelude.{length, codes}
 use Rattle.text_rules.specs.Outside.{Told}
 use Rattle.number_sets.specs.Sets.{has}
 use Rattle.problem_rules.specs.Problem.{Problem}
@@ -30,7 +31,9 @@ use Rattle.studio_rules.specs.declared.status.Status.TheVariants.{Done, Refused,
 abbrev pub RankFault : List ℕ → Problem → List ℕ → Status → List (List ℕ) → Type 0
 RankFault name p file TooLong lines = IsLong name tree_limit file lines
 RankFault name p file BadTree lines =
-    (length file ≤ tree_limit) × ((line : ℕ) × (kind : TreeKind) × (read_text p file ≡ Err (line, kind)) × (lines ≡ tree_fault_line line kind ∷ []))
+    (length file ≤ tree_limit)
+    × ((line : ℕ) × (kind : TreeKind) × (read_text p file ≡ Err (line, kind))
+    × (lines ≡ tree_fault_line line kind ∷ []))
 RankFault name p file status lines = ⊥
 
 -- a file within the limit, whose text stands for the ranking
@@ -39,15 +42,19 @@ GivesRanking p file t = (length file ≤ tree_limit) × (read_text p file ≡ Ok
 
 -- what reading and judging the named file says if it gives none for the problem
 abbrev pub RankFaults : (List ℕ → Told) → List ℕ → Problem → Status → List (List ℕ) → Type 0
-RankFaults held name p status lines = (file : List ℕ) × AreHeld (held name) file × RankFault name p file status lines
+RankFaults held name p status lines = (file : List ℕ) × AreHeld (held name) file
+    × RankFault name p file status lines
 
 -- ---- the answer
 
 -- The networks are judged first, then the nodes in preorder. The tail does not matter.
 abbrev pub IsRefused : Problem → Ranking → List (List ℕ) → Type 0
 IsRefused p r lines =
-    ((number : ℕ) × (why : RankWhy) × NetworkIsFault p r number why × (lines ≡ network_line number why ∷ []))
-    ⊎ (ArePassing p [] r.networks × ((node : ℕ) × (why : RankWhy) × NodeIsFault false p r node why × (lines ≡ rank_node_line node why ∷ [])))
+    ((number : ℕ) × (why : RankWhy) × NetworkIsFault p r number why
+    × (lines ≡ network_line number why ∷ []))
+    ⊎ (ArePassing p [] r.networks
+    × ((node : ℕ) × (why : RankWhy) × NodeIsFault false p r node why
+    × (lines ≡ rank_node_line node why ∷ [])))
 
 abbrev pub RankcheckWork : Problem → Text → Status → List (List ℕ) → Type 0
 RankcheckWork p t Done lines = IsRanked p (ranking_of t) × (lines ≡ codes "accepted" ∷ [])
@@ -58,7 +65,8 @@ RankcheckWork p t status lines = ⊥
 -- ranking, else those of the work.
 abbrev pub RankcheckSays : List ℕ → Problem → List ℕ → Status → List (List ℕ) → Type 0
 RankcheckSays name p file status lines =
-    RankFault name p file status lines ⊎ ((t : Text) × GivesRanking p file t × RankcheckWork p t status lines)
+    RankFault name p file status lines
+    ⊎ ((t : Text) × GivesRanking p file t × RankcheckWork p t status lines)
 
 abbrev pub OnRank : (List ℕ → Told) → List ℕ → Problem → Status → List (List ℕ) → Type 0
 OnRank held name = OnSecond (RankcheckSays name) held name
@@ -70,12 +78,16 @@ pub record AreBest (p : Problem) (count : ℕ) (ws : List Network) : Type 0 wher
   -- No two have the same units.
   pub pass : ArePassing p [] ws
   -- no flows for the units of one cost less than it
-  pub least : (k : ℕ) (w : Network) → numbered k ws ≡ Some w → CostsEnough p (Some (cost_of w)) (has w.units)
+  pub least : (k : ℕ) (w : Network) → numbered k ws ≡ Some w
+      → CostsEnough p (Some (cost_of w)) (has w.units)
   -- If as many are listed as were asked for, each structure that is not listed costs at least what
   -- the last one does, with any flows.
-  pub full : length ws ≡ count → (s : ℕ → Bool) → IsStructure (shape_of p) s → IsAllowed (shape_of p) s → (IsListed ws s → ⊥) → CostsEnough p (last_cost ws) s
+  pub full : length ws ≡ count → (s : ℕ → Bool) → IsStructure (shape_of p) s
+      → IsAllowed (shape_of p) s → (IsListed ws s → ⊥) → CostsEnough p (last_cost ws) s
   -- if fewer are listed, no structure that is not listed has flows
-  pub fewer : length ws < count → (s : ℕ → Bool) → IsStructure (shape_of p) s → IsAllowed (shape_of p) s → (IsListed ws s → ⊥) → (z : ℕ → ℤ) (d : ℤ) → IsFlows (net_of p) s z d → ⊥
+  pub fewer : length ws < count → (s : ℕ → Bool) → IsStructure (shape_of p) s
+      → IsAllowed (shape_of p) s → (IsListed ws s → ⊥) → (z : ℕ → ℤ) (d : ℤ)
+      → IsFlows (net_of p) s z d → ⊥
 
 -- FILE gives a valid problem, RANK a ranking for it, and its networks are the best
 pub record FilesListBest (held : List ℕ → Told) (file rank : List ℕ) : Type 0 where

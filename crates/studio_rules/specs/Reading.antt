@@ -1,11 +1,20 @@
 -- FILE is read and judged, which all commands on a problem share.
-use Rattle.std.specs.Prelude.{◌≡◌, ◌<◌, ◌≤◌, ◌⊎◌, ◌++◌, ℕ, List, [], ◌∷◌, Result, Ok, Err, length, codes, decimal}
+use Rattle.std.specs.Prelude.{◌≡◌, ◌<◌, ◌≤◌, ◌⊎◌, ◌++◌, ℕ, List, [], ◌∷◌, Result, Ok, Err, length}
+use Rattle.std.specs.Prelude.{codes, decimal}
 use Rattle.text_rules.specs.Outside.{Told, IfTold}
 use Rattle.problem_rules.specs.Problem.{Problem}
 use Rattle.problem_rules.specs.Validity.{IsValid}
 use Rattle.text_rules.specs.declared.TextKind.{TextKind}
-use Rattle.text_rules.specs.declared.TextKind.TheVariants.{FileType, UnknownSection, DoubleSection, BadLine, BadName, UnknownKey, DoubleKey, BadNumber, TooFine, TooLarge, Negative, UnknownKind, ZeroRate, DoubleTerm, BothSides}
-use Rattle.text_rules.specs.declared.TextKind.TheVariants.{EmptySide, DoubleMaterial, DoubleUnit, DoubleRates, TooMany, LowAboveHigh, UnknownMaterial, NoRates, NoProduct, DoubleExclusion, DoubleMember, FewMembers, UnknownUnit, BadPayout}
+use Rattle.text_rules.specs.declared.TextKind.TheVariants.{FileType, UnknownSection, DoubleSection}
+use Rattle.text_rules.specs.declared.TextKind.TheVariants.{BadLine, BadName, UnknownKey, DoubleKey}
+use Rattle.text_rules.specs.declared.TextKind.TheVariants.{BadNumber, TooFine, TooLarge, Negative}
+use Rattle.text_rules.specs.declared.TextKind.TheVariants.{UnknownKind, ZeroRate, DoubleTerm}
+use Rattle.text_rules.specs.declared.TextKind.TheVariants.{BothSides}
+use Rattle.text_rules.specs.declared.TextKind.TheVariants.{EmptySide, DoubleMaterial, DoubleUnit}
+use Rattle.text_rules.specs.declared.TextKind.TheVariants.{DoubleRates, TooMany, LowAboveHigh}
+use Rattle.text_rules.specs.declared.TextKind.TheVariants.{UnknownMaterial, NoRates, NoProduct}
+use Rattle.text_rules.specs.declared.TextKind.TheVariants.{DoubleExclusion, DoubleMember}
+use Rattle.text_rules.specs.declared.TextKind.TheVariants.{FewMembers, UnknownUnit, BadPayout}
 use Rattle.text_rules.specs.Fault.{Fault}
 use Rattle.text_rules.specs.Value.{read_text}
 use Rattle.io_rules.specs.State.{ShelfState}
@@ -72,14 +81,17 @@ abbrev pub IsLong : List ℕ → ℕ → List ℕ → List (List ℕ) → Type 0
 IsLong name limit file lines = (limit < length file) × (lines ≡ (codes "too long " ++ name) ∷ [])
 
 abbrev pub LongFile : (List ℕ → Told) → List ℕ → ℕ → Status → List (List ℕ) → Type 0
-LongFile held name limit status lines = (status ≡ TooLong) × ((file : List ℕ) × AreHeld (held name) file × IsLong name limit file lines)
+LongFile held name limit status lines =
+    (status ≡ TooLong) × ((file : List ℕ) × AreHeld (held name) file × IsLong name limit file lines)
 
 -- A file that gives no problem: it is above the limit, or its text has a fault, which is reported
 -- with its line and kind.
 abbrev pub FileFault : List ℕ → List ℕ → Status → List (List ℕ) → Type 0
 FileFault name file TooLong lines = IsLong name file_limit file lines
 FileFault name file BadProblem lines =
-    (length file ≤ file_limit) × ((line : ℕ) × (kind : TextKind) × Reads file (Err (line, kind)) × (lines ≡ fault_line line kind ∷ []))
+    (length file ≤ file_limit)
+    × ((line : ℕ) × (kind : TextKind) × Reads file (Err (line, kind))
+    × (lines ≡ fault_line line kind ∷ []))
 FileFault name file status lines = ⊥
 
 -- a file within the limit, whose text stands for the problem, which is valid
@@ -90,23 +102,33 @@ pub record GivesProblem (file : List ℕ) (p : Problem) : Type 0 where
 
 -- what reading the named file says if it gives no problem
 abbrev pub FileFaults : (List ℕ → Told) → List ℕ → Status → List (List ℕ) → Type 0
-FileFaults held name status lines = (file : List ℕ) × AreHeld (held name) file × FileFault name file status lines
+FileFaults held name status lines = (file : List ℕ) × AreHeld (held name) file
+    × FileFault name file status lines
 
 -- The status and lines of a command on the named file: those of a file that gives no problem, else
 -- those of its work on the problem.
-abbrev pub OnFile : (Problem → Status → List (List ℕ) → Type 0) → (List ℕ → Told) → List ℕ → Status → List (List ℕ) → Type 0
+abbrev pub OnFile : (Problem → Status → List (List ℕ) → Type 0) → (List ℕ → Told) → List ℕ → Status
+    → List (List ℕ) → Type 0
 OnFile work held name status lines =
-    (file : List ℕ) × AreHeld (held name) file × (FileFault name file status lines ⊎ ((p : Problem) × GivesProblem file p × work p status lines))
+    (file : List ℕ) × AreHeld (held name) file
+    × (FileFault name file status lines
+    ⊎ ((p : Problem) × GivesProblem file p × work p status lines))
 
 -- What a command on the named file may write with a status, over a shelf that is old before it and
 -- new after it.
-abbrev pub FileSays : (Problem → Status → List (List ℕ) → Type 0) → List ℕ → ShelfState → ShelfState → Status → List ℕ → Type 0
+abbrev pub FileSays : (Problem → Status → List (List ℕ) → Type 0) → List ℕ → ShelfState → ShelfState
+    → Status → List ℕ → Type 0
 FileSays work name old new = Says (OnFile work old.held name) (λ other. other ≡ name) old new
 
 -- the same of a command that also reads a second file, over what the shelf holds
-abbrev pub TwoFilesSay : ((List ℕ → Told) → List ℕ → Problem → Status → List (List ℕ) → Type 0) → List ℕ → List ℕ → ShelfState → ShelfState → Status → List ℕ → Type 0
-TwoFilesSay work file second old new = Says (OnFile (work old.held second) old.held file) (λ other. (other ≡ file) ⊎ (other ≡ second)) old new
+abbrev pub TwoFilesSay : ((List ℕ → Told) → List ℕ → Problem → Status → List (List ℕ) → Type 0)
+    → List ℕ → List ℕ → ShelfState → ShelfState → Status → List ℕ → Type 0
+TwoFilesSay work file second old new =
+    Says (OnFile (work old.held second) old.held file) (λ other. (other ≡ file) ⊎ (other ≡ second))
+    old new
 
 -- The status and lines of a command on a problem and a second file, of whose bytes `judged` speaks.
-abbrev pub OnSecond : (Problem → List ℕ → Status → List (List ℕ) → Type 0) → (List ℕ → Told) → List ℕ → Problem → Status → List (List ℕ) → Type 0
-OnSecond judged held name p status lines = (file : List ℕ) × AreHeld (held name) file × judged p file status lines
+abbrev pub OnSecond : (Problem → List ℕ → Status → List (List ℕ) → Type 0) → (List ℕ → Told)
+    → List ℕ → Problem → Status → List (List ℕ) → Type 0
+OnSecond judged held name p status lines =
+    (file : List ℕ) × AreHeld (held name) file × judged p file status lines

@@ -1,7 +1,9 @@
 -- The words that say why a claim or a node of a tree is refused.
 use Rattle.std.specs.Prelude.{ℕ, List, ◌∷◌, ◌++◌, codes, decimal}
 use Rattle.tree_rules.specs.declared.why.Why.{Why}
-use Rattle.tree_rules.specs.declared.why.Why.TheVariants.{Unknown, Axiom, Exclusion, Flows, Cost, Step, Options, Open, Dead, Clash, Refuted, Bound, Sum}
+use Rattle.tree_rules.specs.declared.why.Why.TheVariants.{Unknown, Axiom, Exclusion, Flows, Cost}
+use Rattle.tree_rules.specs.declared.why.Why.TheVariants.{Step, Options, Open, Dead, Clash, Refuted}
+use Rattle.tree_rules.specs.declared.why.Why.TheVariants.{Bound, Sum}
 
 -- the word for a cause
 abbrev pub why_word : Why → List ℕ

@@ -17,7 +17,9 @@ use Rattle.studio_rules.specs.declared.status.Status.TheVariants.{Done, BadClaim
 
 -- a claim that is accepted is that of a network, or that none has flows
 abbrev pub proved_line : Problem → Claim → List ℕ
-proved_line p (network w) = codes "PROVED: this network costs " ++ total_cell p w ++ codes ", and no allowed network costs less"
+proved_line p (network w) =
+    codes "PROVED: this network costs " ++ total_cell p w
+    ++ codes ", and no allowed network costs less"
 proved_line p infeasible = codes "PROVED: no network meets the bounds"
 proved_line p unknown = codes "PROVED: no network meets the bounds"
 
@@ -47,11 +49,13 @@ verdict_lines p claim verdict = first_line p claim verdict ∷ tables_of p claim
 
 -- the lines say what the tree proves: `PROVED` exactly if `check` accepts it
 abbrev pub ReportSays : Problem → Claim → Tree → List (List ℕ) → Type 0
-ReportSays p claim tree lines = (verdict : Verdict) × IsVerdict p claim tree verdict × (lines ≡ verdict_lines p claim verdict)
+ReportSays p claim tree lines = (verdict : Verdict) × IsVerdict p claim tree verdict
+    × (lines ≡ verdict_lines p claim verdict)
 
 -- A claim that fails, though nothing may be claimed, is refused for the first of its lines that
 -- does.
 abbrev pub ReportWork : Problem → Claim → Tree → Status → List (List ℕ) → Type 0
 ReportWork p claim tree Done lines = ReportSays p claim tree lines
-ReportWork p claim tree BadClaim lines = (why : Why) × ClaimFails true p claim why × (lines ≡ claim_line why ∷ [])
+ReportWork p claim tree BadClaim lines =
+    (why : Why) × ClaimFails true p claim why × (lines ≡ claim_line why ∷ [])
 ReportWork p claim tree status lines = ⊥

@@ -1,12 +1,17 @@
 -- SCRIPT is read and judged after FILE: first its form, then its meaning on the problem.
-use Rattle.std.specs.Prelude.{◌≡◌, ◌≤◌, ◌⊎◌, ◌++◌, ℕ, List, [], ◌∷◌, Ok, Err, length, map, codes, decimal}
+use Rattle.std.specs.Prelude.{◌≡◌, ◌≤◌, ◌⊎◌, ◌++◌, ℕ, List, [], ◌∷◌, Ok, Err, length, map, codes}
+use Rattle.std.specs.Prelude.{decimal}
 use Rattle.text_rules.specs.Outside.{Told}
 use Rattle.problem_rules.specs.Problem.{Problem}
 use Rattle.edit_rules.specs.Edit.{Edit, Script}
 use Rattle.edit_rules.specs.Formed.{script_of}
 use Rattle.edit_rules.specs.Script.{CanApply, applied, undoing}
 use Rattle.script_rules.specs.declared.EditKind.{EditKind}
-use Rattle.script_rules.specs.declared.EditKind.TheVariants.{FileType, BadLine, BadName, BadNumber, TooFine, TooLarge, Sign, BadTerms, UnknownName, DoubleName, BadPlace, LowAboveHigh, InUse, NoProduct, TooMany, BadMembers}
+use Rattle.script_rules.specs.declared.EditKind.TheVariants.{FileType, BadLine, BadName, BadNumber}
+use Rattle.script_rules.specs.declared.EditKind.TheVariants.{TooFine, TooLarge, Sign, BadTerms}
+use Rattle.script_rules.specs.declared.EditKind.TheVariants.{UnknownName, DoubleName, BadPlace}
+use Rattle.script_rules.specs.declared.EditKind.TheVariants.{LowAboveHigh, InUse, NoProduct}
+use Rattle.script_rules.specs.declared.EditKind.TheVariants.{TooMany, BadMembers}
 use Rattle.script_rules.specs.Line.{file_type}
 use Rattle.script_rules.specs.Read.{read_script}
 use Rattle.script_rules.specs.Printed.{edit_line}
@@ -45,14 +50,17 @@ edit_fault_line line kind = codes "script line " ++ decimal line ++ 32 ∷ edit_
 -- on the problem.
 abbrev pub HasEditFault : Problem → List ℕ → ℕ → EditKind → Type 0
 HasEditFault p file line kind =
-    (read_script file ≡ Err (line, kind)) ⊎ ((s : Script) × (read_script file ≡ Ok s) × HasFaultAt p s line kind)
+    (read_script file ≡ Err (line, kind))
+    ⊎ ((s : Script) × (read_script file ≡ Ok s) × HasFaultAt p s line kind)
 
 -- A file that gives no script for the problem: it is above the limit, or has a fault, which is
 -- reported with its line and kind.
 abbrev pub ScriptFault : List ℕ → Problem → List ℕ → Status → List (List ℕ) → Type 0
 ScriptFault name p file TooLong lines = IsLong name file_limit file lines
 ScriptFault name p file BadEdit lines =
-    (length file ≤ file_limit) × ((line : ℕ) × (kind : EditKind) × HasEditFault p file line kind × (lines ≡ edit_fault_line line kind ∷ []))
+    (length file ≤ file_limit)
+    × ((line : ℕ) × (kind : EditKind) × HasEditFault p file line kind
+    × (lines ≡ edit_fault_line line kind ∷ []))
 ScriptFault name p file status lines = ⊥
 
 -- a file within the limit, whose text stands for the script, which the problem takes
@@ -70,12 +78,17 @@ pub record IsEdited (p : Problem) (file : List ℕ) (edited : Problem) (back : S
 
 -- what reading and judging the named script says if it gives none for the problem
 abbrev pub ScriptFaults : (List ℕ → Told) → List ℕ → Problem → Status → List (List ℕ) → Type 0
-ScriptFaults held name p status lines = (file : List ℕ) × AreHeld (held name) file × ScriptFault name p file status lines
+ScriptFaults held name p status lines =
+    (file : List ℕ) × AreHeld (held name) file × ScriptFault name p file status lines
 
 -- The status and lines of the work on a problem and the edits of a script: those of a file that
 -- gives no script, else those of the work.
-abbrev pub ScriptSays : (Problem → List Edit → Status → List (List ℕ) → Type 0) → List ℕ → Problem → List ℕ → Status → List (List ℕ) → Type 0
-ScriptSays work name p file status lines = ScriptFault name p file status lines ⊎ ((s : Script) × GivesScript p file s × work p s.edits status lines)
+abbrev pub ScriptSays : (Problem → List Edit → Status → List (List ℕ) → Type 0) → List ℕ → Problem
+    → List ℕ → Status → List (List ℕ) → Type 0
+ScriptSays work name p file status lines =
+    ScriptFault name p file status lines
+    ⊎ ((s : Script) × GivesScript p file s × work p s.edits status lines)
 
-abbrev pub OnScript : (Problem → List Edit → Status → List (List ℕ) → Type 0) → (List ℕ → Told) → List ℕ → Problem → Status → List (List ℕ) → Type 0
+abbrev pub OnScript : (Problem → List Edit → Status → List (List ℕ) → Type 0) → (List ℕ → Told)
+    → List ℕ → Problem → Status → List (List ℕ) → Type 0
 OnScript work held name = OnSecond (ScriptSays work name) held name

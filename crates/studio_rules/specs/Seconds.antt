@@ -5,7 +5,8 @@ use Rattle.studio_rules.specs.Lines.{text_of}
 
 -- a line that begins with two blanks, of printable bytes alone
 abbrev pub IsSecond : List ℕ → Type 0
-IsSecond line = (rest : List ℕ) × (line ≡ 32 ∷ 32 ∷ rest) × Each (λ byte. (32 ≤ byte) × (byte ≤ 126)) rest
+IsSecond line = (rest : List ℕ) × (line ≡ 32 ∷ 32 ∷ rest)
+    × Each (λ byte. (32 ≤ byte) × (byte ≤ 126)) rest
 
 -- some such lines, one after another, each with its line feed
 abbrev pub AreSeconds : List ℕ → Type 0

@@ -14,10 +14,12 @@ abbrev pub CertificateShows : Problem → Certificate → Status → List (List 
 CertificateShows p c status lines = (status ≡ status_of c.tail) × ReportSays p c.claim c.tree lines
 
 abbrev pub ShowWork : ℕ → Problem → Status → List (List ℕ) → Type 0
-ShowWork budget p status lines = (c : Certificate) × Holds budget p c.claim c.tree c.tail × CertificateShows p c status lines
+ShowWork budget p status lines = (c : Certificate) × Holds budget p c.claim c.tree c.tail
+    × CertificateShows p c status lines
 
 -- with status 0 the first line says that the claim is proved, and so it is
 abbrev pub ShownIsProved : Type 0
 ShownIsProved =
     (budget : ℕ) (p : Problem) (lines : List (List ℕ)) → ShowWork budget p Done lines
-    → (claim : Claim) × (tree : Tree) × Solves p claim tree × (lines ≡ proved_line p claim ∷ tables_of p claim)
+    → (claim : Claim) × (tree : Tree) × Solves p claim tree
+    × (lines ≡ proved_line p claim ∷ tables_of p claim)

@@ -37,7 +37,8 @@ pub record AreTextOf (p : Problem) (c : Certificate) (lines : List (List ℕ)) :
 pub record Solves (p : Problem) (claim : Claim) (tree : Tree) : Type 0 where
   pub proved : IsProved p first_node claim tree
   pub feasible : (w : Network) → claim ≡ network w → IsFeasible p w
-  pub least : (s : ℕ → Bool) → IsStructure (shape_of p) s → IsAllowed (shape_of p) s → CostsEnough p (claimed_cost claim) s
+  pub least : (s : ℕ → Bool) → IsStructure (shape_of p) s → IsAllowed (shape_of p) s
+      → CostsEnough p (claimed_cost claim) s
 
 -- The tree is lean and proves the claim but for its open leaves. The claim is the cheapest network
 -- that was found, if any was.
@@ -51,9 +52,12 @@ pub record ProvesInPart (p : Problem) (claim : Claim) (tree : Tree) : Type 0 whe
 abbrev pub Holds : ℕ → Problem → Claim → Tree → Tail → Type 0
 Holds budget p claim tree whole = Solves p claim tree
 Holds budget p claim tree (spent next options) =
-    ProvesInPart p claim tree × IsSpent p IsUntried (claimed_cost claim) first_node tree next options budget × IsBelowLimit p budget
+    ProvesInPart p claim tree
+    × IsSpent p IsUntried (claimed_cost claim) first_node tree next options budget
+    × IsBelowLimit p budget
 Holds budget p claim tree (past node nonbasic place) =
-    ProvesInPart p claim tree × IsPast p IsUntried first_node tree (λ n. IsPastAt p n nonbasic place) node
+    ProvesInPart p claim tree
+    × IsPast p IsUntried first_node tree (λ n. IsPastAt p n nonbasic place) node
 
 -- the status that a tail has
 abbrev pub status_of : Tail → Status
@@ -63,7 +67,8 @@ status_of (past node nonbasic place) = Past
 
 abbrev pub SolveWork : ℕ → Problem → Status → List (List ℕ) → Type 0
 SolveWork budget p status lines =
-    (c : Certificate) × (status ≡ status_of c.tail) × Holds budget p c.claim c.tree c.tail × AreTextOf p c lines
+    (c : Certificate) × (status ≡ status_of c.tail) × Holds budget p c.claim c.tree c.tail
+    × AreTextOf p c lines
 
 -- Nothing stops the search of a problem before its end. The budget is at least twice the number of
 -- sets of units of the maximal structure. At no sound and reduced node a number overflows on the
@@ -71,4 +76,5 @@ SolveWork budget p status lines =
 pub record CanFinish (budget : ℕ) (p : Problem) : Type 0 where
   pub enough : IsBelowLimit p budget → ⊥
   pub in_range : (n : Node) (nonbasic : List Column) (place : Place)
-      → IsSound (shape_of p) n → IsReduced (shape_of p) n → IsPastNamed (net_of p) n nonbasic place → ⊥
+      → IsSound (shape_of p) n → IsReduced (shape_of p) n → IsPastNamed (net_of p) n nonbasic place
+      → ⊥

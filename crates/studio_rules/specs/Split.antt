@@ -19,7 +19,8 @@ token_in s = token_of (listed 128 s)
 
 -- the number of the leaf, and the units that are taken in and those that are left out at its node
 abbrev pub part_line : OpenAt → List ℕ
-part_line l = codes "part " ++ decimal l.number ++ 32 ∷ token_in l.node.inside ++ 32 ∷ token_in l.node.outside
+part_line l = codes "part " ++ decimal l.number ++ 32 ∷ token_in l.node.inside ++ 32
+    ∷ token_in l.node.outside
 
 abbrev pub split_lines : List OpenAt → List (List ℕ)
 split_lines leaves = map part_line leaves ++ codes "end" ∷ []
@@ -32,9 +33,12 @@ LeavesSay leaves status lines = (status ≡ Done) × (lines ≡ split_lines leav
 abbrev pub IsRefused : Problem → Claim → Tree → List (List ℕ) → Type 0
 IsRefused p claim tree lines =
     ((why : Why) × ClaimFails true p claim why × (lines ≡ claim_line why ∷ []))
-    ⊎ (ClaimPasses true p claim × ((node : ℕ) × (why : Why) × NodeIsFault true p first_node claim tree node why × (lines ≡ node_line node why ∷ [])))
+    ⊎ (ClaimPasses true p claim
+    × ((node : ℕ) × (why : Why) × NodeIsFault true p first_node claim tree node why
+    × (lines ≡ node_line node why ∷ [])))
 
 abbrev pub SplitWork : Problem → Claim → Tree → Status → List (List ℕ) → Type 0
-SplitWork p claim tree Done lines = IsPartial p first_node claim tree × (lines ≡ split_lines (open_leaves (shape_of p) (first_node ∷ []) tree 0))
+SplitWork p claim tree Done lines = IsPartial p first_node claim tree
+    × (lines ≡ split_lines (open_leaves (shape_of p) (first_node ∷ []) tree 0))
 SplitWork p claim tree BadClaim lines = IsRefused p claim tree lines
 SplitWork p claim tree status lines = ⊥

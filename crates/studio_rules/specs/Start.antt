@@ -20,11 +20,14 @@ pub record IsStart (p : Problem) (word other : List ℕ) (inside outside : List 
 
 abbrev pub BadStart : List ℕ → List ℕ → Problem → Status → List (List ℕ) → Type 0
 BadStart word other p status lines =
-    (status ≡ BadNode) × ((inside outside : List ℕ) → IsStart p word other inside outside → ⊥) × (lines ≡ codes "bad node" ∷ [])
+    (status ≡ BadNode) × ((inside outside : List ℕ) → IsStart p word other inside outside → ⊥)
+    × (lines ≡ codes "bad node" ∷ [])
 
 -- The status and lines of the work on a problem from the node of two words: those of words that
 -- name none, else those of the work.
-abbrev pub OnStart : (List ℕ → List ℕ → Problem → Status → List (List ℕ) → Type 0) → List ℕ → List ℕ → Problem → Status → List (List ℕ) → Type 0
+abbrev pub OnStart : (List ℕ → List ℕ → Problem → Status → List (List ℕ) → Type 0) → List ℕ → List ℕ
+    → Problem → Status → List (List ℕ) → Type 0
 OnStart work word other p status lines =
     BadStart word other p status lines
-    ⊎ ((inside : List ℕ) × (outside : List ℕ) × IsStart p word other inside outside × work inside outside p status lines)
+    ⊎ ((inside : List ℕ) × (outside : List ℕ) × IsStart p word other inside outside
+    × work inside outside p status lines)

@@ -35,14 +35,16 @@ pub record CountsMaximal (p : Problem) (most : ℕ) : Type 0 where
 -- the network is one of least cost, as the tree proves
 abbrev pub SummaryLines : Problem → List (List ℕ) → Type 0
 SummaryLines p lines =
-    (most : ℕ) × (w : Network) × (tree : Tree) × CountsMaximal p most × Solves p (network w) tree × (lines ≡ summary_lines p most w (length tree))
+    (most : ℕ) × (w : Network) × (tree : Tree) × CountsMaximal p most × Solves p (network w) tree
+    × (lines ≡ summary_lines p most w (length tree))
 
 abbrev pub SummarySays : Problem → Status → List (List ℕ) → Type 0
 SummarySays p status lines = (status ≡ Done) × SummaryLines p lines
 
 -- no network has flows, and the lines are those of `solve`
 abbrev pub NoNetworkLines : Problem → List (List ℕ) → Type 0
-NoNetworkLines p lines = (tree : Tree) × Solves p infeasible tree × AreTextOf p (record { claim = infeasible; tree = tree; tail = whole }) lines
+NoNetworkLines p lines = (tree : Tree) × Solves p infeasible tree
+    × AreTextOf p (record { claim = infeasible; tree = tree; tail = whole }) lines
 
 -- if the search stops before its end, the lines are those of `solve`
 abbrev pub SummaryWork : ℕ → Problem → Status → List (List ℕ) → Type 0

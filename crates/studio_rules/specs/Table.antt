@@ -15,7 +15,8 @@ pub record AreTables (p : Problem) (w : Network) (lines : List (List ℕ)) : Typ
   pub materials : List (List (List ℕ))
   pub unit_rows : AreUnitRows p w units
   pub material_rows : AreMaterialRows p w materials
-  pub lines_are : map line lines ≡ map (row_text default_writer) (unit_heading ∷ units) ++ line [] ∷ map (row_text default_writer) (material_heading ∷ materials)
+  pub lines_are : map line lines ≡ map (row_text default_writer) (unit_heading ∷ units) ++ line []
+      ∷ map (row_text default_writer) (material_heading ∷ materials)
 
 abbrev pub TableWork : Problem → Network → Status → List (List ℕ) → Type 0
 TableWork p w Done lines = AreTables p w lines

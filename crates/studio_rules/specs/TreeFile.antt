@@ -1,12 +1,15 @@
 -- TREE is read and judged by its grammar after FILE: a claim, a tree and a tail.
-use Rattle.std.specs.Prelude.{◌≡◌, ◌≤◌, ◌⊎◌, ◌++◌, ℕ, List, [], ◌∷◌, Ok, Err, length, codes, decimal}
+use Rattle.std.specs.Prelude.{◌≡◌, ◌≤◌, ◌⊎◌, ◌++◌, ℕ, List, [], ◌∷◌, Ok, Err, length, codes}
+use Rattle.std.specs.Prelude.{decimal}
 use Rattle.text_rules.specs.Outside.{Told}
 use Rattle.problem_rules.specs.Problem.{Problem}
 use Rattle.tree_rules.specs.Claim.{Claim}
 use Rattle.tree_rules.specs.Accepted.{Tree}
 use Rattle.tree_rules.specs.Tail.{Tail}
 use Rattle.tree_text_rules.specs.declared.TreeKind.{TreeKind}
-use Rattle.tree_text_rules.specs.declared.TreeKind.TheVariants.{FileType, BadLine, UnknownName, BadNumber, Order, WrongCount, MoreNodes, FewerNodes, AfterEnd}
+use Rattle.tree_text_rules.specs.declared.TreeKind.TheVariants.{FileType, BadLine, UnknownName}
+use Rattle.tree_text_rules.specs.declared.TreeKind.TheVariants.{BadNumber, Order, WrongCount}
+use Rattle.tree_text_rules.specs.declared.TreeKind.TheVariants.{MoreNodes, FewerNodes, AfterEnd}
 use Rattle.tree_text_rules.specs.Read.{read_text}
 use Rattle.studio_rules.specs.Reading.{AreHeld, IsLong, OnSecond}
 use Rattle.studio_rules.specs.declared.status.Status.{Status}
@@ -36,22 +39,30 @@ tree_fault_line line kind = codes "tree line " ++ decimal line ++ 32 ∷ tree_ki
 abbrev pub TreeFault : List ℕ → Problem → List ℕ → Status → List (List ℕ) → Type 0
 TreeFault name p file TooLong lines = IsLong name tree_limit file lines
 TreeFault name p file BadTree lines =
-    (length file ≤ tree_limit) × ((line : ℕ) × (kind : TreeKind) × (read_text p file ≡ Err (line, kind)) × (lines ≡ tree_fault_line line kind ∷ []))
+    (length file ≤ tree_limit)
+    × ((line : ℕ) × (kind : TreeKind) × (read_text p file ≡ Err (line, kind))
+    × (lines ≡ tree_fault_line line kind ∷ []))
 TreeFault name p file status lines = ⊥
 
 -- A file within the limit, whose text stands for the claim and the tree. Its tail does not matter.
 abbrev pub GivesTree : Problem → List ℕ → Claim → Tree → Type 0
-GivesTree p file claim tree = (length file ≤ tree_limit) × ((tail : Tail) × (read_text p file ≡ Ok (record { claim = claim; tree = tree; tail = tail })))
+GivesTree p file claim tree = (length file ≤ tree_limit)
+    × ((tail : Tail) × (read_text p file ≡ Ok (record { claim = claim; tree = tree; tail = tail })))
 
 -- what reading and judging the named tree says if it gives none for the problem
 abbrev pub TreeFaults : (List ℕ → Told) → List ℕ → Problem → Status → List (List ℕ) → Type 0
-TreeFaults held name p status lines = (file : List ℕ) × AreHeld (held name) file × TreeFault name p file status lines
+TreeFaults held name p status lines = (file : List ℕ) × AreHeld (held name) file
+    × TreeFault name p file status lines
 
 -- The status and lines of the work on a problem and the claim and tree of a file: those of a file
 -- that gives none, else those of the work.
-abbrev pub TreeSays : (Problem → Claim → Tree → Status → List (List ℕ) → Type 0) → List ℕ → Problem → List ℕ → Status → List (List ℕ) → Type 0
+abbrev pub TreeSays : (Problem → Claim → Tree → Status → List (List ℕ) → Type 0) → List ℕ → Problem
+    → List ℕ → Status → List (List ℕ) → Type 0
 TreeSays work name p file status lines =
-    TreeFault name p file status lines ⊎ ((claim : Claim) × (tree : Tree) × GivesTree p file claim tree × work p claim tree status lines)
+    TreeFault name p file status lines
+    ⊎ ((claim : Claim) × (tree : Tree) × GivesTree p file claim tree
+    × work p claim tree status lines)
 
-abbrev pub OnTree : (Problem → Claim → Tree → Status → List (List ℕ) → Type 0) → (List ℕ → Told) → List ℕ → Problem → Status → List (List ℕ) → Type 0
+abbrev pub OnTree : (Problem → Claim → Tree → Status → List (List ℕ) → Type 0) → (List ℕ → Told)
+    → List ℕ → Problem → Status → List (List ℕ) → Type 0
 OnTree work held name = OnSecond (TreeSays work name) held name

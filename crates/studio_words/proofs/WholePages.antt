@@ -1,5 +1,6 @@
 -- Each page is a text of whole lines.
-use Rattle.std.proofs.Common.{◌≡◌, ◌&&◌, ℕ, Bool, true, false, length, arith, List, [], ◌∷◌, Option, Some, None, IfSome, map, refl, ap}
+use Rattle.std.proofs.Common.{◌≡◌, ◌&&◌, ℕ, Bool, true, false, length, arith, List, [], ◌∷◌, Option}
+use Rattle.std.proofs.Common.{Some, None, IfSome, map, refl, ap}
 use Rattle.std.specs.Prelude.{◌==◌, codes, option_map, if◌then◌else◌}
 use Rattle.std.proofs.lemmas.Bool.{false≢true, eqb-true}
 use Rattle.std.specs.List.{list_all}
@@ -26,11 +27,16 @@ whole [] h = ([], refl)
 whole (c ∷ []) h = ([] ∷ [], ap (λ d. d ∷ []) (eqb-true c 10 h))
 whole (c ∷ d ∷ cs) h = longer c d cs (whole (d ∷ cs) h)
 
-among_whole : (pages : List (List ℕ × List ℕ)) (topic : List ℕ) → list_all (λ page. is_whole page.1) pages ≡ true → IfSome (text_among pages topic) IsOfLines
+among_whole : (pages : List (List ℕ × List ℕ)) (topic : List ℕ)
+    → list_all (λ page. is_whole page.1) pages ≡ true → IfSome (text_among pages topic) IsOfLines
 among_whole [] topic h = tt
-among_whole (page ∷ pages) topic h = at (bytes_eq page.0 topic) (is_whole page.1) refl h (among_whole pages topic)
+among_whole (page ∷ pages) topic h =
+    at (bytes_eq page.0 topic) (is_whole page.1) refl h (among_whole pages topic)
   where
-    at : (b a : Bool) → is_whole page.1 ≡ a → (a && list_all (λ page. is_whole page.1) pages) ≡ true → (list_all (λ page. is_whole page.1) pages ≡ true → IfSome (text_among pages topic) IsOfLines) → IfSome (if b then Some page.1 else text_among pages topic) IsOfLines
+    at : (b a : Bool) → is_whole page.1 ≡ a → (a && list_all (λ page. is_whole page.1) pages) ≡ true
+        → (list_all (λ page. is_whole page.1) pages ≡ true
+        → IfSome (text_among pages topic) IsOfLines)
+        → IfSome (if b then Some page.1 else text_among pages topic) IsOfLines
     at true true e h rest = whole page.1 e
     at false true e h rest = rest h
     at b false e h rest = absurd (false≢true h)
@@ -46,15 +52,18 @@ lines_whole (Some lines) = (lines, refl)
 pub command_whole : (topic : List ℕ) → IfSome (command_text topic) IsOfLines
 command_whole topic = lines_whole (command_page_of topic)
 
-or_whole : (x y : Option (List ℕ)) → IfSome x IsOfLines → IfSome y IsOfLines → IfSome (text_or x y) IsOfLines
+or_whole : (x y : Option (List ℕ)) → IfSome x IsOfLines → IfSome y IsOfLines
+    → IfSome (text_or x y) IsOfLines
 or_whole (Some text) y p q = p
 or_whole None y p q = q
 
-either_whole : (b : Bool) (x y : Option (List ℕ)) → IfSome x IsOfLines → IfSome y IsOfLines → IfSome (if b then x else y) IsOfLines
+either_whole : (b : Bool) (x y : Option (List ℕ)) → IfSome x IsOfLines → IfSome y IsOfLines
+    → IfSome (if b then x else y) IsOfLines
 either_whole true x y p q = p
 either_whole false x y p q = q
 
 pub page_whole : (topic : List ℕ) → IfSome (page_text topic) IsOfLines
 page_whole topic =
-    either_whole (bytes_eq topic (codes "status")) (Some (text_of status_page)) (text_or (command_text topic) (topic_text topic)) (status_page, refl)
+    either_whole (bytes_eq topic (codes "status")) (Some (text_of status_page))
+    (text_or (command_text topic) (topic_text topic)) (status_page, refl)
     (or_whole (command_text topic) (topic_text topic) (command_whole topic) (topics_whole topic))

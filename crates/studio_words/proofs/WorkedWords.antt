@@ -1,7 +1,9 @@
 -- Words of calls, and the commands that they are, by computation.
 use Rattle.std.proofs.Common.{◌≡◌, [], ◌∷◌, Some, None, codes, option_map, refl}
 use Rattle.studio_rules.specs.Pages.{command_page_of, command_text}
-use Rattle.studio_rules.specs.Command.{command_of, budget_of, Max, Listing, Solving, Ranking, Planning, Parting, PartingAgainst, Ranging, Trial, Checking, Merging, Flows, Telling}
+use Rattle.studio_rules.specs.Command.{command_of, budget_of, Max, Listing, Solving, Ranking}
+use Rattle.studio_rules.specs.Command.{Planning, Parting, PartingAgainst, Ranging, Trial, Checking}
+use Rattle.studio_rules.specs.Command.{Merging, Flows, Telling}
 use Rattle.stability_rules.specs.declared.spot.SpotKind.TheVariants as kinds
 
 -- budgets
@@ -45,44 +47,55 @@ no_budget = refl
 solve_alone : command_of (codes "solve" ∷ codes "a" ∷ []) ≡ Some (Solving (codes "a") 1000000)
 solve_alone = refl
 
-solve_of_thousands : command_of (codes "solve" ∷ codes "a" ∷ codes "10k" ∷ []) ≡ Some (Solving (codes "a") 10000)
+solve_of_thousands : command_of (codes "solve" ∷ codes "a" ∷ codes "10k" ∷ [])
+    ≡ Some (Solving (codes "a") 10000)
 solve_of_thousands = refl
 
-rank_alone : command_of (codes "rank" ∷ codes "a" ∷ codes "3" ∷ []) ≡ Some (Ranking (codes "a") 3 1000000)
+rank_alone : command_of (codes "rank" ∷ codes "a" ∷ codes "3" ∷ [])
+    ≡ Some (Ranking (codes "a") 3 1000000)
 rank_alone = refl
 
-periods_alone : command_of (codes "periods" ∷ codes "a" ∷ codes "p" ∷ []) ≡ Some (Planning (codes "a") (codes "p") 1000000)
+periods_alone : command_of (codes "periods" ∷ codes "a" ∷ codes "p" ∷ [])
+    ≡ Some (Planning (codes "a") (codes "p") 1000000)
 periods_alone = refl
 
 trial_alone : command_of (codes "trial" ∷ codes "0" ∷ codes "3" ∷ []) ≡ Some (Trial 0 3 1000000)
 trial_alone = refl
 
-stable_alone : command_of (codes "stable" ∷ codes "a" ∷ codes "t" ∷ codes "fix" ∷ codes "U2" ∷ []) ≡ Some (Ranging (codes "a") (codes "t") kinds.Fix (codes "U2") 1000000)
+stable_alone : command_of (codes "stable" ∷ codes "a" ∷ codes "t" ∷ codes "fix" ∷ codes "U2" ∷ [])
+    ≡ Some (Ranging (codes "a") (codes "t") kinds.Fix (codes "U2") 1000000)
 stable_alone = refl
 
-part_alone : command_of (codes "part" ∷ codes "a" ∷ codes "4" ∷ codes "8" ∷ []) ≡ Some (Parting (codes "a") (codes "4") (codes "8") 1000000)
+part_alone : command_of (codes "part" ∷ codes "a" ∷ codes "4" ∷ codes "8" ∷ [])
+    ≡ Some (Parting (codes "a") (codes "4") (codes "8") 1000000)
 part_alone = refl
 
-list_alone : command_of (codes "list" ∷ codes "a" ∷ []) ≡ Some (Listing (codes "a") (codes "start") 1000)
+list_alone : command_of (codes "list" ∷ codes "a" ∷ [])
+    ≡ Some (Listing (codes "a") (codes "start") 1000)
 list_alone = refl
 
 list_without_count : command_of (codes "list" ∷ codes "a" ∷ codes "start" ∷ []) ≡ None
 list_without_count = refl
 
 -- the page of a command
-page_behind : command_of (codes "solve" ∷ codes "--help" ∷ []) ≡ option_map Telling (command_text (codes "solve"))
+page_behind : command_of (codes "solve" ∷ codes "--help" ∷ [])
+    ≡ option_map Telling (command_text (codes "solve"))
 unfolding command_page_of
 page_behind = refl
 
-page_whatever_follows : command_of (codes "merge" ∷ codes "-h" ∷ codes "a" ∷ codes "b" ∷ codes "c" ∷ []) ≡ option_map Telling (command_text (codes "merge"))
+page_whatever_follows : command_of
+    (codes "merge" ∷ codes "-h" ∷ codes "a" ∷ codes "b" ∷ codes "c" ∷ [])
+    ≡ option_map Telling (command_text (codes "merge"))
 unfolding command_page_of
 page_whatever_follows = refl
 
 -- standard input is one file of a call at most
-input_first : command_of (codes "check" ∷ codes "-" ∷ codes "t" ∷ []) ≡ Some (Checking (codes "-") (codes "t"))
+input_first : command_of (codes "check" ∷ codes "-" ∷ codes "t" ∷ [])
+    ≡ Some (Checking (codes "-") (codes "t"))
 input_first = refl
 
-input_second : command_of (codes "check" ∷ codes "a" ∷ codes "-" ∷ []) ≡ Some (Checking (codes "a") (codes "-"))
+input_second : command_of (codes "check" ∷ codes "a" ∷ codes "-" ∷ [])
+    ≡ Some (Checking (codes "a") (codes "-"))
 input_second = refl
 
 input_twice : command_of (codes "check" ∷ codes "-" ∷ codes "-" ∷ []) ≡ None
@@ -94,14 +107,19 @@ input_alone = refl
 no_file_word : command_of (codes "flows" ∷ codes "-" ∷ codes "-" ∷ []) ≡ Some (Flows (codes "-") [])
 no_file_word = refl
 
-no_tokens : command_of (codes "part" ∷ codes "-" ∷ codes "-" ∷ codes "-" ∷ codes "5" ∷ codes "t" ∷ []) ≡ Some (PartingAgainst (codes "-") (codes "-") (codes "-") 5 (codes "t"))
+no_tokens : command_of
+    (codes "part" ∷ codes "-" ∷ codes "-" ∷ codes "-" ∷ codes "5" ∷ codes "t" ∷ [])
+    ≡ Some (PartingAgainst (codes "-") (codes "-") (codes "-") 5 (codes "t"))
 no_tokens = refl
 
-part_input_twice : command_of (codes "part" ∷ codes "-" ∷ codes "4" ∷ codes "8" ∷ codes "5" ∷ codes "-" ∷ []) ≡ None
+part_input_twice : command_of
+    (codes "part" ∷ codes "-" ∷ codes "4" ∷ codes "8" ∷ codes "5" ∷ codes "-" ∷ []) ≡ None
 part_input_twice = refl
 
-merge_input : command_of (codes "merge" ∷ codes "a" ∷ codes "t" ∷ codes "-" ∷ codes "p" ∷ []) ≡ Some (Merging (codes "a") (codes "t") (codes "-" ∷ codes "p" ∷ []))
+merge_input : command_of (codes "merge" ∷ codes "a" ∷ codes "t" ∷ codes "-" ∷ codes "p" ∷ [])
+    ≡ Some (Merging (codes "a") (codes "t") (codes "-" ∷ codes "p" ∷ []))
 merge_input = refl
 
-merge_input_twice : command_of (codes "merge" ∷ codes "a" ∷ codes "t" ∷ codes "-" ∷ codes "-" ∷ []) ≡ None
+merge_input_twice : command_of (codes "merge" ∷ codes "a" ∷ codes "t" ∷ codes "-" ∷ codes "-" ∷ [])
+    ≡ None
 merge_input_twice = refl

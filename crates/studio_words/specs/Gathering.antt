@@ -5,4 +5,5 @@ use Rattle.problem_rules.specs.Names.{is_name, is_among}
 -- the names after those that are there, if each is a name and is not there before it
 abbrev pub gathered : List (List ℕ) → List (List ℕ) → Option (List (List ℕ))
 gathered seen [] = Some seen
-gathered seen (name ∷ names) = if is_name name && not (is_among seen name) then gathered (seen ++ name ∷ []) names else None
+gathered seen (name ∷ names) =
+    if is_name name && not (is_among seen name) then gathered (seen ++ name ∷ []) names else None

@@ -2,8 +2,16 @@
 use Rattle.std.specs.Prelude.{map, string_bytes}
 use Rattle.studio_rules.specs.Command as rules
 use Rattle.studio_words.specs.declared.command.Command.{Command}
-use Rattle.studio_words.specs.declared.command.Command.TheVariants.{Max, Axioms, Flows, Listing, Make, Migrate, Editing, Undoing, Checking, RankChecking, Solving, Showing, Ranking, Trial, Telling}
-use Rattle.studio_words.specs.declared.command.Command.TheVariants.{Table, Splitting, Expanding, Drawing, DrawingNetwork, Reporting, Json, Ranging, Planning, Parting, PartingAgainst, Merging}
+use Rattle.studio_words.specs.declared.command.Command.TheVariants.{Max, Axioms, Flows, Listing}
+use Rattle.studio_words.specs.declared.command.Command.TheVariants.{Make, Migrate, Editing, Undoing}
+use Rattle.studio_words.specs.declared.command.Command.TheVariants.{Checking, RankChecking, Solving}
+use Rattle.studio_words.specs.declared.command.Command.TheVariants.{Showing, Ranking, Trial}
+use Rattle.studio_words.specs.declared.command.Command.TheVariants.{Telling}
+use Rattle.studio_words.specs.declared.command.Command.TheVariants.{Table, Splitting, Expanding}
+use Rattle.studio_words.specs.declared.command.Command.TheVariants.{Drawing, DrawingNetwork}
+use Rattle.studio_words.specs.declared.command.Command.TheVariants.{Reporting, Json, Ranging}
+use Rattle.studio_words.specs.declared.command.Command.TheVariants.{Planning, Parting}
+use Rattle.studio_words.specs.declared.command.Command.TheVariants.{PartingAgainst, Merging}
 
 abbrev pub command_view : Command → rules.Command
 command_view (Max file) = rules.Max file.now
@@ -23,11 +31,15 @@ command_view (Drawing file) = rules.Drawing file.now
 command_view (DrawingNetwork file tree) = rules.DrawingNetwork file.now tree.now
 command_view (Reporting file tree) = rules.Reporting file.now tree.now
 command_view (Json file tree) = rules.Json file.now tree.now
-command_view (Ranging file tree kind name budget) = rules.Ranging file.now tree.now kind name.now budget
+command_view (Ranging file tree kind name budget) =
+    rules.Ranging file.now tree.now kind name.now budget
 command_view (Planning file plan budget) = rules.Planning file.now plan.now budget
-command_view (Parting file inside outside budget) = rules.Parting file.now inside.now outside.now budget
-command_view (PartingAgainst file inside outside budget tree) = rules.PartingAgainst file.now inside.now outside.now budget tree.now
-command_view (Merging file tree parts) = rules.Merging file.now tree.now (map string_bytes parts.now)
+command_view (Parting file inside outside budget) =
+    rules.Parting file.now inside.now outside.now budget
+command_view (PartingAgainst file inside outside budget tree) =
+    rules.PartingAgainst file.now inside.now outside.now budget tree.now
+command_view (Merging file tree parts) =
+    rules.Merging file.now tree.now (map string_bytes parts.now)
 command_view (Solving file budget) = rules.Solving file.now budget
 command_view (Showing file budget) = rules.Showing file.now budget
 command_view (Ranking file count budget) = rules.Ranking file.now count budget

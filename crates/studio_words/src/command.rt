@@ -1,7 +1,11 @@
 //! The words of a call.
 ghost use Rattle.std.specs.Prelude.{◌≡◌, ◌∷◌, [], IfOk, map, option_map, string_bytes};
-ghost use Rattle.studio_rules.specs.Command.{command_of, form_of, of_file, on_file, with_file, made_by, tried_by, ranged_by, ranked_by, page_asked, unit_names_of, count_of, seed_of, unit_count_of, years_of, rank_count_of, budget_of, kind_of};
-ghost use Rattle.studio_rules.specs.Command.{alone, Axioms, Flows, Listing, Migrate, Solving, Showing, Planning, Parting, PartingAgainst, Telling};
+ghost use Rattle.studio_rules.specs.Command.{command_of, form_of, of_file, on_file, with_file};
+ghost use Rattle.studio_rules.specs.Command.{made_by, tried_by, ranged_by, ranked_by, page_asked};
+ghost use Rattle.studio_rules.specs.Command.{unit_names_of, count_of, seed_of, unit_count_of};
+ghost use Rattle.studio_rules.specs.Command.{years_of, rank_count_of, budget_of, kind_of};
+ghost use Rattle.studio_rules.specs.Command.{alone, Axioms, Flows, Listing, Migrate, Solving};
+ghost use Rattle.studio_rules.specs.Command.{Showing, Planning, Parting, PartingAgainst, Telling};
 ghost use Rattle.studio_rules.specs.Pages.{page_text};
 ghost use Rattle.studio_words.specs.View.{command_view};
 
@@ -48,7 +52,8 @@ pub enum Command<'a> {
 
 /// The command that the words are, if they have a form.
 pub fn command_of(alloc: Global, words: &[String]) -> Result<Option<Command<'_>>, AllocError>
-    ensures { IfOk result (λ found. option_map command_view found ≡ command_of (map string_bytes words.now)) }
+    ensures { IfOk result
+        (λ found. option_map command_view found ≡ command_of (map string_bytes words.now)) }
 {
     if let Some(command) = page_asked(words) {
         return Ok(Some(command));
@@ -76,7 +81,8 @@ fn page_asked(words: &[String]) -> Option<Command<'_>>
 }
 
 fn form_of(alloc: Global, words: &[String]) -> Result<Option<Command<'_>>, AllocError>
-    ensures { IfOk result (λ found. option_map command_view found ≡ form_of (map string_bytes words.now)) }
+    ensures { IfOk result
+        (λ found. option_map command_view found ≡ form_of (map string_bytes words.now)) }
 {
     match words {
         [word] => Ok(alone(word.as_str())),
@@ -160,7 +166,9 @@ fn of_three<'a>(
     first: &'a str,
     second: &'a str,
 ) -> Result<Option<Command<'a>>, AllocError>
-    ensures { IfOk result (λ found. option_map command_view found ≡ form_of (word.now ∷ first.now ∷ second.now ∷ [])) }
+    ensures { IfOk result
+        (λ found. option_map command_view found
+        ≡ form_of (word.now ∷ first.now ∷ second.now ∷ [])) }
 {
     if word == "make" {
         Ok(made_by(first, second))
@@ -207,7 +215,8 @@ fn budget_of(word: &str) -> Option<u64>
 }
 
 fn made_by<'a>(number: &str, units: &str) -> Option<Command<'a>>
-    ensures { option_map command_view result ≡ made_by (seed_of number.now) (unit_count_of units.now) }
+    ensures { option_map command_view result
+        ≡ made_by (seed_of number.now) (unit_count_of units.now) }
 {
     let number = seed_of(number)?;
     let units = unit_count_of(units)?;
@@ -220,7 +229,8 @@ fn on_file<'a>(
     file: &'a str,
     second: &'a str,
 ) -> Result<Option<Command<'a>>, AllocError>
-    ensures { IfOk result (λ found. option_map command_view found ≡ on_file word.now file.now second.now) }
+    ensures { IfOk result
+        (λ found. option_map command_view found ≡ on_file word.now file.now second.now) }
 {
     if word == "axioms" {
         axioms_of(alloc, file, second)
@@ -245,28 +255,32 @@ fn on_file<'a>(
 const MOST_YEARS: u64 = 100;
 
 fn migrate_of<'a>(file: &'a str, years: &str) -> Option<Command<'a>>
-    ensures { option_map command_view result ≡ option_map (Migrate file.now) (years_of years.now) }
+    ensures { option_map command_view result
+        ≡ option_map (Migrate file.now) (years_of years.now) }
 {
     let years = number_within(years.as_bytes(), 1, MOST_YEARS)?;
     Some(Command::Migrate(file, years))
 }
 
 fn solve_of<'a>(file: &'a str, budget: &str) -> Option<Command<'a>>
-    ensures { option_map command_view result ≡ option_map (Solving file.now) (budget_of budget.now) }
+    ensures { option_map command_view result
+        ≡ option_map (Solving file.now) (budget_of budget.now) }
 {
     let budget = budget_of(budget)?;
     Some(Command::Solving(file, budget))
 }
 
 fn show_of<'a>(file: &'a str, budget: &str) -> Option<Command<'a>>
-    ensures { option_map command_view result ≡ option_map (Showing file.now) (budget_of budget.now) }
+    ensures { option_map command_view result
+        ≡ option_map (Showing file.now) (budget_of budget.now) }
 {
     let budget = budget_of(budget)?;
     Some(Command::Showing(file, budget))
 }
 
 fn tried_by<'a>(number: &str, units: &str, budget: Option<u64>) -> Option<Command<'a>>
-    ensures { option_map command_view result ≡ tried_by (seed_of number.now) (unit_count_of units.now) budget }
+    ensures { option_map command_view result
+        ≡ tried_by (seed_of number.now) (unit_count_of units.now) budget }
 {
     let number = seed_of(number)?;
     let units = unit_count_of(units)?;
@@ -293,7 +307,8 @@ fn with_file<'a>(word: &str, file: &'a str, second: &'a str) -> Option<Command<'
 }
 
 fn of_four<'a>(word: &str, first: &'a str, second: &'a str, third: &'a str) -> Option<Command<'a>>
-    ensures { option_map command_view result ≡ form_of (word.now ∷ first.now ∷ second.now ∷ third.now ∷ []) }
+    ensures { option_map command_view result
+        ≡ form_of (word.now ∷ first.now ∷ second.now ∷ third.now ∷ []) }
 {
     if word == "trial" {
         tried_by(first, second, budget_of(third))
@@ -317,7 +332,8 @@ fn of_five<'a>(
     third: &'a str,
     fourth: &'a str,
 ) -> Option<Command<'a>>
-    ensures { option_map command_view result ≡ form_of (word.now ∷ first.now ∷ second.now ∷ third.now ∷ fourth.now ∷ []) }
+    ensures { option_map command_view result
+        ≡ form_of (word.now ∷ first.now ∷ second.now ∷ third.now ∷ fourth.now ∷ []) }
 {
     if word == "part" && !first.is_empty() {
         parting_of(first, second, third, fourth)
@@ -336,7 +352,8 @@ fn of_six<'a>(
     fourth: &'a str,
     fifth: &'a str,
 ) -> Option<Command<'a>>
-    ensures { option_map command_view result ≡ form_of (word.now ∷ first.now ∷ second.now ∷ third.now ∷ fourth.now ∷ fifth.now ∷ []) }
+    ensures { option_map command_view result
+        ≡ form_of (word.now ∷ first.now ∷ second.now ∷ third.now ∷ fourth.now ∷ fifth.now ∷ []) }
 {
     if word == "part" && are_both_files(first, fifth) {
         parting_against(first, second, third, fourth, fifth)
@@ -348,7 +365,8 @@ fn of_six<'a>(
 }
 
 fn planning_of<'a>(file: &'a str, plan: &'a str, budget: &str) -> Option<Command<'a>>
-    ensures { option_map command_view result ≡ option_map (Planning file.now plan.now) (budget_of budget.now) }
+    ensures { option_map command_view result
+        ≡ option_map (Planning file.now plan.now) (budget_of budget.now) }
 {
     let budget = budget_of(budget)?;
     Some(Command::Planning(file, plan, budget))
@@ -364,7 +382,8 @@ fn rank_count_of(word: &str) -> Option<u64>
 }
 
 fn ranked_by<'a>(file: &'a str, count: &str, budget: Option<u64>) -> Option<Command<'a>>
-    ensures { option_map command_view result ≡ ranked_by file.now (rank_count_of count.now) budget }
+    ensures { option_map command_view result
+        ≡ ranked_by file.now (rank_count_of count.now) budget }
 {
     let count = rank_count_of(count)?;
     Some(Command::Ranking(file, count, budget?))
@@ -376,7 +395,8 @@ fn parting_of<'a>(
     outside: &'a str,
     budget: &str,
 ) -> Option<Command<'a>>
-    ensures { option_map command_view result ≡ option_map (Parting file.now inside.now outside.now) (budget_of budget.now) }
+    ensures { option_map command_view result
+        ≡ option_map (Parting file.now inside.now outside.now) (budget_of budget.now) }
 {
     let budget = budget_of(budget)?;
     Some(Command::Parting(file, inside, outside, budget))
@@ -389,7 +409,9 @@ fn parting_against<'a>(
     budget: &str,
     tree: &'a str,
 ) -> Option<Command<'a>>
-    ensures { option_map command_view result ≡ option_map (λ n. PartingAgainst file.now inside.now outside.now n tree.now) (budget_of budget.now) }
+    ensures { option_map command_view result
+        ≡ option_map (λ n. PartingAgainst file.now inside.now outside.now n tree.now)
+        (budget_of budget.now) }
 {
     let budget = budget_of(budget)?;
     Some(Command::PartingAgainst(file, inside, outside, budget, tree))
@@ -416,7 +438,8 @@ fn ranged_by<'a>(
     name: &'a str,
     budget: Option<u64>,
 ) -> Option<Command<'a>>
-    ensures { option_map command_view result ≡ ranged_by file.now tree.now (kind_of kind.now) name.now budget }
+    ensures { option_map command_view result
+        ≡ ranged_by file.now tree.now (kind_of kind.now) name.now budget }
 {
     let kind = kind_of(kind)?;
     Some(Command::Ranging(file, tree, kind, name, budget?))
@@ -427,7 +450,9 @@ fn axioms_of<'a>(
     file: &'a str,
     units: &str,
 ) -> Result<Option<Command<'a>>, AllocError>
-    ensures { IfOk result (λ found. option_map command_view found ≡ option_map (Axioms file.now) (unit_names_of units.now)) }
+    ensures { IfOk result
+        (λ found. option_map command_view found
+        ≡ option_map (Axioms file.now) (unit_names_of units.now)) }
 {
     match UnitNames::read(alloc, units)? {
         Some(units) => Ok(Some(Command::Axioms(file, units))),
@@ -440,7 +465,9 @@ fn flows_of<'a>(
     file: &'a str,
     units: &str,
 ) -> Result<Option<Command<'a>>, AllocError>
-    ensures { IfOk result (λ found. option_map command_view found ≡ option_map (Flows file.now) (unit_names_of units.now)) }
+    ensures { IfOk result
+        (λ found. option_map command_view found
+        ≡ option_map (Flows file.now) (unit_names_of units.now)) }
 {
     match UnitNames::read(alloc, units)? {
         Some(units) => Ok(Some(Command::Flows(file, units))),
@@ -452,7 +479,8 @@ fn flows_of<'a>(
 const MOST_COUNT: u64 = 1_000_000_000;
 
 fn listing_of<'a>(file: &'a str, after: &'a str, count: &str) -> Option<Command<'a>>
-    ensures { option_map command_view result ≡ option_map (Listing file.now after.now) (count_of count.now) }
+    ensures { option_map command_view result
+        ≡ option_map (Listing file.now after.now) (count_of count.now) }
 {
     let count = number_within(count.as_bytes(), 1, MOST_COUNT)?;
     Some(Command::Listing(file, after, count))

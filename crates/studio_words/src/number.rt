@@ -28,7 +28,8 @@ fn has_leading_zero(bytes: &[u8]) -> bool
 // The number that digits spell, if it is at most `most`. The bytes after the first number above
 // that are not read.
 fn digits_within(bytes: &[u8], most: u64) -> Option<u64>
-    ensures { result ≡ if list_all is_ascii_digit bytes.now && nat_le (number_of bytes.now) most then Some (number_of bytes.now) else None }
+    ensures { result ≡ if list_all is_ascii_digit bytes.now && nat_le (number_of bytes.now) most
+        then Some (number_of bytes.now) else None }
 {
     let mut number: u128 = 0;
     'reading: for c in bytes {

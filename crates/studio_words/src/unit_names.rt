@@ -1,5 +1,6 @@
 //! The word UNITS.
-ghost use Rattle.std.specs.Prelude.{◌≡◌, ◌==◌, ◌<◌, ◌++◌, ◌&&◌, ◌∷◌, [], true, false, length, IfOk, IfSome, IfNone, OnOk, not, slice_index_or};
+ghost use Rattle.std.specs.Prelude.{◌≡◌, ◌==◌, ◌<◌, ◌++◌, ◌&&◌, ◌∷◌, [], true, false, length, IfOk};
+ghost use Rattle.std.specs.Prelude.{IfSome, IfNone, OnOk, not, slice_index_or};
 ghost use Rattle.std.specs.List.{slice_split};
 ghost use Rattle.std.specs.Str.{byte};
 ghost use Rattle.problem_rules.specs.Names.{is_name, is_among};
@@ -52,7 +53,8 @@ impl UnitNames {
 
     // Adds a text that is a name and is not there yet, and gives whether it is so.
     fn add(&mut self, text: &str) -> Result<bool, AllocError>
-        ensures new { IfOk result (λ added. added ≡ (is_name text.now && not (is_among self.old text.now))) }
+        ensures new { IfOk result
+            (λ added. added ≡ (is_name text.now && not (is_among self.old text.now))) }
         ensures added { IfOk result (λ added. added ≡ true → self.new ≡ self.old ++ text.now ∷ []) }
     {
         if !is_name(text) {
@@ -94,7 +96,8 @@ impl UnitNames {
     }
 
     fn gather(alloc: Global, word: &str) -> Result<Option<UnitNames>, AllocError>
-        ensures { IfOk result (λ found. found ≡ gathered [] (slice_split (λ c. c == byte ",") word.now)) }
+        ensures { IfOk result
+            (λ found. found ≡ gathered [] (slice_split (λ c. c == byte ",") word.now)) }
     {
         let mut names = UnitNames::none(alloc);
         let mut rest = word;
@@ -115,7 +118,9 @@ impl UnitNames {
 // What is before the first comma and after it, if there is one.
 fn first_part(text: &str) -> Option<(&str, &str)>
     ensures none { IfNone result (slice_split (λ c. c == byte ",") text.now ≡ text.now ∷ []) }
-    ensures part { IfSome result (λ parts. slice_split (λ c. c == byte ",") text.now ≡ parts.0.now ∷ slice_split (λ c. c == byte ",") parts.1.now) }
+    ensures part { IfSome result
+        (λ parts. slice_split (λ c. c == byte ",") text.now ≡ parts.0.now
+        ∷ slice_split (λ c. c == byte ",") parts.1.now) }
     ensures shorter { IfSome result (λ parts. length parts.1.now < length text.now) }
 {
     text.split_once(',')

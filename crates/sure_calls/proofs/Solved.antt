@@ -7,7 +7,8 @@ use Rattle.studio_rules.specs.Answers.{WordsSay}
 use Rattle.studio_rules.specs.Command.{Solving, command_of}
 use Rattle.studio_rules.specs.Ending.{Finishes, IsOneOf}
 use Rattle.studio_rules.specs.declared.status.Status.{Status}
-use Rattle.studio_rules.specs.declared.status.Status.TheVariants.{Done, ReadFault, WriteFault, Memory}
+use Rattle.studio_rules.specs.declared.status.Status.TheVariants.{Done, ReadFault, WriteFault}
+use Rattle.studio_rules.specs.declared.status.Status.TheVariants.{Memory}
 use Rattle.sure_laws.specs.Calls.{SureCallIsDone}
 use Rattle.sure_laws.specs.OneUnit.{one_unit_text, OneUnitIsSure}
 

@@ -1,7 +1,8 @@
 //! The call.
 ghost use Rattle.std.specs.Prelude.{◌∷◌, [], IfOk};
 ghost use Rattle.studio_rules.specs.Ending.{IsOneOf};
-ghost use Rattle.studio_rules.specs.declared.status.Status.TheVariants.{Done, ReadFault, WriteFault, Memory};
+ghost use Rattle.studio_rules.specs.declared.status.Status.TheVariants.{Done, ReadFault};
+ghost use Rattle.studio_rules.specs.declared.status.Status.TheVariants.{WriteFault, Memory};
 
 use crate::one_unit::{plant_shelf, solve_words};
 use pns_io::{Outputs, Sink};

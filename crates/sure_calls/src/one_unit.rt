@@ -37,7 +37,8 @@ pub(crate) fn plant_shelf(alloc: Global) -> Result<MemShelf, AllocError>
 
 /// The words `solve a.pns 4`.
 pub(crate) fn solve_words(alloc: Global) -> Result<Vec<String>, AllocError>
-    ensures { IfOk result (λ words. map string_bytes words.items ≡ codes "solve" ∷ codes "a.pns" ∷ codes "4" ∷ []) }
+    ensures { IfOk result
+        (λ words. map string_bytes words.items ≡ codes "solve" ∷ codes "a.pns" ∷ codes "4" ∷ []) }
 {
     let mut words = Vec::new(alloc);
     words.push(String::from_str(alloc, "solve")?)?;

@@ -1,6 +1,7 @@
 -- A program whose least sizes are 0, and in which no cost, no ceiling and no negated floor is below
 -- 0, has its last basis at the start.
-use Rattle.std.proofs.Common.{◌≡◌, ℕ, suc, ◌+◌, ◌-◌, ◌<◌, ◌≤◌, inl, inr, true, false, arith, refl, sym, ap, ◌∙◌, subst}
+use Rattle.std.proofs.Common.{◌≡◌, ℕ, suc, ◌+◌, ◌-◌, ◌<◌, ◌≤◌, inl, inr, true, false, arith, refl}
+use Rattle.std.proofs.Common.{sym, ap, ◌∙◌, subst}
 use Rattle.std.specs.Prelude.{ℤ, pos, ◌-ℤ◌, ◌*ℤ◌, neg_ℤ, ◌≤ℤ◌}
 use Rattle.std.proofs.Math.Path.{fun_ext}
 use Rattle.std.proofs.lemmas.Int.{ints}
@@ -8,7 +9,8 @@ use Rattle.std.proofs.lemmas.Bool.Decides.{leb_tells}
 use Rattle.integer_laws.proofs.IndexTotals.{total_below-same, total_below-zero}
 use Rattle.integer_laws.proofs.Ring.{V, ◌⊗◌, ring}
 use Rattle.path_rules.specs.LinearProgram.{LinearProgram, low_flow}
-use Rattle.path_rules.specs.Columns.{Basis, Has, start, x_at, s_at, t_at, w_at, columns, right_at, scale_at}
+use Rattle.path_rules.specs.Columns.{Basis, Has, start, x_at, s_at, t_at, w_at, columns, right_at}
+use Rattle.path_rules.specs.Columns.{scale_at}
 use Rattle.path_rules.specs.Start.{IsStart}
 use Rattle.path_rules.specs.Tableau.{IsTableau}
 use Rattle.path_rules.specs.Pivots.{HasPivot, IsFeasible}
@@ -29,7 +31,9 @@ pub record StartsFeasible (p : LinearProgram) : Type 0 where
 module _ (p : LinearProgram) where
   -- the columns of the start
   pub no_x : (i : ℕ) → i < p.units → start p i ≡ false
-  no_x i h = elim (leb_tells (suc i) p.units) [ inl (g, _) ↦ rw g refl | inr (_, q) ↦ absurd (omega arith) ]
+  no_x i h =
+      elim (leb_tells (suc i) p.units)
+      [ inl (g, _) ↦ rw g refl | inr (_, q) ↦ absurd (omega arith) ]
 
   pub has_scale : Has (start p) (scale_at p)
   has_scale = start-has p (scale_at p) (omega arith) (omega arith) (λ e. absurd (omega arith))
@@ -71,14 +75,20 @@ module _ (p : LinearProgram) where
   -- the cost row of the start has 1 at the scale and 0 at each t and w
   module _ (T : ℕ → ℕ → ℤ) (s : IsStart p T) where
     pub scale_one : T (scale_at p) (scale_at p) ≡ pos 1
-    scale_one = s.own (scale_at p) (scale_at p) has_scale (omega arith) (omega arith) (λ e. absurd (omega arith)) ∙ one-same (scale_at p) (scale_at p) refl
+    scale_one =
+        s.own (scale_at p) (scale_at p) has_scale (omega arith) (omega arith)
+        (λ e. absurd (omega arith)) ∙ one-same (scale_at p) (scale_at p) refl
 
     pub no_cost : (k : ℕ) → p.units ≤ k → k < columns p → T (scale_at p) k ≡ pos 0
-    no_cost k l h = s.own (scale_at p) k has_scale l (omega arith) (λ e. absurd (omega arith)) ∙ one-other (scale_at p) k (λ e. absurd (omega arith))
+    no_cost k l h = s.own (scale_at p) k has_scale l (omega arith) (λ e. absurd (omega arith))
+        ∙ one-other (scale_at p) k (λ e. absurd (omega arith))
 
     module _ (small : StartsFeasible p) where
       no_low_flow : (j : ℕ) → low_flow p j ≡ pos 0
-      no_low_flow j = total_below-same p.units (λ i. p.rate j i *ℤ p.low i) (λ i. pos 0) (λ i h. ap (λ z. p.rate j i *ℤ z) (small.lows i h) ∙ nothing (p.rate j i)) ∙ total_below-zero p.units
+      no_low_flow j =
+          total_below-same p.units (λ i. p.rate j i *ℤ p.low i) (λ i. pos 0)
+          (λ i h. ap (λ z. p.rate j i *ℤ z) (small.lows i h) ∙ nothing (p.rate j i))
+          ∙ total_below-zero p.units
         where
           nothing : (a : ℤ) → a *ℤ pos 0 ≡ pos 0
           nothing a = ring (V a ⊗ V (pos 0)) (V (pos 0)) (omega arith)
@@ -93,13 +103,22 @@ module _ (p : LinearProgram) where
       under floor flow e h = omega (arith, ints)
 
       value_s : (i c : ℕ) → i < p.units → c ≡ s_at p i → pos 0 ≤ℤ T c (right_at p)
-      value_s i c h e = subst (λ m. pos 0 ≤ℤ T m (right_at p)) (sym e) (from (T (s_at p i) (right_at p)) (p.high i -ℤ p.low i) (s.s_right i h) (box (p.high i) (p.low i) (small.lows i h) (small.highs i h)))
+      value_s i c h e =
+          subst (λ m. pos 0 ≤ℤ T m (right_at p)) (sym e)
+          (from (T (s_at p i) (right_at p)) (p.high i -ℤ p.low i) (s.s_right i h)
+          (box (p.high i) (p.low i) (small.lows i h) (small.highs i h)))
 
       value_t : (j c : ℕ) → j < p.rows → c ≡ t_at p j → pos 0 ≤ℤ T c (right_at p)
-      value_t j c h e = subst (λ m. pos 0 ≤ℤ T m (right_at p)) (sym e) (from (T (t_at p j) (right_at p)) (neg_ℤ (p.floor j -ℤ low_flow p j)) (s.t_right j h) (under (p.floor j) (low_flow p j) (no_low_flow j) (small.floors j h)))
+      value_t j c h e =
+          subst (λ m. pos 0 ≤ℤ T m (right_at p)) (sym e)
+          (from (T (t_at p j) (right_at p)) (neg_ℤ (p.floor j -ℤ low_flow p j)) (s.t_right j h)
+          (under (p.floor j) (low_flow p j) (no_low_flow j) (small.floors j h)))
 
       value_w : (j c : ℕ) → j < p.rows → c ≡ w_at p j → pos 0 ≤ℤ T c (right_at p)
-      value_w j c h e = subst (λ m. pos 0 ≤ℤ T m (right_at p)) (sym e) (from (T (w_at p j) (right_at p)) (p.ceiling j -ℤ low_flow p j) (s.w_right j h) (box (p.ceiling j) (low_flow p j) (no_low_flow j) (small.ceilings j h)))
+      value_w j c h e =
+          subst (λ m. pos 0 ≤ℤ T m (right_at p)) (sym e)
+          (from (T (w_at p j) (right_at p)) (p.ceiling j -ℤ low_flow p j) (s.w_right j h)
+          (box (p.ceiling j) (low_flow p j) (no_low_flow j) (small.ceilings j h)))
 
       value_at : (c : ℕ) → p.units ≤ c → c < columns p → pos 0 ≤ℤ T c (right_at p)
       value_at c l h =
@@ -107,7 +126,8 @@ module _ (p : LinearProgram) where
             | inl (_, q) ↦ value_s (c - p.units) c (omega arith) (omega arith)
             | inr (_, q) ↦ elim (leb_tells (suc c) (p.units + p.units + p.rows)) [
               | inl (_, r) ↦ value_t (c - (p.units + p.units)) c (omega arith) (omega arith)
-              | inr (_, r) ↦ value_w (c - (p.units + p.units + p.rows)) c (omega arith) (omega arith)
+              | inr (_, r)
+                  ↦ value_w (c - (p.units + p.units + p.rows)) c (omega arith) (omega arith)
             ]
           ]
 
@@ -115,7 +135,8 @@ module _ (p : LinearProgram) where
       cost_at k h =
           elim (leb_tells (suc k) p.units) [
             | inl (_, l) ↦ from (T (scale_at p) k) (p.cost k) (s.scale_x k l) (small.costs k l)
-            | inr (_, l) ↦ from (T (scale_at p) k) (pos 0) (no_cost k (omega arith) h) (omega (arith, ints))
+            | inr (_, l)
+                ↦ from (T (scale_at p) k) (pos 0) (no_cost k (omega arith) h) (omega (arith, ints))
           ]
 
       pub feasible : IsFeasible p (start p) T
@@ -126,8 +147,12 @@ module _ (p : LinearProgram) where
     pub last_is_start : (b : Basis) → IsLast p b → b ≡ start p
     last_is_start b l =
         let s = start_exists p in
-        fun_ext (last_same p b (start p) l (feasible_is_last p 0 (start p) (λ i. refl) (start_rows p) (start_tableau p (start_rows p) s) (feasible (start_rows p) s small)))
+        fun_ext
+        (last_same p b (start p) l
+        (feasible_is_last p 0 (start p) (λ i. refl) (start_rows p)
+        (start_tableau p (start_rows p) s) (feasible (start_rows p) s small)))
 
     pub no_pivot : (T : ℕ → ℕ → ℤ) → IsTableau p (start p) T → (l e : ℕ) (pivot : ℕ → ℤ)
         → HasPivot p (start p) T l e pivot → ⊥
-    no_pivot T t = feasible_no_pivot p 0 (start p) (λ i. refl) T T t t (feasible T (is_start T t) small)
+    no_pivot T t =
+        feasible_no_pivot p 0 (start p) (λ i. refl) T T t t (feasible T (is_start T t) small)

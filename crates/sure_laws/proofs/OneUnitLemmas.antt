@@ -39,4 +39,13 @@ no_demands = record { no_flow = no_flow; no_size = no_size; no_gain = no_gain }
     no_gain (suc i) h = absurd (omega arith)
 
 pub one_unit_is_sure : OneUnitIsSure
-one_unit_is_sure held told = record { bytes = one_unit_text; plant = one_unit; told = told; gives = gives; no_demands = no_demands; enough = omega arith }
+one_unit_is_sure held told =
+    record {
+      bytes = one_unit_text;
+      plant = one_unit;
+      told = told;
+      gives = gives;
+      no_demands =
+          no_demands;
+      enough = omega arith;
+    }

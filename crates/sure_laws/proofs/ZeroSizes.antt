@@ -1,6 +1,7 @@
 -- What is read off at the start of the path: all sizes are 0 over 1, all multipliers are 0, and no
 -- number overflows on the way to them.
-use Rattle.std.proofs.Common.{◌≡◌, ℕ, zero, suc, ◌+◌, ◌<◌, ◌≤◌, ◌==◌, Bool, true, false, cond, List, [], ◌∷◌, ◌++◌, arith, refl, sym, ap, ◌∙◌, subst}
+use Rattle.std.proofs.Common.{◌≡◌, ℕ, zero, suc, ◌+◌, ◌<◌, ◌≤◌, ◌==◌, Bool, true, false, cond, List}
+use Rattle.std.proofs.Common.{[], ◌∷◌, ◌++◌, arith, refl, sym, ap, ◌∙◌, subst}
 use Rattle.std.specs.Prelude.{ℤ, pos, ◌+ℤ◌, ◌-ℤ◌, ◌*ℤ◌, ◌≤ℤ◌, int_div, unsigned_abs, map, max}
 use Rattle.std.specs.Int.{◌∣◌}
 use Rattle.std.specs.List.{AllByRecursion, range_with_len}
@@ -18,7 +19,9 @@ use Rattle.path_rules.specs.LinearProgram.{LinearProgram}
 use Rattle.path_rules.specs.Columns.{start, t_at, w_at, scale_at}
 use Rattle.path_rules.specs.Start.{IsStart}
 use Rattle.path_rules.specs.Multipliers.{multiplier, multipliers, AreMultipliers}
-use Rattle.path_rules.specs.ReadFlows.{IsLcm, AreValues, FlowStep, Lcm, Shift, Scaled, Total, size_above, size, formed, Formed, lcms, sizes, rounds, numbers, AreRead, IsPastFlow}
+use Rattle.path_rules.specs.ReadFlows.{IsLcm, AreValues, FlowStep, Lcm, Shift, Scaled, Total}
+use Rattle.path_rules.specs.ReadFlows.{size_above, size, formed, Formed, lcms, sizes, rounds}
+use Rattle.path_rules.specs.ReadFlows.{numbers, AreRead, IsPastFlow}
 use Rattle.sure_laws.proofs.FirstBasis.{no_x, scale_one, no_cost}
 
 -- all numbers of a list are 0
@@ -70,21 +73,29 @@ module _ (p : LinearProgram) (lows : (i : ℕ) → i < p.units → p.low i ≡ p
     den_one zero h = v.first
     den_one (suc i) h =
         let l : i < p.units = omega arith in
-        let a : IsLcm (unsigned_abs (pos 1)) (unsigned_abs (own i)) (unsigned_abs (den (suc i))) = subst (λ z. IsLcm (unsigned_abs z) (unsigned_abs (own i)) (unsigned_abs (den (suc i)))) (den_one i (omega arith)) (v.next i l) in
-        let b : IsLcm 1 1 (unsigned_abs (den (suc i))) = subst (λ z. IsLcm 1 (unsigned_abs z) (unsigned_abs (den (suc i)))) (v.outside-own i l (no_x p i l)) a in
-        is_one (den (suc i)) (v.not_negative i l) (eq-one_of_dvd-one (b.least 1 (one_divides 1) (one_divides 1)))
+        let a : IsLcm (unsigned_abs (pos 1)) (unsigned_abs (own i)) (unsigned_abs (den (suc i))) =
+        subst (λ z. IsLcm (unsigned_abs z) (unsigned_abs (own i)) (unsigned_abs (den (suc i))))
+        (den_one i (omega arith)) (v.next i l) in
+        let b : IsLcm 1 1 (unsigned_abs (den (suc i))) =
+        subst (λ z. IsLcm 1 (unsigned_abs z) (unsigned_abs (den (suc i))))
+        (v.outside-own i l (no_x p i l)) a in
+        is_one (den (suc i)) (v.not_negative i l)
+        (eq-one_of_dvd-one (b.least 1 (one_divides 1) (one_divides 1)))
       where
         is_one : (z : ℤ) → pos 0 ≤ℤ z → unsigned_abs z ≡ 1 → z ≡ pos 1
         is_one z h e = omega (arith, ints)
 
     above_zero : (i : ℕ) → i < p.units → size_above p own right den i ≡ pos 0
-    above_zero i h = times_zero (int_div (den p.units) (own i)) (right i) (v.outside-right i h (no_x p i h))
+    above_zero i h =
+        times_zero (int_div (den p.units) (own i)) (right i) (v.outside-right i h (no_x p i h))
 
     shift_zero : (i : ℕ) → i < p.units → p.low i *ℤ den p.units ≡ pos 0
     shift_zero i h = zero_times (p.low i) (den p.units) (lows i h)
 
     size_zero : (i : ℕ) → i < p.units → size p own right den i ≡ pos 0
-    size_zero i h = sum (p.low i *ℤ den p.units) (size_above p own right den i) (shift_zero i h) (above_zero i h)
+    size_zero i h =
+        sum (p.low i *ℤ den p.units) (size_above p own right den i) (shift_zero i h)
+        (above_zero i h)
       where
         sum : (a b : ℤ) → a ≡ pos 0 → b ≡ pos 0 → a +ℤ b ≡ pos 0
         sum a b e f = omega (arith, ints)
@@ -107,7 +118,8 @@ module _ (p : LinearProgram) (lows : (i : ℕ) → i < p.units → p.low i ≡ p
     of_lcms (i ∷ is) h = at (start p i) (of_lcms is h.1)
       where
         at : (b : Bool) → AllByRecursion (λ (f : Formed). f.unit < p.units) (lcms (start p) is)
-            → AllByRecursion (λ (f : Formed). f.unit < p.units) (cond b (record { unit = i; step = Lcm } ∷ lcms (start p) is) (lcms (start p) is))
+            → AllByRecursion (λ (f : Formed). f.unit < p.units)
+            (cond b (record { unit = i; step = Lcm } ∷ lcms (start p) is) (lcms (start p) is))
         at true k = (h.0, k)
         at false k = k
 
@@ -119,22 +131,29 @@ module _ (p : LinearProgram) (lows : (i : ℕ) → i < p.units → p.low i ≡ p
     in_range : AreInRange (numbers p (start p) own right den)
     in_range =
         let r = range_below 0 p.units p.units (omega arith) in
-        all_in_range (rounds p (start p)) (all_appended (λ (f : Formed). f.unit < p.units) (lcms (start p) (range_with_len 0 p.units)) (sizes (range_with_len 0 p.units)) (of_lcms (range_with_len 0 p.units) r) (of_sizes (range_with_len 0 p.units) r))
+        all_in_range (rounds p (start p))
+        (all_appended (λ (f : Formed). f.unit < p.units)
+        (lcms (start p) (range_with_len 0 p.units)) (sizes (range_with_len 0 p.units))
+        (of_lcms (range_with_len 0 p.units) r) (of_sizes (range_with_len 0 p.units) r))
 
   -- no number overflows as the flows are read, and they are 0 over 1
   pub no_flow_is_past : (T : ℕ → ℕ → ℤ) (unit : ℕ) (step : FlowStep)
       → IsPastFlow p (start p) T unit step → ⊥
-  no_flow_is_past T unit step h = not_both (numbers p (start p) h.own h.right h.den) h.at (in_range T h.own h.right h.den h.values) h.past
+  no_flow_is_past T unit step h =
+      not_both (numbers p (start p) h.own h.right h.den) h.at
+      (in_range T h.own h.right h.den h.values) h.past
 
   pub sizes_are_zero : (T : ℕ → ℕ → ℤ) (zs : List ℤ) (d : ℤ) → AreRead p (start p) T zs d
       → AreZero zs
   sizes_are_zero T zs d r =
       subst AreZero (sym r.sizes_are)
-      (zeros (size p r.own r.right r.den) p.units (range_with_len 0 p.units) (size_zero T r.own r.right r.den r.values) (range_below 0 p.units p.units (omega arith)))
+      (zeros (size p r.own r.right r.den) p.units (range_with_len 0 p.units)
+      (size_zero T r.own r.right r.den r.values) (range_below 0 p.units p.units (omega arith)))
 
   pub denominator_is_one : (T : ℕ → ℕ → ℤ) (zs : List ℤ) (d : ℤ) → AreRead p (start p) T zs d
       → d ≡ pos 1
-  denominator_is_one T zs d r = r.d_is ∙ den_one T r.own r.right r.den r.values p.units (omega arith)
+  denominator_is_one T zs d r =
+      r.d_is ∙ den_one T r.own r.right r.den r.values p.units (omega arith)
 
 -- ---- multipliers
 
@@ -152,10 +171,15 @@ zeros_from (z ∷ zs) (y ∷ ys) h e =
 
 module _ (p : LinearProgram) (T : ℕ → ℕ → ℤ) (s : IsStart p T) where
   no_multipliers : AreZero (multipliers p (T (scale_at p)))
-  no_multipliers = zeros (multiplier p (T (scale_at p))) p.rows (range_with_len 0 p.rows) none (range_below 0 p.rows p.rows (omega arith))
+  no_multipliers =
+      zeros (multiplier p (T (scale_at p))) p.rows (range_with_len 0 p.rows) none
+      (range_below 0 p.rows p.rows (omega arith))
     where
       none : (j : ℕ) → j < p.rows → multiplier p (T (scale_at p)) j ≡ pos 0
-      none j h = less (T (scale_at p) (t_at p j)) (T (scale_at p) (w_at p j)) (no_cost p T s (t_at p j) (omega arith) (omega arith)) (no_cost p T s (w_at p j) (omega arith) (omega arith))
+      none j h =
+          less (T (scale_at p) (t_at p j)) (T (scale_at p) (w_at p j))
+          (no_cost p T s (t_at p j) (omega arith) (omega arith))
+          (no_cost p T s (w_at p j) (omega arith) (omega arith))
         where
           less : (a b : ℤ) → a ≡ pos 0 → b ≡ pos 0 → a -ℤ b ≡ pos 0
           less a b e f = omega (arith, ints)
@@ -168,8 +192,11 @@ module _ (p : LinearProgram) (T : ℕ → ℕ → ℤ) (s : IsStart p T) where
       → AreNoMultipliers d ys
   multipliers_are_zero d ys r =
       let old : List ℤ = T (scale_at p) (scale_at p) ∷ multipliers p (T (scale_at p)) in
-      let g : r.common ∣ unsigned_abs (T (scale_at p) (scale_at p)) = All-get_or (λ x. r.common ∣ unsigned_abs x) old 0 (pos 0) (omega arith) r.is_gcd.divides in
-      let one : r.common ≡ 1 = eq-one_of_dvd-one (subst (λ z. r.common ∣ unsigned_abs z) (scale_one p T s) g) in
+      let g : r.common ∣ unsigned_abs (T (scale_at p) (scale_at p)) =
+      All-get_or (λ x. r.common ∣ unsigned_abs x) old 0 (pos 0) (omega arith)
+      r.is_gcd.divides in
+      let one : r.common ≡ 1 =
+      eq-one_of_dvd-one (subst (λ z. r.common ∣ unsigned_abs z) (scale_one p T s) g) in
       let e : old ≡ scaled 1 (d ∷ ys) = r.old-is ∙ ap (λ k. scaled (max 1 k) (d ∷ ys)) one in
       let a : T (scale_at p) (scale_at p) ≡ pos 1 *ℤ d = cc in
       let b : multipliers p (T (scale_at p)) ≡ scaled 1 ys = cc in

@@ -9,7 +9,8 @@ use Rattle.studio_rules.specs.Reading.{GivesProblem}
 use Rattle.studio_rules.specs.Ending.{Finishes, IsOneOf}
 use Rattle.studio_rules.specs.Answers.{WordsSay, SearchCanFinish}
 use Rattle.studio_rules.specs.declared.status.Status.{Status}
-use Rattle.studio_rules.specs.declared.status.Status.TheVariants.{Done, ReadFault, WriteFault, Memory}
+use Rattle.studio_rules.specs.declared.status.Status.TheVariants.{Done, ReadFault, WriteFault}
+use Rattle.studio_rules.specs.declared.status.Status.TheVariants.{Memory}
 use Rattle.sure_laws.specs.NoDemands.{HasNoDemands}
 
 -- the shelf knows that the file gives a plant without demands, for which the budget is large enough

@@ -1,5 +1,9 @@
--- Names and amounts are words: they have bytes, all of them bytes of names. No word is one of the signs between them.
-use Rattle.std.proofs.Common.{◌≡◌, ◌<◌, ◌≤◌, ◌^◌, ⊎_elim, ◌==◌, ◌/◌, ◌%◌, Bool, true, false, ℕ, suc, List, [], ◌∷◌, ◌++◌, length, codes, bytes_eq, decimal, ℤ, pos, negsuc, unsigned_abs, refl, sym, ap, subst, arith, length-append, leb-true, if◌then◌else◌, le-ltb}
+-- Names and amounts are words: they have bytes, and all of them are bytes of names. No word is one
+-- of the signs between words.
+use Rattle.std.proofs.Common.{◌≡◌, ◌<◌, ◌≤◌, ◌^◌, ⊎_elim, ◌==◌, ◌/◌, ◌%◌, Bool, true, false, ℕ, suc}
+use Rattle.std.proofs.Common.{List, [], ◌∷◌, ◌++◌, length, codes, bytes_eq, decimal, ℤ, pos, negsuc}
+use Rattle.std.proofs.Common.{unsigned_abs, refl, sym, ap, subst, arith, length-append, leb-true}
+use Rattle.std.proofs.Common.{if◌then◌else◌, le-ltb}
 use Rattle.std.specs.List.{list_all, slice_split}
 use Rattle.std.specs.Char.{is_ascii_digit}
 use Rattle.std.proofs.lemmas.Bool.{and_parts, and_left, or_cases, or_left, or_right}
@@ -27,22 +31,35 @@ pub digit_continues : (c : ℕ) → is_ascii_digit c ≡ true → continues_name
 digit_continues c is = or_left _ _ (or_left _ _ (or_right (begins_name c) (is_ascii_digit c) is))
 
 part_continues : (c : ℕ) → is_digit_or_point c ≡ true → continues_name c ≡ true
-part_continues c is = ⊎_elim (digit_continues c) (λ point. or_right _ (c == 46) point) (or_cases (is_ascii_digit c) (is_point c) is)
+part_continues c is =
+    ⊎_elim (digit_continues c) (λ point. or_right _ (c == 46) point)
+    (or_cases (is_ascii_digit c) (is_point c) is)
 
 size_word : (a : ℕ) → a ≤ amount_limit → IsWord (decimal (a / 1000000) ++ fraction (a % 1000000))
 size_word a small =
     let below : a / 1000000 < 2 ^ 64 = omega arith in
     record {
       all = all-append continues_name (decimal (a / 1000000)) (fraction (a % 1000000))
-          (all_to is_ascii_digit continues_name digit_continues (decimal (a / 1000000)) (decimal_reads (a / 1000000) below).0)
-          (all_to is_digit_or_point continues_name part_continues (fraction (a % 1000000)) (fraction_reads (a % 1000000) (omega arith)).all);
-      some = omega (arith, decimal_nonempty (a / 1000000) below, length-append (decimal (a / 1000000)) (fraction (a % 1000000)));
+          (all_to is_ascii_digit continues_name digit_continues (decimal (a / 1000000))
+          (decimal_reads (a / 1000000) below).0)
+          (all_to is_digit_or_point continues_name part_continues (fraction (a % 1000000))
+          (fraction_reads (a % 1000000) (omega arith)).all);
+      some =
+          omega (
+            arith,
+            decimal_nonempty (a / 1000000) below,
+            length-append (decimal (a / 1000000)) (fraction (a % 1000000)),
+          );
     }
 
 pub amount_word : (z : ℤ) → unsigned_abs z ≤ amount_limit → IsWord (amount_bytes z)
-amount_word (pos n) small = subst IsWord (ap (λ b. (if b then 45 ∷ [] else []) ++ decimal (n / 1000000) ++ fraction (n % 1000000)) (sym (le-ltb n 0 (omega arith)))) (size_word n small)
+amount_word (pos n) small =
+    subst IsWord
+    (ap (λ b. (if b then 45 ∷ [] else []) ++ decimal (n / 1000000) ++ fraction (n % 1000000))
+    (sym (le-ltb n 0 (omega arith)))) (size_word n small)
 amount_word (negsuc n) small =
-    let w : IsWord (decimal (suc n / 1000000) ++ fraction (suc n % 1000000)) = size_word (suc n) small in
+    let w : IsWord (decimal (suc n / 1000000) ++ fraction (suc n % 1000000)) =
+    size_word (suc n) small in
     record { all = w.all; some = omega arith }
 
 -- ---- signs
@@ -65,7 +82,8 @@ word_no_arrow (c ∷ cs) is =
     let first = and_parts (continues_name c) (list_all continues_name cs) is.all in
     and_left (c == 61) (bytes_eq cs (62 ∷ [])) (not_mark continues_name 61 c refl first.0)
 
--- the terms of a side stand between its signs
-pub terms_split : (tokens : List (List ℕ)) → 0 < length tokens → terms_of tokens ≡ slice_split is_plus tokens
+-- the terms of a side that has tokens are what is between its signs `+`
+pub terms_split : (tokens : List (List ℕ)) → 0 < length tokens
+    → terms_of tokens ≡ slice_split is_plus tokens
 terms_split [] some = absurd (omega arith)
 terms_split (token ∷ tokens) some = refl

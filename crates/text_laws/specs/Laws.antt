@@ -1,4 +1,4 @@
--- Laws of the problem text, each of which a public function of this crate has as its contract.
+-- Laws of the problem text. Each is the contract of a public function of this crate.
 use Rattle.std.specs.Prelude.{◌≡◌, ◌≤◌, ℕ, List, Ok, ℤ, unsigned_abs}
 use Rattle.problem_rules.specs.Problem.{Problem}
 use Rattle.problem_rules.specs.Validity.{IsValid}
@@ -11,15 +11,15 @@ use Rattle.text_rules.specs.Value.{read_text}
 abbrev pub AmountsReadBack : Type 0
 AmountsReadBack = (z : ℤ) → unsigned_abs z ≤ amount_limit → amount_of (amount_bytes z) ≡ Ok z
 
--- The canonical text of a valid problem has no fault, and stands for that problem. Since a text stands for at most one
--- problem, it stands for no other.
+-- The canonical text of a valid problem has no fault, and stands for that problem. Since a text
+-- stands for at most one problem, it stands for no other.
 abbrev pub CanonicalReads : Type 0
 CanonicalReads = (p : Problem) → IsValid p → read_text (canonical p) ≡ Ok p
 
--- so two valid problems with one canonical text are one problem
+-- so two valid problems with one canonical text are equal
 abbrev pub CanonicalTells : Type 0
 CanonicalTells = (p q : Problem) → IsValid p → IsValid q → canonical p ≡ canonical q → p ≡ q
 
--- what a text without a fault stands for has none of the faults of a problem
+-- what a text without a fault stands for is a valid problem
 abbrev pub ReadIsValid : Type 0
 ReadIsValid = (bytes : List ℕ) (p : Problem) → read_text bytes ≡ Ok p → IsValid p

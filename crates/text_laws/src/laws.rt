@@ -1,5 +1,6 @@
-//! The laws. Each function does nothing when it runs; a call tells a proof its law.
-ghost use Rattle.text_laws.specs.Laws.{AmountsReadBack, CanonicalReads, CanonicalTells, ReadIsValid};
+//! The laws. Each function does nothing when it runs; a call gives its law to a proof.
+ghost use Rattle.text_laws.specs.Laws.{AmountsReadBack, CanonicalReads, CanonicalTells};
+ghost use Rattle.text_laws.specs.Laws.{ReadIsValid};
 
 use problem_rules::valid_is_well_formed;
 
@@ -15,7 +16,7 @@ pub fn canonical_reads()
     valid_is_well_formed();
 }
 
-/// Two valid problems with one canonical text are one problem.
+/// Two valid problems with one canonical text are equal.
 pub fn canonical_tells()
     ensures { CanonicalTells }
 {

@@ -1,8 +1,12 @@
-//! Laws of the problem text, over its definitions alone: a printed amount reads as that amount, the canonical text of a
-//! valid problem reads as that problem and so as no other, and what a text without a fault stands for is a valid problem.
+//! A canonical text reads back as its problem, and what is read is valid.
 //!
-//! `specs/Laws` states them. Each is the contract of a function of [`laws`] that does nothing: a caller's proof has the law
-//! behind the call. They stand apart from the reader of such texts, so that a change of its code does not check them again.
+//! These are laws of the problem text. A printed amount reads as that amount. The canonical text of
+//! a valid problem reads as that problem, and so as no other. What a text without a fault stands
+//! for is a valid problem.
+//!
+//! `specs/Laws` states the laws. Each is the contract of a function of [`laws`] that does nothing:
+//! a call gives the law to the caller's proof. They are in a crate apart from the reader of such
+//! texts, so that a change of its code does not check them again.
 #![tactic(auto)]
 
 pub mod laws;

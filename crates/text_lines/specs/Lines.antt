@@ -1,4 +1,4 @@
--- The lines of what is left of a text.
+-- The lines of the rest of a text.
 use Rattle.std.specs.Prelude.{◌≡◌, ◌==◌, ◌⊎◌, ℕ, false, List, [], ◌∷◌, map}
 use Rattle.std.specs.List.{slice_split}
 use Rattle.std.specs.Str.{bytes_eq}
@@ -8,15 +8,16 @@ use Rattle.script_rules.specs.Line.{script_lines}
 use Rattle.text_lines.specs.declared.lines.Drops.{Drops}
 use Rattle.text_lines.specs.declared.lines.Drops.TheVariants.{Return, ReturnAndBlanks}
 
--- a line without the carriage return at its end, empty where it is a remark, and then without blanks at both ends
+-- A line without the carriage return at its end, empty if it is a remark, and then without blanks
+-- at both ends.
 abbrev pub cleaned : List ℕ → List ℕ
 cleaned part = trim (without_remark (without_return part))
 
--- the lines behind a byte order mark, or behind lines that follow it
+-- the lines of a text after its byte order mark, or of the rest after some lines
 abbrev pub lines_from : List ℕ → List (List ℕ)
 lines_from rest = map cleaned (without_empty_last (slice_split (λ c. c == 10) rest))
 
--- a line, and the lines of what is left, by what is dropped at their ends
+-- a line, and the lines of the rest, by what is dropped at their ends
 abbrev pub line_by : Drops → List ℕ → List ℕ
 line_by Return part = without_remark (without_return part)
 line_by ReturnAndBlanks part = cleaned part
@@ -25,11 +26,13 @@ abbrev pub lines_by : Drops → List ℕ → List (List ℕ)
 lines_by Return rest = script_lines rest
 lines_by ReturnAndBlanks rest = lines_from rest
 
--- the lines that are still to come, and the number of the first of them
+-- the lines that remain, and the number of the first of them
 pub record Coming : Type 0 where
   pub number : ℕ
   pub lines : List (List ℕ)
 
--- no first line that is the file type
+-- there is no first line that is the file type
 abbrev pub IsUntyped : List ℕ → List (List ℕ) → Type 0
-IsUntyped file_type lines = (lines ≡ []) ⊎ ((first : List ℕ) × (rest : List (List ℕ)) × (lines ≡ first ∷ rest) × (bytes_eq first file_type ≡ false))
+IsUntyped file_type lines = (lines ≡ [])
+    ⊎ ((first : List ℕ) × (rest : List (List ℕ)) × (lines ≡ first ∷ rest)
+    × (bytes_eq first file_type ≡ false))

@@ -1,8 +1,10 @@
--- How a number is read: what it begins with, and what stands behind that.
-use Rattle.std.specs.Prelude.{◌≡◌, ◌<◌, ◌≤◌, ◌+◌, ◌++◌, ◌&&◌, ℕ, Bool, true, false, List, [], ◌∷◌, Option, Some, None, length, count_by, if◌then◌else◌}
+-- How a number is read: its front, and what follows.
+use Rattle.std.specs.Prelude.{◌≡◌, ◌<◌, ◌≤◌, ◌+◌, ◌++◌, ◌&&◌, ℕ, Bool, true, false, List, [], ◌∷◌}
+use Rattle.std.specs.Prelude.{Option, Some, None, length, count_by, if◌then◌else◌}
 use Rattle.std.specs.List.{list_all, after_first}
 use Rattle.std.specs.Char.{is_ascii_digit}
-use Rattle.text_rules.specs.Amount.{is_point, is_digit_or_point, is_exponent_mark, has_minus, number_of, is_exponent}
+use Rattle.text_rules.specs.Amount.{is_point, is_digit_or_point, is_exponent_mark, has_minus}
+use Rattle.text_rules.specs.Amount.{number_of, is_exponent}
 use Rattle.text_lines.specs.declared.amount.Front.{Front}
 
 -- whether the first byte passes
@@ -10,8 +12,8 @@ abbrev pub begins : (ℕ → Bool) → List ℕ → Bool
 begins p [] = false
 begins p (c ∷ cs) = p c
 
--- the digits in front of a text with at most a point among them, and what is read of them; they end where no digit follows, or
--- where they are more than a number has
+-- the digits at the front of a text with at most one point among them, and what is read of them;
+-- they end if no digit follows, or if there are more than a number may have
 pub record IsFront (text : List ℕ) (front : Front) : Type 0 where
   pub part : List ℕ
   pub cut : text ≡ part ++ front.rest.now
@@ -24,9 +26,12 @@ pub record IsFront (text : List ℕ) (front : Front) : Type 0 where
   pub point_ends : count_by is_point part ≡ 0 → begins is_point front.rest.now ≡ false
   pub few : front.places ≤ 31
 
--- the tens for a number with so many places and those against it, by what stands behind its digits
+-- the tens for a number with so many places and those against it, from what follows its digits
 abbrev pub tens_read : ℕ → List ℕ → Option (ℕ × ℕ)
 tens_read places [] = Some (6, places)
 tens_read places (c ∷ cs) =
-    if is_exponent_mark c && is_exponent cs then Some (6 + (if has_minus cs then 0 else number_of cs), places + (if has_minus cs then number_of cs else 0))
+    if is_exponent_mark c && is_exponent cs then Some (
+      6 + (if has_minus cs then 0 else number_of cs),
+      places + (if has_minus cs then number_of cs else 0),
+    )
     else None

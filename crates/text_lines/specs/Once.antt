@@ -1,7 +1,7 @@
--- Names that come once.
+-- Names that are there once.
 use Rattle.std.specs.Prelude.{ℕ, List, Option, Some, None, if◌then◌else◌}
 use Rattle.problem_rules.specs.Names.{has_double}
 
--- the names, where none comes twice
+-- the names, if none is there twice
 abbrev pub once : List (List ℕ) → Option (List (List ℕ))
 once names = if has_double names then None else Some names

@@ -1,4 +1,4 @@
--- What a fault of a reader tells of a reading in the grammar's words; want of memory tells nothing.
+-- What a fault of a reader says of a reading in the grammar's words. Out of memory says nothing.
 use Rattle.std.specs.Prelude.{◌≡◌, ℕ, Result, Err}
 use Rattle.text_lines.specs.declared.fault.TextFault.{TextFault}
 use Rattle.text_lines.specs.declared.fault.TextFault.TheVariants.{At, Memory}

@@ -1,4 +1,5 @@
--- Terms and sides as they are read one by one, and those of the code as pairs of a number and a name.
+-- Terms and sides as they are read one by one, and terms of the code as pairs of a number and a
+-- name.
 use Rattle.std.specs.Prelude.{ℕ, Bool, List, [], ◌∷◌, Option, Some, None, map, codes, if◌then◌else◌}
 use Rattle.std.specs.List.{list_any}
 use Rattle.std.specs.Str.{bytes_eq}
@@ -18,7 +19,7 @@ begins term = if is_bad_term term then None else Some (pair_of term)
 abbrev pub terms_read : List (List (List ℕ)) → Option (List Pair)
 terms_read terms = if list_any is_bad_term terms then None else Some (map pair_of terms)
 
--- two parts, where there are no more
+-- two parts, if there are exactly two
 abbrev pub only_two : {A : Type 0} → List A → Option (A × A)
 only_two (left ∷ right ∷ []) = Some (left, right)
 only_two parts = None

@@ -1,8 +1,16 @@
 //! Numbers, in millionths.
-ghost use Rattle.std.specs.Prelude.{◌≡◌, ◌≤◌, ◌<◌, ◌+◌, ◌*◌, ◌^◌, ◌-◌, ◌++◌, ◌∷◌, true, false, length, Ok, Err, Some, None, IfOk, IfSome, IsNone, nat_lt, if◌then◌else◌};
+ghost use Rattle.std.specs.Prelude.{◌≡◌, ◌≤◌, ◌<◌, ◌+◌, ◌*◌, ◌^◌, ◌-◌, ◌++◌, ◌∷◌, true};
+ghost use Rattle.std.specs.Prelude.{false};
+ghost use Rattle.std.specs.Prelude.{length, Ok, Err, Some, None, IfOk, IfSome, IsNone};
+ghost use Rattle.std.specs.Prelude.{nat_lt};
+ghost use Rattle.std.specs.Prelude.{if◌then◌else◌};
 ghost use Rattle.std.specs.List.{list_all};
 ghost use Rattle.std.specs.Char.{is_ascii_digit};
-ghost use Rattle.text_rules.specs.Amount.{is_point, is_exponent_mark, has_minus, without_sign, number_from, number_of, is_exponent, amount_limit, scaled, scaled_by, with_sign, amount_of};
+ghost use Rattle.text_rules.specs.Amount.{is_point, is_exponent_mark, has_minus};
+ghost use Rattle.text_rules.specs.Amount.{without_sign};
+ghost use Rattle.text_rules.specs.Amount.{number_from, number_of, is_exponent};
+ghost use Rattle.text_rules.specs.Amount.{amount_limit};
+ghost use Rattle.text_rules.specs.Amount.{scaled, scaled_by, with_sign, amount_of};
 ghost use Rattle.text_rules.specs.Fault.{millionths};
 ghost use Rattle.text_lines.specs.Numbers.{begins, tens_read, IsFront};
 
@@ -10,10 +18,10 @@ use text_rules::TextKind;
 
 const LIMIT: u128 = 1_000_000_000_000_000;
 
-// One digit more than a number may have: as many are read.
+// One digit more than a number may have: at most so many are read.
 const MOST: usize = 31;
 
-// So many of them have no room in 64 bits.
+// All digits but so many fit 64 bits.
 const LONG: usize = 13;
 
 const TENS: [u64; 16] = [
@@ -35,12 +43,12 @@ const TENS: [u64; 16] = [
     1_000_000_000_000_000,
 ];
 
-// What a text begins with: digits with at most a point among them.
+// The front of a text: digits with at most one point among them.
 #[derive(Drop)]
 struct Front<'a> {
     number: u128,
     digits: usize,
-    // how many of them stand behind the point
+    // how many of them are after the point
     places: usize,
     rest: &'a [u8],
 }
@@ -79,15 +87,18 @@ fn behind_point(text: &[u8]) -> Option<&[u8]>
     }
 }
 
-// The digits in front, at most so many, with the number that they spell behind that of the start, and what stands behind them.
+// The digits at the front, at most so many, with the number that they spell after that of the
+// start, and the rest of the text.
 pub(crate) fn short_digits(start: u64, most: usize, text: &[u8]) -> (u64, &[u8], &[u8])
     requires { (start + 1) * 10 ^ most ≤ 10 ^ 18 }
     ensures cut { text.now ≡ result.1.now ++ result.2.now }
     ensures digits { list_all is_ascii_digit result.1.now ≡ true }
     ensures value { result.0 ≡ number_from start result.1.now }
     ensures few { length result.1.now ≤ most }
-    ensures room { (result.0 + 1) * 10 ^ (most - length result.1.now) ≤ (start + 1) * 10 ^ most }
-    ensures end { length result.1.now < most → begins is_ascii_digit result.2.now ≡ false }
+    ensures room { (result.0 + 1) * 10 ^ (most - length result.1.now) ≤ (start + 1)
+        * 10 ^ most }
+    ensures end { length result.1.now < most
+        → begins is_ascii_digit result.2.now ≡ false }
 {
     let mut number = start;
     for (i, c) in text.iter().enumerate() {
@@ -107,8 +118,10 @@ fn long_digits(start: u128, most: usize, text: &[u8]) -> (u128, &[u8], &[u8])
     ensures digits { list_all is_ascii_digit result.1.now ≡ true }
     ensures value { result.0 ≡ number_from start result.1.now }
     ensures few { length result.1.now ≤ most }
-    ensures room { (result.0 + 1) * 10 ^ (most - length result.1.now) ≤ (start + 1) * 10 ^ most }
-    ensures end { length result.1.now < most → begins is_ascii_digit result.2.now ≡ false }
+    ensures room { (result.0 + 1) * 10 ^ (most - length result.1.now) ≤ (start + 1)
+        * 10 ^ most }
+    ensures end { length result.1.now < most
+        → begins is_ascii_digit result.2.now ≡ false }
 {
     let mut number = start;
     for (i, c) in text.iter().enumerate() {
@@ -121,7 +134,7 @@ fn long_digits(start: u128, most: usize, text: &[u8]) -> (u128, &[u8], &[u8])
     (number, text, &[])
 }
 
-// The same, in 64 bits where they have room there.
+// The same, in 64 bits if the digits fit.
 #[tactic(auto, using(crate::proofs::Tens::short_room, crate::proofs::Tens::long_room))]
 fn digits_in_front(start: u128, most: usize, text: &[u8]) -> (u128, &[u8], &[u8])
     requires { (start + 1) * 10 ^ most ≤ 10 ^ 31 }
@@ -129,8 +142,10 @@ fn digits_in_front(start: u128, most: usize, text: &[u8]) -> (u128, &[u8], &[u8]
     ensures digits { list_all is_ascii_digit result.1.now ≡ true }
     ensures value { result.0 ≡ number_from start result.1.now }
     ensures few { length result.1.now ≤ most }
-    ensures room { (result.0 + 1) * 10 ^ (most - length result.1.now) ≤ (start + 1) * 10 ^ most }
-    ensures end { length result.1.now < most → begins is_ascii_digit result.2.now ≡ false }
+    ensures room { (result.0 + 1) * 10 ^ (most - length result.1.now) ≤ (start + 1)
+        * 10 ^ most }
+    ensures end { length result.1.now < most
+        → begins is_ascii_digit result.2.now ≡ false }
 {
     if most > LONG {
         let (number, digits, rest) = short_digits(start as u64, most - LONG, text);
@@ -164,9 +179,10 @@ fn front_of(text: &[u8]) -> Front<'_>
     }
 }
 
-// The power of ten of an exponent, where it has its form.
+// The power of ten of an exponent, if it has its form.
 fn power(exponent: &[u8]) -> Option<usize>
-    ensures value { result ≡ (if is_exponent exponent.now then Some (number_of exponent.now) else None) }
+    ensures value { result
+        ≡ (if is_exponent exponent.now then Some (number_of exponent.now) else None) }
     ensures bound { IfSome result (λ n. n < 10 ^ 4) }
 {
     let (power, digits, rest) = digits_in_front(0, 4, without_sign(exponent));
@@ -177,7 +193,8 @@ fn power(exponent: &[u8]) -> Option<usize>
     }
 }
 
-// The tens for a number with so many places and those against it, where nothing or an exponent stands behind its digits.
+// The tens for a number with so many places and those against it, if after its digits there is
+// nothing or an exponent.
 fn tens(places: usize, rest: &[u8]) -> Option<(usize, usize)>
     requires { places ≤ 31 }
     ensures { result ≡ tens_read places rest.now }
@@ -197,7 +214,8 @@ fn tens(places: usize, rest: &[u8]) -> Option<(usize, usize)>
 }
 
 fn within_limit(size: u128) -> Result<u64, TextKind>
-    ensures { result ≡ (if nat_lt amount_limit size then Err TextKind.TooLarge else Ok size) }
+    ensures { result
+        ≡ (if nat_lt amount_limit size then Err TextKind.TooLarge else Ok size) }
 {
     if size > LIMIT {
         Err(TextKind::TooLarge)
@@ -268,8 +286,9 @@ fn size_of(text: &[u8]) -> Result<u64, TextKind>
     }
 }
 
-/// One number in millionths. `BadNumber` where the text is no number, `TooFine` where it is no whole number of millionths,
-/// and `TooLarge` where that is above 10^15 without its sign. It takes no memory.
+/// One number in millionths. `BadNumber` if the text is not a number, `TooFine` if it is not a
+/// whole number of millionths, and `TooLarge` if that is above 10^15 without its sign. It takes no
+/// memory.
 pub fn read_amount(text: &[u8]) -> Result<i64, TextKind>
     ensures { result ≡ amount_of text.now }
 {
@@ -277,7 +296,7 @@ pub fn read_amount(text: &[u8]) -> Result<i64, TextKind>
     Ok(if has_minus(text) { -size } else { size })
 }
 
-/// The amount in millionths, which is 0 where the text is none.
+/// The amount in millionths, which is 0 if the text is not one.
 pub fn millionths(text: &[u8]) -> i64
     ensures { result ≡ millionths text.now }
 {

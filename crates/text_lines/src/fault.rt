@@ -1,4 +1,5 @@
-//! Why a text or a line of it stands for nothing, for texts of any grammar: `K` is the kind of fault that the grammar has.
+//! Why a text or a line of it stands for nothing, for texts of any grammar: `K` is the kind of
+//! fault in the grammar.
 ghost use Rattle.std.specs.Prelude.{◌≡◌};
 ghost use Rattle.text_lines.specs.Tells.{fault_at};
 ghost use Rattle.text_lines.specs.declared.fault.TextFault.TheVariants as text;
@@ -6,16 +7,16 @@ ghost use Rattle.text_lines.specs.declared.fault.LineFault.TheVariants as line;
 
 use std::alloc::{AllocError, AllocFailed};
 
-/// The first fault of a text, or want of memory.
+/// The first fault of a text, or out of memory.
 #[derive(Clone, Copy)]
 pub enum TextFault<K> {
-    /// Want of memory, at any moment.
+    /// Out of memory, at any moment.
     Memory,
-    /// The kind of fault, and the line at which it stands, counted from 1.
+    /// The kind of fault, and the line that has it, counted from 1.
     At { line: u32, kind: K },
 }
 
-/// The fault of a line, or want of memory.
+/// The fault of a line, or out of memory.
 #[derive(Clone, Copy)]
 pub enum LineFault<K> {
     Memory,

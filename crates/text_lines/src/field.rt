@@ -4,22 +4,24 @@ ghost use Rattle.std.specs.List.{list_any, slice_split};
 ghost use Rattle.std.specs.Str.{byte};
 ghost use Rattle.problem_rules.specs.Names.{is_among};
 ghost use Rattle.text_rules.specs.Blanks.{trim};
-ghost use Rattle.text_rules.specs.Field.{items_of, has_key, key_of, value_of, keyed, is_keyed, kind_words};
+ghost use Rattle.text_rules.specs.Field.{items_of, has_key, key_of, value_of, keyed, is_keyed};
+ghost use Rattle.text_rules.specs.Field.{kind_words};
 ghost use Rattle.text_lines.specs.View.{texts};
 
 use crate::line::{has_colon, place_of, tail_of, trim};
 use std::alloc::{AllocError, Global};
 
-// What stands between the commas.
+// The texts between the commas.
 fn parts<'a>(alloc: Global, text: &'a [u8]) -> Result<Vec<&'a [u8]>, AllocError>
-    ensures { IfOk result (λ parts. texts parts.items ≡ map trim (slice_split (λ c. c == byte ",") text.now)) }
+    ensures { IfOk result
+        (λ parts. texts parts.items ≡ map trim (slice_split (λ c. c == byte ",") text.now)) }
 {
     text.split(|c| *c == b',')
         .map(|part| trim(part))
         .collect(alloc)
 }
 
-/// What stands between the commas behind the colon; none where there is no colon.
+/// The texts between the commas after the colon; none if there is no colon.
 pub fn items_of<'a>(alloc: Global, text: &'a [u8]) -> Result<Vec<&'a [u8]>, AllocError>
     ensures { IfOk result (λ items. texts items.items ≡ items_of text.now) }
 {
@@ -30,21 +32,21 @@ pub fn items_of<'a>(alloc: Global, text: &'a [u8]) -> Result<Vec<&'a [u8]>, Allo
     }
 }
 
-/// Whether the item has a key, that is an equals sign.
+/// Whether the item has a key, that is, an equals sign.
 pub fn has_key(item: &[u8]) -> bool
     ensures { result ≡ has_key item.now }
 {
     item.iter().any(|c| *c == b'=')
 }
 
-/// What stands before the first equals sign.
+/// The text before the first equals sign.
 pub fn key_of(item: &[u8]) -> &[u8]
     ensures { result.now ≡ key_of item.now }
 {
     trim(&item[..place_of(b'=', item)])
 }
 
-/// What stands behind the first equals sign.
+/// The text after the first equals sign.
 pub fn value_of(item: &[u8]) -> &[u8]
     ensures within { length result.now ≤ length item.now }
     ensures value { result.now ≡ value_of item.now }
@@ -73,7 +75,7 @@ pub fn is_keyed(item: &[u8]) -> bool
     has_key(item) || is_kind_word(item)
 }
 
-/// The key of an item; that of a kind word is the key of the default that it stands for.
+/// The key of an item. The key of a kind word is that of the default that it stands for.
 pub fn field_key(item: &[u8]) -> &[u8]
     ensures { result.now ≡ (keyed item.now).0 }
 {
@@ -84,7 +86,7 @@ pub fn field_key(item: &[u8]) -> &[u8]
     }
 }
 
-/// The value of an item; that of a kind word is the word.
+/// The value of an item. The value of a kind word is the word.
 pub fn field_value(item: &[u8]) -> &[u8]
     ensures within { length result.now ≤ length item.now }
     ensures value { result.now ≡ (keyed item.now).1 }

@@ -1,11 +1,13 @@
-//! What stands on the lines of a text: the lines themselves, headers and their sections, tokens, names, the items of a line
-//! with keys and values, the terms of a line of rates, numbers in millionths and whole numbers. Each call answers in the words
-//! of `text_rules`, or of `script_rules` for what only the other texts have; all that it hands out borrows from the text.
+//! Lines, names, terms and numbers are read exactly by the grammar.
 //!
-//! `lines` reads a text line by line, `line` knows what stands before and behind a mark in a line, `section` the headers,
-//! `field` the items, keys and values, `term` the terms, `token` the tokens, `words` looks a word up in a table, `name` knows
-//! the names, `name_set` those that were seen, `amount` and `whole_number` the numbers, and `fault` what the readers of texts
-//! tell of a fault.
+//! The grammar is that of `text_rules`, or of `script_rules` for what only the other texts have,
+//! and each call answers in its words. All that a call hands out borrows from the text.
+//!
+//! `lines` reads a text line by line, `line` gives what is before and after a mark in a line, and
+//! `section` the headers and their sections. `field` has the items of a line, with keys and values,
+//! `term` the terms of a line of rates, and `token` the tokens. `words` looks a word up in a table,
+//! `name` tests names, and `name_set` has the names that were seen. `amount` and `whole_number`
+//! read numbers, and `fault` is what the readers of texts report.
 #![tactic(auto)]
 
 pub mod amount;

@@ -1,8 +1,9 @@
-//! Lines, and what stands before and behind a mark in them.
+//! Lines, and the texts before and after a mark in them.
 ghost use Rattle.std.specs.Prelude.{◌≡◌, ◌≤◌, ◌==◌, length};
 ghost use Rattle.std.specs.List.{prefix_len, suffix_len, list_any, position_or_len};
 ghost use Rattle.text_rules.specs.Blanks.{is_blank, trim_front, trim};
-ghost use Rattle.text_rules.specs.Line.{is_colon, head_of, tail_of, without_return, without_mark, is_remark, without_remark};
+ghost use Rattle.text_rules.specs.Line.{is_colon, head_of, tail_of, without_return, without_mark};
+ghost use Rattle.text_rules.specs.Line.{is_remark, without_remark};
 
 fn is_blank(c: u8) -> bool
     ensures { result ≡ is_blank c }
@@ -40,7 +41,7 @@ pub fn trim(text: &[u8]) -> &[u8]
     &rest[..rest.len() - blanks_behind(rest)]
 }
 
-/// The first place of the byte, or the length of the text where it has none.
+/// The first place of the byte, or the length of the text if it has none.
 pub fn place_of(byte: u8, text: &[u8]) -> usize
     ensures within { result ≤ length text.now }
     ensures place { result ≡ position_or_len (λ c. c == byte) text.now }
@@ -48,7 +49,7 @@ pub fn place_of(byte: u8, text: &[u8]) -> usize
     text.iter().take_while(|c| **c != byte).count()
 }
 
-/// The line without the carriage return at its end, where it has one.
+/// The line without the carriage return at its end, if it has one.
 pub fn without_return(text: &[u8]) -> &[u8]
     ensures { result.now ≡ without_return text.now }
 {
@@ -67,14 +68,14 @@ fn is_remark(line: &[u8]) -> bool
     }
 }
 
-/// The line, or an empty one where its first byte behind blanks is a number sign.
+/// The line, or an empty one if its first byte other than a blank is a number sign.
 pub fn without_remark(line: &[u8]) -> &[u8]
     ensures { result.now ≡ without_remark line.now }
 {
     if is_remark(line) { &[] } else { line }
 }
 
-/// The text behind its byte order mark, where it has one.
+/// The text after its byte order mark, if it has one.
 pub fn without_mark(bytes: &[u8]) -> &[u8]
     ensures within { length result.now ≤ length bytes.now }
     ensures value { result.now ≡ without_mark bytes.now }
@@ -86,14 +87,14 @@ pub fn without_mark(bytes: &[u8]) -> &[u8]
     }
 }
 
-/// What stands before the first colon, or the whole text where there is none.
+/// The text before the first colon, or the whole text if there is none.
 pub fn head_of(text: &[u8]) -> &[u8]
     ensures { result.now ≡ head_of text.now }
 {
     trim(&text[..place_of(b':', text)])
 }
 
-/// What stands behind the first colon.
+/// The text after the first colon.
 pub fn tail_of(text: &[u8]) -> &[u8]
     ensures { result.now ≡ tail_of text.now }
 {

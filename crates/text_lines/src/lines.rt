@@ -5,16 +5,16 @@ ghost use Rattle.text_lines.specs.Lines.{line_by, lines_by, Coming, IsUntyped};
 use crate::line::{place_of, trim, without_remark, without_return};
 use std::marker::Model;
 
-/// What a format drops at the ends of its lines. An empty line stands in the place of a remark in each.
+/// What a format drops at the ends of its lines. In each format a remark becomes an empty line.
 #[derive(Clone, Copy)]
 pub enum Drops {
-    /// One carriage return behind it.
+    /// One carriage return at the end of a line.
     Return,
-    /// One carriage return behind it, then the blanks at both ends.
+    /// One carriage return at the end of a line, then the blanks at both ends.
     ReturnAndBlanks,
 }
 
-/// The lines of a text that are still to come, and the number of the first of them.
+/// The lines of a text that remain, and the number of the first of them.
 #[derive(Drop)]
 pub struct Lines<'a> {
     drops: Drops,
@@ -31,13 +31,15 @@ impl<'a> Model for Lines<'a> {
 }
 
 impl<'a> Lines<'a> {
-    /// The lines behind the first, where that is the file type; none exactly where it is not.
+    /// The lines after the first, if that is the file type; `None` exactly if it is not.
     #[tactic(auto, using(crate::proofs::Cutting::lines_short))]
     pub fn behind_type(drops: Drops, bytes: &'a [u8], file_type: &[u8]) -> Option<Lines<'a>>
         requires { length bytes.now < 2 ^ 32 - 1 }
-        ensures typed { IfSome result (λ lines. lines_by drops bytes.now ≡ file_type.now ∷ lines.lines) }
+        ensures typed { IfSome result
+            (λ lines. lines_by drops bytes.now ≡ file_type.now ∷ lines.lines) }
         ensures number { IfSome result (λ lines. lines.number ≡ 2) }
-        ensures few { IfSome result (λ lines. lines.number + length lines.lines ≤ length bytes.now + 1) }
+        ensures few { IfSome result
+            (λ lines. lines.number + length lines.lines ≤ length bytes.now + 1) }
         ensures untyped { IsNone result → IsUntyped file_type.now (lines_by drops bytes.now) }
     {
         if bytes.is_empty() {
@@ -86,7 +88,7 @@ fn dropped(drops: Drops, part: &[u8]) -> &[u8]
     }
 }
 
-// The first line of what is left of a text, and what is left behind it.
+// The first line of the rest of a text, and the rest after it.
 #[tactic(auto, using(crate::proofs::Cutting::lines_last))]
 fn cut_line(drops: Drops, rest: &[u8]) -> (&[u8], &[u8])
     requires { 0 < length rest.now }

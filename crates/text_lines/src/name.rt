@@ -22,7 +22,8 @@ fn all_continue(text: &[u8]) -> bool
     text.iter().all(|c| continues_name(*c))
 }
 
-/// Whether the text is a name: a letter or `_`, then letters, digits, `_`, `-` or `.`, at most 64 bytes.
+/// Whether the text is a name: a letter or `_`, then letters, digits, `_`, `-` or `.`, at most 64
+/// bytes.
 pub fn is_name(text: &[u8]) -> bool
     ensures { result ≡ is_name text.now }
 {

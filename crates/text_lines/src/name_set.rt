@@ -1,5 +1,6 @@
 //! Names, each once, found by a look-up.
-ghost use Rattle.std.specs.Prelude.{◌≡◌, ◌++◌, ◌∷◌, IfOk, not, OnOk, OnErr, [], Option, false, length};
+ghost use Rattle.std.specs.Prelude.{◌≡◌, ◌++◌, ◌∷◌, IfOk, not, OnOk, OnErr, [], Option, false};
+ghost use Rattle.std.specs.Prelude.{length};
 ghost use Rattle.std.specs.List.{position};
 ghost use Rattle.std.specs.Str.{bytes_eq};
 ghost use Rattle.problem_rules.specs.Names.{is_among};
@@ -11,7 +12,8 @@ use indexmap::IndexSet;
 use std::alloc::{AllocError, Global};
 use std::marker::Model;
 
-/// Names that are borrowed from a text, each once, in the order in which they came. Contracts see the list of them.
+/// Names that are borrowed from a text, each once, in the order in which they were added. Contracts
+/// see the list of them.
 #[derive(Drop)]
 pub struct NameSet<'a> {
     names: IndexSet<&'a [u8]>,
@@ -47,8 +49,8 @@ impl<'a> NameSet<'a> {
         self.names.contains(&name)
     }
 
-    /// Adds a name that is new or not, and tells which. After `Err`, which comes for want of memory
-    /// alone, the names are as before.
+    /// Adds a name that may be new, and says whether it is. `Err` means out of memory; then the
+    /// names are as before.
     pub fn add(&mut self, name: &'a [u8]) -> Result<bool, AllocError>
         ensures new { IfOk result (λ is_new. is_new ≡ not (is_among self.old name.now)) }
         ensures added { OnOk result (self.new ≡ with_name self.old name.now) }
@@ -58,8 +60,7 @@ impl<'a> NameSet<'a> {
         Ok(is_new)
     }
 
-    /// Adds a name that is new. After `Err`, which comes for want of memory alone, the names are as
-    /// before.
+    /// Adds a name that is new. `Err` means out of memory; then the names are as before.
     #[tactic(auto, using(crate::proofs::Naming::with_new))]
     pub fn push(&mut self, name: &'a [u8]) -> Result<(), AllocError>
         requires { is_among self.old name.now ≡ false }
@@ -77,7 +78,7 @@ impl<'a> NameSet<'a> {
     }
 }
 
-/// The names as a set, or none where one comes twice.
+/// The names as a set, or `None` if a name is there twice.
 pub fn once<'a>(alloc: Global, names: &[&'a [u8]]) -> Result<Option<NameSet<'a>>, AllocError>
     ensures { IfOk result (λ found. found ≡ once (texts names.now)) }
 {

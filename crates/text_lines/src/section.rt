@@ -7,7 +7,7 @@ use crate::name::is_name;
 use crate::words::looked_up;
 use text_rules::Section;
 
-/// Whether the line is a header: one name and a colon with nothing behind it.
+/// Whether the line is a header: one name and a colon with nothing after it.
 pub fn is_header(text: &[u8]) -> bool
     ensures { result ≡ is_header text.now }
 {
@@ -30,7 +30,7 @@ pub fn section_named(name: &[u8]) -> Option<Section>
     looked_up(&SECTIONS, name)
 }
 
-/// The section that a line stands in or begins, where this section stands before it.
+/// The section that a line is in or begins, if the given section was before it.
 pub fn section_after(section: Section, text: &[u8]) -> Section
     ensures { result ≡ section_after section text.now }
 {

@@ -5,12 +5,13 @@ ghost use Rattle.std.specs.Str.{bytes_eq};
 ghost use Rattle.text_rules.specs.Field.{tokens_of, terms_of, sides_of};
 ghost use Rattle.text_lines.specs.View.{texts};
 ghost use Rattle.text_rules.specs.Term.{sides_read};
-ghost use Rattle.text_lines.specs.Terms.{terms_view, terms_read, both_read, only_two, sides_view, begins, is_arrow};
+ghost use Rattle.text_lines.specs.Terms.{terms_view, terms_read, both_read, only_two, sides_view};
+ghost use Rattle.text_lines.specs.Terms.{begins, is_arrow};
 
 use crate::line::tail_of;
 use std::alloc::{AllocError, Global};
 
-/// A term: a material with the number that stands before it, which is `1` where none stands.
+/// A term: a material with the number before it, which is `1` if there is none.
 #[derive(Clone, Copy)]
 pub struct Term<'a> {
     pub number: &'a [u8],
@@ -32,7 +33,7 @@ fn tokens_of<'a>(alloc: Global, text: &'a [u8]) -> Result<Vec<&'a [u8]>, AllocEr
         .collect(alloc)
 }
 
-// The first place of the mark among the tokens, or their number where none is it.
+// The first place of the mark among the tokens, or the number of tokens if none is the mark.
 fn place_of(mark: &[u8], tokens: &[&[u8]]) -> usize
     ensures within { result ≤ length tokens.now }
     ensures place { result ≡ position_or_len (λ token. bytes_eq token mark.now) (texts tokens.now) }
@@ -47,7 +48,8 @@ fn place_of(mark: &[u8], tokens: &[&[u8]]) -> usize
 
 // The term of the tokens: a name, or a number and a name.
 fn term_of<'a>(tokens: &[&'a [u8]]) -> Option<Term<'a>>
-    ensures { option_map (λ term. (term.number.now, term.name.now)) result ≡ begins (texts tokens.now) }
+    ensures { option_map (λ term. (term.number.now, term.name.now)) result
+        ≡ begins (texts tokens.now) }
 {
     match tokens {
         [] => None,
@@ -63,9 +65,11 @@ fn term_of<'a>(tokens: &[&'a [u8]]) -> Option<Term<'a>>
     }
 }
 
-// The terms of a side, or none where one of them has no token or more than two.
+// The terms of a side, or `None` if one of them has no token or more than two.
 fn terms_of<'a>(alloc: Global, tokens: &[&'a [u8]]) -> Result<Option<Vec<Term<'a>>>, AllocError>
-    ensures { IfOk result (λ found. option_map (λ terms. terms_view terms.items) found ≡ terms_read (terms_of (texts tokens.now))) }
+    ensures { IfOk result
+        (λ found. option_map (λ terms. terms_view terms.items) found
+        ≡ terms_read (terms_of (texts tokens.now))) }
 {
     let mut terms = Vec::new(alloc);
     if tokens.is_empty() {
@@ -85,9 +89,10 @@ fn terms_of<'a>(alloc: Global, tokens: &[&'a [u8]]) -> Result<Option<Vec<Term<'a
     }
 }
 
-// What stands on both sides of the only arrow.
+// The tokens on both sides of the only arrow.
 fn cut_sides<'b, 'a>(tokens: &'b [&'a [u8]]) -> Option<(&'b [&'a [u8]], &'b [&'a [u8]])>
-    ensures { option_map (λ cut. (texts cut.0.now, texts cut.1.now)) result ≡ only_two (slice_split is_arrow (texts tokens.now)) }
+    ensures { option_map (λ cut. (texts cut.0.now, texts cut.1.now)) result
+        ≡ only_two (slice_split is_arrow (texts tokens.now)) }
 {
     let at = place_of(b"=>", tokens);
     if at == tokens.len() {
@@ -100,10 +105,12 @@ fn cut_sides<'b, 'a>(tokens: &'b [&'a [u8]]) -> Option<(&'b [&'a [u8]], &'b [&'a
     Some((&tokens[..at], right))
 }
 
-/// The terms on both sides of the arrow among the tokens; none where there is not exactly one arrow, or where a term is
-/// neither a name nor a number and a name.
+/// The terms on both sides of the arrow among the tokens; `None` if there is not exactly one arrow,
+/// or if a term is neither a name nor a number and a name.
 pub fn sides_in<'a>(alloc: Global, tokens: &[&'a [u8]]) -> Result<Option<Sides<'a>>, AllocError>
-    ensures { IfOk result (λ found. option_map sides_view found ≡ sides_read (map terms_of (slice_split is_arrow (texts tokens.now)))) }
+    ensures { IfOk result
+        (λ found. option_map sides_view found
+        ≡ sides_read (map terms_of (slice_split is_arrow (texts tokens.now)))) }
 {
     match cut_sides(tokens) {
         Some((left, right)) => read_sides(alloc, left, right),
@@ -111,8 +118,8 @@ pub fn sides_in<'a>(alloc: Global, tokens: &[&'a [u8]]) -> Result<Option<Sides<'
     }
 }
 
-/// The terms on both sides of the arrow behind the line's colon; none where there is not exactly one arrow, or where a
-/// term is neither a name nor a number and a name.
+/// The terms on both sides of the arrow after the line's colon; `None` if there is not exactly one
+/// arrow, or if a term is neither a name nor a number and a name.
 pub fn sides_of<'a>(alloc: Global, text: &'a [u8]) -> Result<Option<Sides<'a>>, AllocError>
     ensures { IfOk result (λ found. option_map sides_view found ≡ sides_read (sides_of text.now)) }
 {
@@ -120,13 +127,16 @@ pub fn sides_of<'a>(alloc: Global, text: &'a [u8]) -> Result<Option<Sides<'a>>, 
     sides_in(alloc, &tokens)
 }
 
-// The terms on both sides, or none where a term has not its form.
+// The terms on both sides, or `None` if a term does not have its form.
 fn read_sides<'a>(
     alloc: Global,
     left: &[&'a [u8]],
     right: &[&'a [u8]],
 ) -> Result<Option<Sides<'a>>, AllocError>
-    ensures { IfOk result (λ found. option_map sides_view found ≡ both_read (terms_read (terms_of (texts left.now))) (terms_read (terms_of (texts right.now)))) }
+    ensures { IfOk result
+        (λ found. option_map sides_view found
+        ≡ both_read (terms_read (terms_of (texts left.now)))
+        (terms_read (terms_of (texts right.now)))) }
 {
     let Some(inputs) = terms_of(alloc, left)? else {
         return Ok(None);

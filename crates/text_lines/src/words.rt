@@ -2,7 +2,7 @@
 ghost use Rattle.std.specs.Prelude.{◌≡◌};
 ghost use Rattle.text_lines.specs.Words.{looked_up};
 
-/// What stands beside the text in the first row that it names; none exactly where it names no row.
+/// The value in the first row whose name is the text; `None` exactly if there is no such row.
 pub fn looked_up<W: Copy>(mut rows: &[(&[u8], W)], text: &[u8]) -> Option<W>
     ensures { result ≡ looked_up rows.entry.now text.now }
 {

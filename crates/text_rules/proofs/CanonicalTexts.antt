@@ -1,5 +1,5 @@
--- Canonical texts, byte for byte: rates that are and are not 1, amounts below 0 and with places, both investment costs, and a
--- problem with the default bounds.
+-- Canonical texts, byte for byte: rates that are 1 and rates that are not, amounts below 0 and with
+-- places, both investment costs, and a problem with the default bounds.
 use Rattle.std.proofs.Common.{◌≡◌, ℕ, List, [], ◌∷◌, codes, refl, Ok, pos, negsuc}
 use Rattle.std.specs.Fmt.{digits}
 use Rattle.problem_rules.specs.Problem.{raw_material, intermediate, product, Problem}
@@ -9,9 +9,31 @@ use Rattle.text_rules.proofs.Texts.{text_of}
 
 mixed : Problem
 mixed = record {
-  materials = record { name = codes "A"; kind = raw_material; price = negsuc 1500000; lower = pos 0; upper = pos 1000000000000000 }
-      ∷ record { name = codes "B"; kind = intermediate; price = pos 1; lower = pos 500000; upper = pos 500000 }
-      ∷ record { name = codes "P"; kind = product; price = pos 0; lower = pos 20000000; upper = pos 20500000 } ∷ [];
+  materials =
+      record {
+        name = codes "A";
+        kind = raw_material;
+        price = negsuc 1500000;
+        lower = pos 0;
+        upper =
+            pos 1000000000000000;
+      }
+      ∷ record {
+        name = codes "B";
+        kind = intermediate;
+        price = pos 1;
+        lower = pos 500000;
+        upper =
+            pos 500000;
+      }
+      ∷ record {
+        name = codes "P";
+        kind = product;
+        price = pos 0;
+        lower = pos 20000000;
+        upper =
+            pos 20500000;
+      } ∷ [];
   units = record {
     name = codes "U1";
     lower = pos 0;
@@ -20,7 +42,8 @@ mixed = record {
     proportional = negsuc 0;
     investment_fix = pos 100000000;
     investment_proportional = negsuc 9999999;
-    inputs = record { material = 0; rate = pos 2000000 } ∷ record { material = 1; rate = pos 1000000 } ∷ [];
+    inputs = record { material = 0; rate = pos 2000000 }
+        ∷ record { material = 1; rate = pos 1000000 } ∷ [];
     outputs = record { material = 2; rate = pos 1 } ∷ [];
   } ∷ record {
     name = codes "U2";
@@ -31,7 +54,8 @@ mixed = record {
     investment_fix = pos 0;
     investment_proportional = pos 1;
     inputs = record { material = 1; rate = pos 1000000 } ∷ [];
-    outputs = record { material = 2; rate = pos 1000000 } ∷ record { material = 0; rate = pos 1000000000000000 } ∷ [];
+    outputs = record { material = 2; rate = pos 1000000 }
+        ∷ record { material = 0; rate = pos 1000000000000000 } ∷ [];
   } ∷ [];
   exclusions = record { name = codes "X.1"; units = 0 ∷ 1 ∷ [] } ∷ [];
   payout = pos 100;
@@ -45,13 +69,17 @@ mixed_lines =
     ∷ codes "payout_period=100"
     ∷ []
     ∷ codes "materials:"
-    ∷ codes "A: raw_material, price=-1.500001, flow_rate_lower_bound=0, flow_rate_upper_bound=1000000000"
-    ∷ codes "B: intermediate, price=0.000001, flow_rate_lower_bound=0.5, flow_rate_upper_bound=0.5"
+    ∷ codes
+    "A: raw_material, price=-1.500001, flow_rate_lower_bound=0, flow_rate_upper_bound=1000000000"
+    ∷ codes
+    "B: intermediate, price=0.000001, flow_rate_lower_bound=0.5, flow_rate_upper_bound=0.5"
     ∷ codes "P: product, price=0, flow_rate_lower_bound=20, flow_rate_upper_bound=20.5"
     ∷ []
     ∷ codes "operating_units:"
-    ∷ codes "U1: capacity_lower_bound=0, capacity_upper_bound=100, fix_cost=0.00001, proportional_cost=-0.000001, investment_fix_cost=100, investment_proportional_cost=-10"
-    ∷ codes "U2: capacity_lower_bound=1, capacity_upper_bound=1, fix_cost=0, proportional_cost=0, investment_proportional_cost=0.000001"
+    ∷ codes
+    "U1: capacity_lower_bound=0, capacity_upper_bound=100, fix_cost=0.00001, proportional_cost=-0.000001, investment_fix_cost=100, investment_proportional_cost=-10"
+    ∷ codes
+    "U2: capacity_lower_bound=1, capacity_upper_bound=1, fix_cost=0, proportional_cost=0, investment_proportional_cost=0.000001"
     ∷ []
     ∷ codes "material_to_operating_unit_flow_rates:"
     ∷ codes "U1: 2 A + B => 0.000001 P"
@@ -71,14 +99,29 @@ mixed_reads = refl
 
 -- a problem without units and exclusions
 least : Problem
-least = record { materials = record { name = codes "P"; kind = product; price = pos 0; lower = pos 0; upper = pos 1000000000000000 } ∷ []; units = []; exclusions = []; payout = pos 1 }
+least =
+    record {
+      materials =
+          record {
+            name = codes "P";
+            kind = product;
+            price = pos 0;
+            lower = pos 0;
+            upper =
+                pos 1000000000000000;
+          } ∷ [];
+      units = [];
+      exclusions = [];
+      payout = pos 1;
+    }
 
 least_lines : List (List ℕ)
 least_lines =
     codes "file_type=PNS_problem_v1"
     ∷ []
     ∷ codes "materials:"
-    ∷ codes "P: product, price=0, flow_rate_lower_bound=0, flow_rate_upper_bound=1000000000"
+    ∷ codes
+    "P: product, price=0, flow_rate_lower_bound=0, flow_rate_upper_bound=1000000000"
     ∷ []
     ∷ codes "operating_units:"
     ∷ []

@@ -1,7 +1,12 @@
--- Lines under each header, each with the kind of fault that is told of it.
+-- Lines under each header, each with the kind of fault that is reported.
 use Rattle.std.proofs.Common.{ℕ, List, [], ◌∷◌, codes, refl}
 use Rattle.text_rules.specs.declared.TextKind.{TextKind}
-use Rattle.text_rules.specs.declared.TextKind.TheVariants.{UnknownSection, BadLine, BadName, UnknownKey, DoubleKey, BadNumber, TooFine, TooLarge, Negative, UnknownKind, ZeroRate, DoubleTerm, BothSides, EmptySide, DoubleMember, FewMembers, BadPayout, UnknownMaterial}
+use Rattle.text_rules.specs.declared.TextKind.TheVariants.{UnknownSection, BadLine, BadName}
+use Rattle.text_rules.specs.declared.TextKind.TheVariants.{UnknownKey, DoubleKey, BadNumber}
+use Rattle.text_rules.specs.declared.TextKind.TheVariants.{TooFine, TooLarge, Negative, UnknownKind}
+use Rattle.text_rules.specs.declared.TextKind.TheVariants.{ZeroRate, DoubleTerm, BothSides}
+use Rattle.text_rules.specs.declared.TextKind.TheVariants.{EmptySide, DoubleMember, FewMembers}
+use Rattle.text_rules.specs.declared.TextKind.TheVariants.{BadPayout, UnknownMaterial}
 use Rattle.text_rules.proofs.Texts.{Told}
 
 measurement_rows : List (List ℕ × TextKind)

@@ -1,5 +1,6 @@
 -- Numbers that are read and printed, and names.
-use Rattle.std.proofs.Common.{◌≡◌, ℕ, Bool, true, false, List, [], ◌∷◌, map, codes, refl, Result, Ok, Err, ℤ, pos, negsuc}
+use Rattle.std.proofs.Common.{◌≡◌, ℕ, Bool, true, false, List, [], ◌∷◌, map, codes, refl, Result}
+use Rattle.std.proofs.Common.{Ok, Err, ℤ, pos, negsuc}
 use Rattle.std.specs.Fmt.{digits}
 use Rattle.problem_rules.specs.Names.{is_name}
 use Rattle.text_rules.specs.declared.TextKind.{TextKind}

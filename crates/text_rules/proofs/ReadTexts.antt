@@ -1,12 +1,13 @@
--- Texts and the problems that they stand for: defaults of every key, units with and without a line of their own, exclusions in
--- any order, and payout periods in any spelling.
-use Rattle.std.proofs.Common.{◌≡◌, ℕ, List, [], ◌∷◌, map, flat_map, codes, refl, Result, Ok, Err, pos, negsuc, ℤ}
+-- Texts and the problems that they stand for: defaults of every key, units with and without a line
+-- of their own, exclusions in any order, and payout periods in any spelling.
+use Rattle.std.proofs.Common.{◌≡◌, ℕ, List, [], ◌∷◌, map, flat_map, codes, refl, Result, Ok, Err}
+use Rattle.std.proofs.Common.{pos, negsuc, ℤ}
 use Rattle.problem_rules.specs.Problem.{raw_material, intermediate, product, Problem}
 use Rattle.text_rules.specs.Fault.{Fault}
 use Rattle.text_rules.specs.Value.{read_text}
 use Rattle.text_rules.proofs.Texts.{body}
 
--- sections in reverse: what an own value leaves out is the default, wherever it stands
+-- sections in reverse order: a value that an item leaves out is the default, wherever that is
 reversed : List (List ℕ)
 reversed =
     codes "mutual_exclusions:"
@@ -36,9 +37,31 @@ reversed =
 
 reversed_problem : Problem
 reversed_problem = record {
-  materials = record { name = codes "P"; kind = product; price = pos 9000000; lower = pos 3000000; upper = pos 4000000 }
-      ∷ record { name = codes "A"; kind = raw_material; price = negsuc 999999; lower = pos 1000000; upper = pos 4000000 }
-      ∷ record { name = codes "B"; kind = intermediate; price = pos 9000000; lower = pos 1000000; upper = pos 5000000 } ∷ [];
+  materials =
+      record {
+        name = codes "P";
+        kind = product;
+        price = pos 9000000;
+        lower = pos 3000000;
+        upper =
+            pos 4000000;
+      }
+      ∷ record {
+        name = codes "A";
+        kind = raw_material;
+        price = negsuc 999999;
+        lower =
+            pos 1000000;
+        upper = pos 4000000;
+      }
+      ∷ record {
+        name = codes "B";
+        kind = intermediate;
+        price = pos 9000000;
+        lower =
+            pos 1000000;
+        upper = pos 5000000;
+      } ∷ [];
   units = record {
     name = codes "V";
     lower = pos 2000000;
@@ -47,7 +70,8 @@ reversed_problem = record {
     proportional = negsuc 12999999;
     investment_fix = pos 1000000;
     investment_proportional = negsuc 18999999;
-    inputs = record { material = 1; rate = pos 2000000 } ∷ record { material = 2; rate = pos 1000000 } ∷ [];
+    inputs = record { material = 1; rate = pos 2000000 }
+        ∷ record { material = 2; rate = pos 1000000 } ∷ [];
     outputs = record { material = 0; rate = pos 1000000 } ∷ [];
   } ∷ record {
     name = codes "W";
@@ -68,7 +92,7 @@ reversed_reads : read_text (body reversed) ≡ Ok reversed_problem
 unfolding reversed reversed_problem
 reversed_reads = refl
 
--- each line behind a remark that says the same
+-- a remark before each line, with the same text
 remarked : List (List ℕ) → List (List ℕ)
 remarked = flat_map (λ line. (32 ∷ 9 ∷ 35 ∷ line) ∷ line ∷ [])
 
@@ -76,11 +100,26 @@ remarked_reads : read_text (body (remarked reversed)) ≡ Ok reversed_problem
 unfolding reversed reversed_problem remarked
 remarked_reads = refl
 
--- the values that stand where neither a line nor the defaults have one
+-- the values if neither a line nor the defaults have any
 bare : Problem
 bare = record {
-  materials = record { name = codes "P"; kind = product; price = pos 0; lower = pos 0; upper = pos 1000000000000000 }
-      ∷ record { name = codes "A"; kind = intermediate; price = pos 0; lower = pos 0; upper = pos 1000000000000000 } ∷ [];
+  materials =
+      record {
+        name = codes "P";
+        kind = product;
+        price = pos 0;
+        lower = pos 0;
+        upper =
+            pos 1000000000000000;
+      }
+      ∷ record {
+        name = codes "A";
+        kind = intermediate;
+        price = pos 0;
+        lower = pos 0;
+        upper =
+            pos 1000000000000000;
+      } ∷ [];
   units = record {
     name = codes "U";
     lower = pos 0;
@@ -96,7 +135,9 @@ bare = record {
   payout = pos 1;
 }
 
-bare_reads : read_text (body (codes "materials:" ∷ codes "P: product" ∷ codes "A" ∷ codes "material_to_operating_unit_flow_rates:" ∷ codes "U: A => P" ∷ [])) ≡ Ok bare
+bare_reads : read_text
+    (body (codes "materials:" ∷ codes "P: product" ∷ codes "A"
+    ∷ codes "material_to_operating_unit_flow_rates:" ∷ codes "U: A => P" ∷ [])) ≡ Ok bare
 unfolding bare
 bare_reads = refl
 
@@ -119,6 +160,7 @@ payouts =
     ∷ (codes "payout_period=101", negsuc 0)
     ∷ []
 
-payouts_read : map (λ row. payout_in (read_text (paying (row.0)))) payouts ≡ map (λ row. row.1) payouts
+payouts_read : map (λ row. payout_in (read_text (paying (row.0)))) payouts
+    ≡ map (λ row. row.1) payouts
 unfolding payouts paying payout_in
 payouts_read = refl

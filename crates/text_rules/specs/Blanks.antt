@@ -1,4 +1,4 @@
--- Blanks: spaces and tabs, and no other byte, which are dropped at both ends of a text.
+-- Blanks are spaces and tabs, and no other byte. They are dropped at both ends of a text.
 use Rattle.std.specs.Prelude.{◌==◌, ◌||◌, ◌-◌, ℕ, Bool, List, length, take, drop}
 use Rattle.std.specs.List.{prefix_len, suffix_len}
 

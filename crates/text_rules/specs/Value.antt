@@ -1,16 +1,25 @@
--- The problem that a text without faults of form stands for, and its faults of meaning. Sections may stand in any order, so a
--- value is looked up in all lines: a default counts for the lines in front of it too.
-use Rattle.std.specs.Prelude.{◌&&◌, ◌||◌, ◌+◌, ◌/◌, ℕ, Bool, List, [], ◌∷◌, ◌++◌, length, map, filter, codes, not, Option, Some, None, Result, Ok, Err, find, position, unwrap_or, option_map, ℤ, pos, unsigned_abs, int_lt, if◌then◌else◌}
+-- The problem that a text without faults of form stands for, and its faults of meaning. Sections
+-- may be in any order, so a value is looked up in all lines: a default counts for the lines before
+-- it too.
+use Rattle.std.specs.Prelude.{◌&&◌, ◌||◌, ◌+◌, ◌/◌, ℕ, Bool, List, [], ◌∷◌, ◌++◌, length, map}
+use Rattle.std.specs.Prelude.{filter, codes, not, Option, Some, None, Result, Ok, Err, find}
+use Rattle.std.specs.Prelude.{position, unwrap_or, option_map, ℤ, pos, unsigned_abs, int_lt}
+use Rattle.std.specs.Prelude.{if◌then◌else◌}
 use Rattle.std.specs.List.{list_any}
 use Rattle.std.specs.Str.{bytes_eq}
 use Rattle.text_rules.specs.declared.TextKind.{TextKind}
-use Rattle.text_rules.specs.declared.TextKind.TheVariants.{LowAboveHigh, UnknownMaterial, NoRates, NoProduct, UnknownUnit}
+use Rattle.text_rules.specs.declared.TextKind.TheVariants.{LowAboveHigh, UnknownMaterial, NoRates}
+use Rattle.text_rules.specs.declared.TextKind.TheVariants.{NoProduct, UnknownUnit}
 use Rattle.problem_rules.specs.Names.{is_among}
-use Rattle.problem_rules.specs.Problem.{Kind, raw_material, intermediate, product, is_product, Material, Term, OperatingUnit, Exclusion, Problem}
+use Rattle.problem_rules.specs.Problem.{Kind, raw_material, intermediate, product, is_product}
+use Rattle.problem_rules.specs.Problem.{Material, Term, OperatingUnit, Exclusion, Problem}
 use Rattle.text_rules.specs.declared.Section.{Section}
-use Rattle.text_rules.specs.declared.Section.TheVariants.{Preamble, MeasurementUnits, Defaults, Materials, OperatingUnits, Rates, Exclusions}
+use Rattle.text_rules.specs.declared.Section.TheVariants.{Preamble, MeasurementUnits, Defaults}
+use Rattle.text_rules.specs.declared.Section.TheVariants.{Materials, OperatingUnits, Rates}
+use Rattle.text_rules.specs.declared.Section.TheVariants.{Exclusions}
 use Rattle.text_rules.specs.Line.{Placed, lines_of, lines_at, heads_at, head_of, meant_of}
-use Rattle.text_rules.specs.Field.{key_of, value_of, items_of, keyed, is_keyed, material_type, payout_period, for_material, for_unit}
+use Rattle.text_rules.specs.Field.{key_of, value_of, items_of, keyed, is_keyed, material_type}
+use Rattle.text_rules.specs.Field.{payout_period, for_material, for_unit}
 use Rattle.text_rules.specs.Term.{Pair, pairs_at}
 use Rattle.text_rules.specs.Fault.{Fault, fault_or, form_fault, millionths, names_of}
 
@@ -25,29 +34,33 @@ fields_at text = item_fields (items_of text)
 
 -- the keys of the defaults with their values
 abbrev pub default_fields : List Placed → List (List ℕ × List ℕ)
-default_fields lines = map (λ (line : Placed). (key_of line.text, value_of line.text)) (lines_at Defaults lines)
+default_fields lines =
+    map (λ (line : Placed). (key_of line.text, value_of line.text)) (lines_at Defaults lines)
 
 -- the value of the first field of this key
 abbrev pub value_at : List ℕ → List (List ℕ × List ℕ) → Option (List ℕ)
 value_at key fields = option_map (λ field. field.1) (find (λ field. bytes_eq field.0 key) fields)
 
--- a value that was given, or else the other
+-- a value that was given, or else the default
 abbrev pub number_or : Option (List ℕ) → ℤ → ℤ
 number_or None default = default
 number_or (Some text) default = millionths text
 
--- the number of this key
+-- the number of this key, or else the default
 abbrev pub number_at : List ℕ → List (List ℕ × List ℕ) → ℤ → ℤ
 number_at key fields default = number_or (value_at key fields) default
 
 abbrev pub kind_of : List ℕ → Kind
-kind_of word = if bytes_eq word (codes "raw_material") then raw_material else if bytes_eq word (codes "product") then product else intermediate
+kind_of word =
+    if bytes_eq word (codes "raw_material") then raw_material else if bytes_eq word
+    (codes "product") then product else intermediate
 
 abbrev pub kind_or : Option (List ℕ) → Kind → Kind
 kind_or None default = default
 kind_or (Some word) default = kind_of word
 
--- What holds of materials and units whose lines say nothing else. Prices, bounds and costs are in millionths.
+-- What applies to materials and units whose lines do not say otherwise. Prices, bounds and costs
+-- are in millionths.
 pub record Settings : Type 0 where
   pub kind : Kind
   pub price : ℤ
@@ -64,7 +77,7 @@ pub record Settings : Type 0 where
 abbrev pub much : ℤ
 much = pos 1000000000000000
 
--- the defaults, with the values that are built in behind them
+-- the defaults of the text, and for the others the values that are built in
 abbrev pub settings_from : List (List ℕ × List ℕ) → Settings
 settings_from fields = record {
   kind = kind_or (value_at material_type fields) intermediate;
@@ -76,7 +89,8 @@ settings_from fields = record {
   fix = number_at (for_unit (codes "fix_cost")) fields (pos 0);
   proportional = number_at (for_unit (codes "proportional_cost")) fields (pos 0);
   investment_fix = number_at (for_unit (codes "investment_fix_cost")) fields (pos 0);
-  investment_proportional = number_at (for_unit (codes "investment_proportional_cost")) fields (pos 0);
+  investment_proportional =
+      number_at (for_unit (codes "investment_proportional_cost")) fields (pos 0);
 }
 
 abbrev pub settings_of : List Placed → Settings
@@ -93,7 +107,8 @@ material_from s name fields = record {
   upper = number_at (codes "flow_rate_upper_bound") fields s.flow_upper;
 }
 
-abbrev pub unit_from : Settings → List ℕ → List (List ℕ × List ℕ) → List Term → List Term → OperatingUnit
+abbrev pub unit_from : Settings → List ℕ → List (List ℕ × List ℕ) → List Term → List Term
+    → OperatingUnit
 unit_from s name fields inputs outputs = record {
   name = name;
   lower = number_at (codes "capacity_lower_bound") fields s.capacity_lower;
@@ -101,13 +116,16 @@ unit_from s name fields inputs outputs = record {
   fix = number_at (codes "fix_cost") fields s.fix;
   proportional = number_at (codes "proportional_cost") fields s.proportional;
   investment_fix = number_at (codes "investment_fix_cost") fields s.investment_fix;
-  investment_proportional = number_at (codes "investment_proportional_cost") fields s.investment_proportional;
+  investment_proportional =
+      number_at (codes "investment_proportional_cost") fields s.investment_proportional;
   inputs = inputs;
   outputs = outputs;
 }
 
 abbrev pub materials_from : Settings → List Placed → List Material
-materials_from s lines = map (λ (line : Placed). material_from s (head_of line.text) (fields_at line.text)) (lines_at Materials lines)
+materials_from s lines =
+    map (λ (line : Placed). material_from s (head_of line.text) (fields_at line.text))
+    (lines_at Materials lines)
 
 -- a term, with the number of its material among the names
 abbrev pub term_from : List (List ℕ) → Pair → Term
@@ -125,48 +143,62 @@ sides_or names None = ([], [])
 sides_or names (Some line) = both_from names (pairs_at line.text)
 
 abbrev pub sides_named : List (List ℕ) → List Placed → List ℕ → List Term × List Term
-sides_named names lines name = sides_or names (find (λ (line : Placed). bytes_eq (head_of line.text) name) (lines_at Rates lines))
+sides_named names lines name =
+    sides_or names
+    (find (λ (line : Placed). bytes_eq (head_of line.text) name) (lines_at Rates lines))
 
 -- a unit with a line of its own
 abbrev pub listed_unit : Settings → List (List ℕ) → List Placed → List ℕ → OperatingUnit
 listed_unit s names lines text =
-    unit_from s (head_of text) (fields_at text) (sides_named names lines (head_of text)).0 (sides_named names lines (head_of text)).1
+    unit_from s (head_of text) (fields_at text) (sides_named names lines (head_of text)).0
+    (sides_named names lines (head_of text)).1
 
 -- a unit with a line of rates alone
 abbrev pub bare_unit : Settings → List (List ℕ) → List Placed → List ℕ → OperatingUnit
 bare_unit s names lines text =
-    unit_from s (head_of text) [] (sides_named names lines (head_of text)).0 (sides_named names lines (head_of text)).1
+    unit_from s (head_of text) [] (sides_named names lines (head_of text)).0
+    (sides_named names lines (head_of text)).1
 
 -- the lines of rates of units without a line of their own
 abbrev pub bare_lines : List (List ℕ) → List Placed → List Placed
-bare_lines units lines = filter (λ (line : Placed). not (is_among units (head_of line.text))) (lines_at Rates lines)
+bare_lines units lines =
+    filter (λ (line : Placed). not (is_among units (head_of line.text))) (lines_at Rates lines)
 
 abbrev pub units_from : Settings → List (List ℕ) → List Placed → List OperatingUnit
 units_from s names lines =
     map (λ (line : Placed). listed_unit s names lines line.text) (lines_at OperatingUnits lines)
-    ++ map (λ (line : Placed). bare_unit s names lines line.text) (bare_lines (heads_at OperatingUnits lines) lines)
+    ++ map (λ (line : Placed). bare_unit s names lines line.text)
+    (bare_lines (heads_at OperatingUnits lines) lines)
 
 -- the names of the units, in their order
 abbrev pub unit_names_from : List Placed → List (List ℕ)
-unit_names_from lines = heads_at OperatingUnits lines ++ map (λ (line : Placed). head_of line.text) (bare_lines (heads_at OperatingUnits lines) lines)
+unit_names_from lines =
+    heads_at OperatingUnits lines
+    ++ map (λ (line : Placed). head_of line.text) (bare_lines (heads_at OperatingUnits lines) lines)
 
--- the numbers of the names that are among the words, counted from k: so an exclusion's units rise, in whatever order they stand
+-- The numbers of the names that are among the words, counted from k. So an exclusion's units rise,
+-- whatever their order in the text.
 abbrev pub numbers_among : List (List ℕ) → ℕ → List (List ℕ) → List ℕ
 numbers_among words k [] = []
-numbers_among words k (name ∷ names) = if is_among words name then k ∷ numbers_among words (k + 1) names else numbers_among words (k + 1) names
+numbers_among words k (name ∷ names) =
+    if is_among words name then k
+    ∷ numbers_among words (k + 1) names else numbers_among words (k + 1) names
 
 -- the exclusion of this name with these members
 abbrev pub exclusion_named : List (List ℕ) → List ℕ → List (List ℕ) → Exclusion
 exclusion_named units name members = record { name = name; units = numbers_among members 0 units }
 
 abbrev pub exclusions_from : List (List ℕ) → List Placed → List Exclusion
-exclusions_from units lines = map (λ (line : Placed). exclusion_named units (head_of line.text) (items_of line.text)) (lines_at Exclusions lines)
+exclusions_from units lines =
+    map (λ (line : Placed). exclusion_named units (head_of line.text) (items_of line.text))
+    (lines_at Exclusions lines)
 
 -- the payout period in whole years
 abbrev pub payout_from : List Placed → ℤ
-payout_from lines = pos (unsigned_abs (number_at payout_period (default_fields lines) (pos 1000000)) / 1000000)
+payout_from lines =
+    pos (unsigned_abs (number_at payout_period (default_fields lines) (pos 1000000)) / 1000000)
 
--- the problem that the lines of a text stand for, by those that have a meaning
+-- the problem that the lines of a text stand for; only lines that have a meaning are given
 abbrev pub problem_from : List Placed → Problem
 problem_from lines = record {
   materials = materials_from (settings_of lines) lines;
@@ -184,22 +216,31 @@ pub record Names : Type 0 where
   pub rates : List (List ℕ)
 
 abbrev pub names_all : List Placed → Names
-names_all lines = record { materials = heads_at Materials lines; units = heads_at OperatingUnits lines; rates = heads_at Rates lines }
+names_all lines =
+    record {
+      materials = heads_at Materials lines;
+      units = heads_at OperatingUnits lines;
+      rates =
+          heads_at Rates lines;
+    }
 
--- Bounds are judged where a material or unit has them, defaults filled in; defaults by themselves are never at fault.
+-- Bounds are judged for each material or unit, with defaults filled in. The defaults alone are
+-- never a fault.
 abbrev pub is_material_turned : Settings → List (List ℕ × List ℕ) → Bool
 is_material_turned s fields =
-    int_lt (number_at (codes "flow_rate_upper_bound") fields s.flow_upper) (number_at (codes "flow_rate_lower_bound") fields s.flow_lower)
+    int_lt (number_at (codes "flow_rate_upper_bound") fields s.flow_upper)
+    (number_at (codes "flow_rate_lower_bound") fields s.flow_lower)
 
 abbrev pub is_unit_turned : Settings → List (List ℕ × List ℕ) → Bool
 is_unit_turned s fields =
-    int_lt (number_at (codes "capacity_upper_bound") fields s.capacity_upper) (number_at (codes "capacity_lower_bound") fields s.capacity_lower)
+    int_lt (number_at (codes "capacity_upper_bound") fields s.capacity_upper)
+    (number_at (codes "capacity_lower_bound") fields s.capacity_lower)
 
--- the kind at a material of these fields
+-- the fault of a material of these fields
 abbrev pub material_kind : Settings → List (List ℕ × List ℕ) → Option TextKind
 material_kind s fields = if is_material_turned s fields then Some LowAboveHigh else None
 
--- at a unit of this name and these fields
+-- the fault of a unit of this name and these fields
 abbrev pub unit_kind : Settings → Names → List ℕ → List (List ℕ × List ℕ) → Option TextKind
 unit_kind s names name fields =
     if is_unit_turned s fields then Some LowAboveHigh
@@ -208,9 +249,11 @@ unit_kind s names name fields =
 -- some term is of a material that has no line
 abbrev pub has_unknown : List (List ℕ) → List Pair × List Pair → Bool
 has_unknown materials sides =
-    list_any (λ name. not (is_among materials name)) (names_of sides.0) || list_any (λ name. not (is_among materials name)) (names_of sides.1)
+    list_any (λ name. not (is_among materials name)) (names_of sides.0) || list_any
+    (λ name. not (is_among materials name)) (names_of sides.1)
 
--- At a line of rates of a unit of this name. A unit that has a line of rates alone is a unit of the problem.
+-- The fault of a line of rates of a unit of this name. A unit that has only a line of rates is a
+-- unit of the problem.
 abbrev pub rates_kind : Settings → Names → List ℕ → List Pair × List Pair → Option TextKind
 rates_kind s names name sides =
     if not (is_among names.units name) && is_unit_turned s [] then Some LowAboveHigh
@@ -219,9 +262,10 @@ rates_kind s names name sides =
 abbrev pub is_unit : Names → List ℕ → Bool
 is_unit names item = is_among names.units item || is_among names.rates item
 
--- at an exclusion of these members
+-- the fault of an exclusion of these members
 abbrev pub exclusion_kind : Names → List (List ℕ) → Option TextKind
-exclusion_kind names members = if list_any (λ item. not (is_unit names item)) members then Some UnknownUnit else None
+exclusion_kind names members =
+    if list_any (λ item. not (is_unit names item)) members then Some UnknownUnit else None
 
 abbrev pub entry_meaning : Settings → Names → Section → List ℕ → Option TextKind
 entry_meaning s names Preamble text = None
@@ -233,20 +277,22 @@ entry_meaning s names Rates text = rates_kind s names (head_of text) (pairs_at t
 entry_meaning s names Exclusions text = exclusion_kind names (items_of text)
 
 abbrev pub line_meaning : Settings → Names → Placed → Option TextKind
-line_meaning s names line = if line.header then None else entry_meaning s names line.section line.text
+line_meaning s names line =
+    if line.header then None else entry_meaning s names line.section line.text
 
--- the first of the lines at which a kind stands, with that kind
+-- the first of the lines that has a fault of meaning, with its kind
 abbrev pub first_meaning : Settings → Names → List Placed → Option Fault
 first_meaning s names [] = None
-first_meaning s names (line ∷ lines) = fault_or line.number (line_meaning s names line) (first_meaning s names lines)
+first_meaning s names (line ∷ lines) =
+    fault_or line.number (line_meaning s names line) (first_meaning s names lines)
 
 -- ---- texts
 
 abbrev pub has_product : List Material → Bool
 has_product = list_any (λ (m : Material). is_product m.kind)
 
--- The problem where it has a product. That no material is one is told at the line behind all lines, which has the number, and so
--- behind all other faults.
+-- The problem if it has a product. The fault that no material is one is reported at the line after
+-- the last, which has the number, so after all other faults.
 abbrev pub with_product : ℕ → Problem → Result Problem Fault
 with_product number p = if has_product p.materials then Ok p else Err (number, NoProduct)
 
@@ -256,12 +302,15 @@ or_first None rest = rest
 
 -- the first fault of meaning of these lines, or the problem
 abbrev pub meaning_at : List Placed → ℕ → Result Problem Fault
-meaning_at lines number = or_first (first_meaning (settings_of lines) (names_all lines) lines) (with_product number (problem_from lines))
+meaning_at lines number =
+    or_first (first_meaning (settings_of lines) (names_all lines) lines)
+    (with_product number (problem_from lines))
 
 -- the problem that the lines stand for, or the first fault
 abbrev pub read_lines : List (List ℕ) → Result Problem Fault
 read_lines texts = or_first (form_fault texts) (meaning_at (meant_of texts) (length texts + 1))
 
--- the problem that a text stands for, or its first fault: what a reader of problem texts is to answer
+-- the problem that a text stands for, or its first fault: what a reader of problem texts has to
+-- answer
 abbrev pub read_text : List ℕ → Result Problem Fault
 read_text bytes = read_lines (lines_of bytes)

@@ -1,42 +1,47 @@
-//! The problem text PNS_problem_v1 as definitions: its lines, the faults that stand at each, the problem that a text
-//! without a fault stands for, and the canonical text of a problem.
+//! The text of a plant: its lines and faults, its problem, its canonical text.
 //!
-//! `specs/` states the format, from the bytes up: `Blanks`, `Amount` (numbers), `Line` (lines and sections), `Field` (names,
-//! items, sides of a line), `Fault` (faults of form), `Value` (the problem, and faults of meaning), `Printed` and `Canonical`
-//! (what is written). `read_text` of `Value` is the whole: a problem, or the first fault with its line. `proofs/` reads
-//! small texts by computation, one at least for each kind of fault. `Outside` says what is known of files and of an output.
+//! The format is PNS_problem_v1. `specs/` states it from the bytes up: `Blanks`, `Amount`
+//! (numbers), `Line` (lines and sections), `Field` (names, items and sides of a line), `Fault`
+//! (faults of form), `Value` (the problem, and faults of meaning), `Printed` and `Canonical` (what
+//! is written). `read_text` of `Value` gives the problem of a text, or the first fault with its
+//! line. `proofs/` reads small texts by computation, at least one for each kind of fault. `Outside`
+//! says what is known of files and of an output.
 //!
-//! A fault of form is looked for first in the whole text, a fault of meaning (`LowAboveHigh`, `UnknownMaterial`, `NoRates`,
-//! `NoProduct`, `UnknownUnit`) only where there is none of form. Of each group the least line is told, and of the faults at
-//! one line the first in the order of [`TextKind`].
+//! The whole text is first searched for a fault of form. Faults of meaning (`LowAboveHigh`,
+//! `UnknownMaterial`, `NoRates`, `NoProduct`, `UnknownUnit`) count only if there is no fault of
+//! form. In each group the fault of the first line is reported, and of the faults at one line the
+//! first in the order of [`TextKind`].
 #![tactic(auto)]
 
-/// A fault of a problem text. The order of the variants is the order in which faults of one line are told.
+/// A kind of fault of a problem text. Of several kinds at one line the first in the order of the
+/// variants is reported.
 #[derive(Clone, Copy, Debug, PartialEq, Eq)]
 pub enum TextKind {
-    /// The first line is another text than `file_type=PNS_problem_v1`, or is missing.
+    /// The first line is not `file_type=PNS_problem_v1`, or is missing.
     FileType,
-    /// A name and a colon with nothing after it, that is no section's header.
+    /// A name and a colon with nothing after it, but the name is not that of a section.
     UnknownSection,
     /// A header that came before.
     DoubleSection,
-    /// A line without its section's form, as far as `:`, `,`, `=`, `=>`, `+` and the number of tokens in a term go.
+    /// A line that does not have the form of its section, as far as `:`, `,`, `=`, `=>`, `+` and
+    /// the number of tokens in a term go.
     BadLine,
-    /// A text in the place of a name that is no name.
+    /// A text in the place of a name that is not a name.
     BadName,
     /// A key that is not among the section's keys.
     UnknownKey,
     /// A key twice in one line or twice among the defaults; a second kind word of a material.
     DoubleKey,
-    /// A value, or the first of two tokens of a term, that is no number.
+    /// A value, or the first of two tokens of a term, that is not a number.
     BadNumber,
     /// A number that is not a whole number of millionths.
     TooFine,
     /// A number of more than 10^15 millionths, whatever its sign.
     TooLarge,
-    /// A bound, a fixed cost, an investment fixed cost or a rate below 0, used or not.
+    /// A bound, a fixed cost, an investment fixed cost or a rate that is below 0, used or not.
     Negative,
-    /// An item of a material without `=`, or a value of `material_type`, that is no kind word.
+    /// An item of a material without `=` that is not a kind word, or a value of `material_type`
+    /// that is not one.
     UnknownKind,
     /// A rate of 0.
     ZeroRate,
@@ -52,11 +57,11 @@ pub enum TextKind {
     DoubleUnit,
     /// A second rates line of a unit.
     DoubleRates,
-    /// The line of the 257th material; the first line of an operating unit or of rates that begins with the 129th different
-    /// unit name; the line of the 65th exclusion.
+    /// The line of the 257th material; the first line of an operating unit or of rates that begins
+    /// with the 129th different unit name; the line of the 65th exclusion.
     TooMany,
-    /// A material or unit whose lower bound is above its upper, defaults filled in; of a unit that has a rates line alone, at
-    /// that line. A fault of meaning.
+    /// A material or unit whose lower bound is above its upper, with defaults filled in; if a unit
+    /// has a rates line alone, at that line. A fault of meaning.
     LowAboveHigh,
     /// A rates line with a material that has no line. A fault of meaning.
     UnknownMaterial,
@@ -70,18 +75,19 @@ pub enum TextKind {
     DoubleMember,
     /// An exclusion with fewer than two units.
     FewMembers,
-    /// An exclusion with a unit that the problem has not. A fault of meaning.
+    /// An exclusion with a unit that the problem does not have. A fault of meaning.
     UnknownUnit,
-    /// A `payout_period` among the defaults that is a number but no whole number of years from 1 to 100.
+    /// A `payout_period` among the defaults that is a number but not a whole number of years from 1
+    /// to 100.
     BadPayout,
 }
 
 /// A section of a problem text.
 #[derive(Clone, Copy, Debug, PartialEq, Eq)]
 pub enum Section {
-    /// What stands before the first header; its lines are read past.
+    /// The lines before the first header, which are skipped.
     Preamble,
-    /// `measurement_units:`; its lines are read past.
+    /// `measurement_units:`, whose lines are skipped.
     MeasurementUnits,
     /// `defaults:`, values for what the lines of materials and units leave out.
     Defaults,
@@ -89,7 +95,8 @@ pub enum Section {
     Materials,
     /// `operating_units:`, a line for each operating unit with values of its own.
     OperatingUnits,
-    /// `material_to_operating_unit_flow_rates:`, a line for each operating unit with its inputs and outputs.
+    /// `material_to_operating_unit_flow_rates:`, a line for each operating unit with its inputs and
+    /// outputs.
     Rates,
     /// `mutual_exclusions:`, a line for each set of units of which a network has at most one.
     Exclusions,

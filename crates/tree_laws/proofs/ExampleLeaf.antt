@@ -1,5 +1,6 @@
--- One more kind of leaf beside those of a search: it names units, and stands where just these are taken in and no unit is free.
--- It has rules, so what is proved of trees holds of trees with such leaves.
+-- One more kind of leaf besides those of a search: it names units, and passes if just these are
+-- taken in and no unit is free. It has rules, so what is proved of trees is true of trees with such
+-- leaves.
 use Rattle.std.proofs.Common.{◌≡◌, ℕ, ◌<◌, Bool, false, List, [], ◌∷◌, Option, inl}
 use Rattle.number_sets.specs.Sets.{has}
 use Rattle.problem_rules.specs.Problem.{Problem}
@@ -15,7 +16,8 @@ use Rattle.tree_rules.specs.Fault.{Fails, AreLeafRules, IsFirstFault}
 use Rattle.tree_rules.specs.Claim.{CostOver}
 use Rattle.tree_rules.specs.Leaf.{Leaf, LeafPasses, LeafFails}
 use Rattle.tree_laws.proofs.CoverLemmas.{IsUnder, covers}
-use Rattle.tree_laws.proofs.FaultLemmas.{holds, one_of, none, neither, leaf_passes, leaf_one, tree_passes, tree_one}
+use Rattle.tree_laws.proofs.FaultLemmas.{holds, one_of, none, neither, leaf_passes, leaf_one}
+use Rattle.tree_laws.proofs.FaultLemmas.{tree_passes, tree_one}
 
 data NamingLeaf : Type 0 where
   plain : Leaf → NamingLeaf
@@ -37,7 +39,8 @@ module _ (p : Problem) (claimed : Option CostOver) where
   apart n (plain l) why c f = leaf_passes false p claimed n l why c f
   apart n (named us) why c f = holds _ _ _ why c none f
 
-  one : (n : Node) (l : NamingLeaf) (why other : Why) → FailsFor n l why → FailsFor n l other → why ≡ other
+  one : (n : Node) (l : NamingLeaf) (why other : Why) → FailsFor n l why → FailsFor n l other
+      → why ≡ other
   one n (plain l) why other = leaf_one false p claimed n l why other
   one n (named us) why other = one_of _ _ _ _ why other (neither why other)
 
@@ -45,11 +48,18 @@ module _ (p : Problem) (claimed : Option CostOver) where
   rules = record { apart = apart; one = one }
 
   module _ (start : Node) (ts : List (TreeNode NamingLeaf)) where
-    covered : IsValid p → Pass (shape_of p) Passes (start ∷ []) ts → (s : ℕ → Bool) → InFamily (shape_of p) start.inside start.outside s → IsUnder (shape_of p) Passes (start ∷ []) ts s
-    covered valid pass s f = covers (shape_of p) s (proper_if_valid p valid) Passes (start ∷ []) ts pass (inl f)
+    covered : IsValid p → Pass (shape_of p) Passes (start ∷ []) ts → (s : ℕ → Bool)
+        → InFamily (shape_of p) start.inside start.outside s
+        → IsUnder (shape_of p) Passes (start ∷ []) ts s
+    covered valid pass s f =
+        covers (shape_of p) s (proper_if_valid p valid) Passes (start ∷ []) ts pass (inl f)
 
-    faultless : (k : ℕ) (why : Why) → Pass (shape_of p) Passes (start ∷ []) ts → IsFirstFault (shape_of p) Passes FailsFor (start ∷ []) ts k why → ⊥
+    faultless : (k : ℕ) (why : Why) → Pass (shape_of p) Passes (start ∷ []) ts
+        → IsFirstFault (shape_of p) Passes FailsFor (start ∷ []) ts k why → ⊥
     faultless = tree_passes (shape_of p) Passes FailsFor rules (start ∷ []) ts
 
-    one_fault : (j k : ℕ) (why other : Why) → IsFirstFault (shape_of p) Passes FailsFor (start ∷ []) ts j why → IsFirstFault (shape_of p) Passes FailsFor (start ∷ []) ts k other → (j ≡ k) × (why ≡ other)
+    one_fault : (j k : ℕ) (why other : Why)
+        → IsFirstFault (shape_of p) Passes FailsFor (start ∷ []) ts j why
+        → IsFirstFault (shape_of p) Passes FailsFor (start ∷ []) ts k other → (j ≡ k)
+        × (why ≡ other)
     one_fault = tree_one (shape_of p) Passes FailsFor rules (start ∷ []) ts

@@ -1,4 +1,5 @@
-ghost use Rattle.tree_laws.specs.Laws.{LeavesHaveRules, PassingClaimHasNoFault, ClaimHasOneFault, PassingTreeHasNoFault, TreeHasOneFault};
+ghost use Rattle.tree_laws.specs.Laws.{LeavesHaveRules, PassingClaimHasNoFault, ClaimHasOneFault};
+ghost use Rattle.tree_laws.specs.Laws.{PassingTreeHasNoFault, TreeHasOneFault};
 
 /// A claim that passes fails for no cause, and one that fails does so for one cause.
 pub fn claim_has_one_fault()

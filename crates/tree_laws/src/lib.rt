@@ -1,9 +1,14 @@
-//! What an accepted branch tree proves: no allowed solution structure undercuts the claim, and what is claimed has flows; what
-//! a partial tree proves; how many nodes a lean tree has at most; and that a tree passes or has one first fault, never both. They
-//! hold of each way to branch, since the children of each part the family of their node.
+//! An accepted tree proves its claim, a partial tree but for its open leaves.
 //!
-//! The lemmas in `proofs/` speak of any leaves: `P` tells which pass, and `F` for which cause one fails (`AreLeafRules`). The laws stand in `specs/Laws`, over the definitions of `tree_rules`. Each is the contract of a function without a body,
-//! which a proof elsewhere calls to have it.
+//! No clash-free solution structure undercuts an accepted claim, and what is claimed has flows.
+//! Other laws say how many nodes a lean tree has at most, and that a tree passes or has one first
+//! fault, never both. They are the same for each way to branch, since the families of the children
+//! split the family of their node.
+//!
+//! The lemmas in `proofs/` are over any leaves: `P` says which pass, and `F` for which cause one
+//! fails (`AreLeafRules`). The laws are in `specs/Laws`, over the definitions of `tree_rules`. Each
+//! is the contract of a function without a body. A proof elsewhere calls the function to use the
+//! law.
 #![tactic(auto)]
 
 mod accepted;

@@ -1,5 +1,7 @@
 -- The open leaf that has the node of a part, the cheaper network, and open ends.
-use Rattle.std.proofs.Common.{◌≡◌, ◌+◌, ◌<◌, ◌≤◌, ◌||◌, ◌*ℤ◌, ◌<ℤ◌, ℕ, zero, suc, Bool, true, false, int_lt, if◌then◌else◌, List, [], ◌∷◌, ◌++◌, length, take, get_or, refl, sym, ap, ◌∙◌, subst, inl, inr, ◌⊎◌, arith, add-one}
+use Rattle.std.proofs.Common.{◌≡◌, ◌+◌, ◌<◌, ◌≤◌, ◌||◌, ◌*ℤ◌, ◌<ℤ◌, ℕ, zero, suc, Bool, true, false}
+use Rattle.std.proofs.Common.{int_lt, if◌then◌else◌, List, [], ◌∷◌, ◌++◌, length, take, get_or}
+use Rattle.std.proofs.Common.{refl, sym, ap, ◌∙◌, subst, inl, inr, ◌⊎◌, arith, add-one}
 use Rattle.std.proofs.lemmas.Int.{ints}
 use Rattle.std.proofs.lemmas.List.{map-append}
 use Rattle.std.proofs.Math.Seq.{take-suc, take-length}
@@ -25,23 +27,33 @@ same_nodes a b e f = λ i. record { inside = has (e i); outside = has (f i) }
 same_lists : (xs ys : List ℕ) → IsSet 128 xs → IsSet 128 ys → has xs ≡ has ys → xs ≡ ys
 same_lists xs ys a b e = same_sets xs ys a.rising b.rising (λ u. ap (λ (f : ℕ → Bool). f u) e)
 
-pub nodes_same : (a b : Node) → IsSet 128 a.inside → IsSet 128 a.outside → IsSet 128 b.inside → IsSet 128 b.outside → node_of a ≡ node_of b → (a.inside ≡ b.inside) × (a.outside ≡ b.outside)
-nodes_same a b ai ao bi bo e = (same_lists a.inside b.inside ai bi (ap (λ (n : rules.Node). n.inside) e), same_lists a.outside b.outside ao bo (ap (λ (n : rules.Node). n.outside) e))
+pub nodes_same : (a b : Node) → IsSet 128 a.inside → IsSet 128 a.outside → IsSet 128 b.inside
+    → IsSet 128 b.outside → node_of a ≡ node_of b → (a.inside ≡ b.inside) × (a.outside ≡ b.outside)
+nodes_same a b ai ao bi bo e = (
+  same_lists a.inside b.inside ai bi (ap (λ (n : rules.Node). n.inside) e),
+  same_lists a.outside b.outside ao bo (ap (λ (n : rules.Node). n.outside) e),
+)
 
 -- ---- leaves
 
-among_here : (leaves : List OpenLeaf) (i : ℕ) (leaf : OpenLeaf) → i < length leaves → leaf ≡ get_or leaves i leaf → IsAmong (leaf_at leaf) (leaves_at leaves)
+among_here : (leaves : List OpenLeaf) (i : ℕ) (leaf : OpenLeaf) → i < length leaves
+    → leaf ≡ get_or leaves i leaf → IsAmong (leaf_at leaf) (leaves_at leaves)
 among_here [] i leaf h e = absurd (omega arith)
 among_here (l ∷ ls) zero leaf h e = inl (ap leaf_at e)
 among_here (l ∷ ls) (suc i) leaf h e = inr (among_here ls i leaf (omega arith) e)
 
-pub leaf_found : (leaves : List OpenLeaf) (start : Node) (i : ℕ) (leaf : OpenLeaf) → i < length leaves → leaf ≡ get_or leaves i leaf → node_of leaf.node ≡ node_of start → IsAmong (record { number = leaf.number; node = node_of start }) (leaves_at leaves)
+pub leaf_found : (leaves : List OpenLeaf) (start : Node) (i : ℕ) (leaf : OpenLeaf)
+    → i < length leaves → leaf ≡ get_or leaves i leaf → node_of leaf.node ≡ node_of start
+    → IsAmong (record { number = leaf.number; node = node_of start }) (leaves_at leaves)
 leaf_found leaves start i leaf h e same =
-    subst (λ (n : rules.Node). IsAmong (record { number = leaf.number; node = n }) (leaves_at leaves)) same (among_here leaves i leaf h e)
+    subst
+    (λ (n : rules.Node). IsAmong (record { number = leaf.number; node = n }) (leaves_at leaves))
+    same (among_here leaves i leaf h e)
 
 -- no leaf before place i has the node
 pub record IsNotYet (leaves : List OpenLeaf) (start : Node) (i : ℕ) : Type 0 where
-  pub none : (k : ℕ) → IsAmong (record { number = k; node = node_of start }) (leaves_at (take i leaves)) → ⊥
+  pub none : (k : ℕ)
+      → IsAmong (record { number = k; node = node_of start }) (leaves_at (take i leaves)) → ⊥
 
 pub not_yet : (leaves : List OpenLeaf) (start : Node) → IsNotYet leaves start 0
 not_yet leaves start = record { none = λ k h. h }
@@ -51,7 +63,9 @@ among_one l [] ys h = inr h
 among_one l (x ∷ xs) ys (inl e) = inl (inl e)
 among_one l (x ∷ xs) ys (inr h) = elim (among_one l xs ys h) [ inl p ↦ inl (inr p) | inr q ↦ inr q ]
 
-pub not_here : (leaves : List OpenLeaf) (start : Node) (i : ℕ) (leaf : OpenLeaf) → i < length leaves → leaf ≡ get_or leaves i leaf → (node_of leaf.node ≡ node_of start → ⊥) → IsNotYet leaves start i → IsNotYet leaves start (i + 1)
+pub not_here : (leaves : List OpenLeaf) (start : Node) (i : ℕ) (leaf : OpenLeaf) → i < length leaves
+    → leaf ≡ get_or leaves i leaf → (node_of leaf.node ≡ node_of start → ⊥)
+    → IsNotYet leaves start i → IsNotYet leaves start (i + 1)
 not_here leaves start i leaf h e apart is = record {
   none = λ k a.
       let more : leaves_at (take (i + 1) leaves) ≡ leaves_at (take i leaves) ++ leaf_at leaf ∷ [] =
@@ -59,16 +73,26 @@ not_here leaves start i leaf h e apart is = record {
       ∙ ap (λ (ls : List OpenLeaf). leaves_at ls) (take-suc leaves i leaf h)
       ∙ ap (λ (l : OpenLeaf). leaves_at (take i leaves ++ l ∷ [])) (sym e)
       ∙ map-append leaf_at (take i leaves) (leaf ∷ []) in
-      elim (among_one (record { number = k; node = node_of start }) (leaves_at (take i leaves)) (leaf_at leaf ∷ []) (subst (λ (ls : List OpenAt). IsAmong (record { number = k; node = node_of start }) ls) more a)) [
+      elim
+      (among_one (record { number = k; node = node_of start }) (leaves_at (take i leaves))
+      (leaf_at leaf ∷ [])
+      (subst (λ (ls : List OpenAt). IsAmong (record { number = k; node = node_of start }) ls)
+      more a)) [
         | inl p ↦ is.none k p
         | inr q ↦ elim q [ inl s ↦ apart (ap (λ (o : OpenAt). o.node) (sym s)) | inr r ↦ absurd r ]
       ];
 }
 
-pub nowhere : (leaves : List OpenLeaf) (start : Node) (i : ℕ) → length leaves ≤ i → i ≤ length leaves → IsNotYet leaves start i → (k : ℕ) → IsAmong (record { number = k; node = node_of start }) (leaves_at leaves) → ⊥
+pub nowhere : (leaves : List OpenLeaf) (start : Node) (i : ℕ) → length leaves ≤ i
+    → i ≤ length leaves → IsNotYet leaves start i → (k : ℕ)
+    → IsAmong (record { number = k; node = node_of start }) (leaves_at leaves) → ⊥
 nowhere leaves start i low high is k a =
     is.none k
-    (subst (λ (ls : List OpenLeaf). IsAmong (record { number = k; node = node_of start }) (leaves_at ls)) (sym (ap (λ (j : ℕ). take j leaves) (let e : i ≡ length leaves = omega arith in e) ∙ take-length leaves)) a)
+    (subst
+    (λ (ls : List OpenLeaf). IsAmong (record { number = k; node = node_of start })
+    (leaves_at ls))
+    (sym (ap (λ (j : ℕ). take j leaves) (let e : i ≡ length leaves = omega arith in e)
+    ∙ take-length leaves)) a)
 
 -- ---- costs
 
@@ -93,10 +117,14 @@ or_later : (a b : Bool) → true ≡ b → true ≡ (a || b)
 or_later true b e = refl
 or_later false b e = e
 
-pub open_at : (ts : Tree) (i : ℕ) (t : TreeNode Leaf) → i < length ts → t ≡ get_or ts i t → is_open t.end ≡ true → true ≡ has_open ts
+pub open_at : (ts : Tree) (i : ℕ) (t : TreeNode Leaf) → i < length ts → t ≡ get_or ts i t
+    → is_open t.end ≡ true → true ≡ has_open ts
 open_at [] i t h e o = absurd (omega arith)
-open_at (x ∷ xs) zero t h e o = sym (ap (λ (b : Bool). b || has_open xs) (ap (λ (y : TreeNode Leaf). is_open y.end) (sym e) ∙ o))
-open_at (x ∷ xs) (suc i) t h e o = or_later (is_open x.end) (has_open xs) (open_at xs i t (omega arith) e o)
+open_at (x ∷ xs) zero t h e o =
+    sym (ap (λ (b : Bool). b || has_open xs)
+    (ap (λ (y : TreeNode Leaf). is_open y.end) (sym e) ∙ o))
+open_at (x ∷ xs) (suc i) t h e o =
+    or_later (is_open x.end) (has_open xs) (open_at xs i t (omega arith) e o)
 
 -- no node before place i is open
 pub record IsShut (ts : Tree) (i : ℕ) : Type 0 where
@@ -107,13 +135,15 @@ shut_none ts = record { shut = refl }
 
 open-append : (xs ys : Tree) → has_open (xs ++ ys) ≡ (has_open xs || has_open ys)
 open-append [] ys = refl
-open-append (x ∷ xs) ys = ap (λ (b : Bool). is_open x.end || b) (open-append xs ys) ∙ at (is_open x.end)
+open-append (x ∷ xs) ys = ap (λ (b : Bool). is_open x.end || b) (open-append xs ys)
+    ∙ at (is_open x.end)
   where
     at : (b : Bool) → (b || (has_open xs || has_open ys)) ≡ ((b || has_open xs) || has_open ys)
     at true = refl
     at false = refl
 
-pub shut_more : (ts : Tree) (i : ℕ) (t : TreeNode Leaf) → i < length ts → t ≡ get_or ts i t → is_open t.end ≡ false → IsShut ts i → IsShut ts (i + 1)
+pub shut_more : (ts : Tree) (i : ℕ) (t : TreeNode Leaf) → i < length ts → t ≡ get_or ts i t
+    → is_open t.end ≡ false → IsShut ts i → IsShut ts (i + 1)
 shut_more ts i t h e o is = record {
   shut =
       ap (λ (j : ℕ). has_open (take j ts)) (add-one i)
@@ -124,5 +154,9 @@ shut_more ts i t h e o is = record {
       ∙ ap (λ (b : Bool). b || false) o;
 }
 
-pub shut_all : (ts : Tree) (i : ℕ) → length ts ≤ i → i ≤ length ts → IsShut ts i → false ≡ has_open ts
-shut_all ts i low high is = sym (ap (λ (us : Tree). has_open us) (sym (ap (λ (j : ℕ). take j ts) (let e : i ≡ length ts = omega arith in e) ∙ take-length ts)) ∙ is.shut)
+pub shut_all : (ts : Tree) (i : ℕ) → length ts ≤ i → i ≤ length ts → IsShut ts i
+    → false ≡ has_open ts
+shut_all ts i low high is =
+    sym (ap (λ (us : Tree). has_open us)
+    (sym (ap (λ (j : ℕ). take j ts) (let e : i ≡ length ts = omega arith in e) ∙ take-length ts))
+    ∙ is.shut)

@@ -20,7 +20,8 @@ AreWithin n (s ∷ ss) = (s.place < n) × (0 < length s.part) × AreWithin n ss
 
 -- the part waits for an open leaf that has its node, between the parts for leaves before it and
 -- those for leaves after it
-pub record IsOneMore (leaves : List OpenAt) (part : parts.Part) (old new : List Splice) : Type 0 where
+pub record IsOneMore (leaves : List OpenAt) (part : parts.Part) (old new : List Splice) : Type
+    0 where
   pub place : ℕ
   pub front : List Splice
   pub back : List Splice

@@ -1,5 +1,6 @@
 //! A part that is put back.
-ghost use Rattle.std.specs.Prelude.{◌≡◌, ◌<◌, ◌+◌, ◌-◌, ◌^◌, ◌↔◌, ◌∷◌, ◌<ℤ◌, ◌*ℤ◌, [], ℕ, length, IsTrue, OnOk, IfOk, IfErr, IfSome, IfNone};
+ghost use Rattle.std.specs.Prelude.{◌≡◌, ◌<◌, ◌+◌, ◌-◌, ◌^◌, ◌↔◌, ◌∷◌, ◌<ℤ◌, ◌*ℤ◌, [], ℕ, length};
+ghost use Rattle.std.specs.Prelude.{IsTrue, OnOk, IfOk, IfErr, IfSome, IfNone};
 ghost use Rattle.problem_rules.specs.Problem.{Problem};
 ghost use Rattle.pns_rules.specs.Shape.{shape_of};
 ghost use Rattle.tree_rules.specs.Claim as rules;
@@ -41,8 +42,12 @@ fn are_same(a: &Node, b: &Node) -> bool
 
 /// The open leaf at the node, by its number.
 pub(crate) fn leaf_at(leaves: &[OpenLeaf], start: &Node) -> Option<u32>
-    ensures some { IfSome result (λ k. IsAmong (record { number = k; node = node_of start.now }) (leaves_at leaves.now)) }
-    ensures none { IfNone result ((k : ℕ) → IsAmong (record { number = k; node = node_of start.now }) (leaves_at leaves.now) → ⊥) }
+    ensures some { IfSome result
+        (λ k. IsAmong (record { number = k; node = node_of start.now }) (leaves_at leaves.now)) }
+    ensures none { IfNone result
+        ((k : ℕ)
+        → IsAmong (record { number = k; node = node_of start.now }) (leaves_at leaves.now)
+        → ⊥) }
 {
     'looking: for leaf in leaves {
         if are_same(&leaf.node, start) {
@@ -114,7 +119,9 @@ fn claim_of_both(
     other: &Claim,
     nodes: &[TreeNode],
 ) -> Result<Claim, AllocError>
-    ensures { IfOk result (λ claim. claim_of claim ≡ grafts.claim_of_both (claim_of own.now) (claim_of other.now) nodes.now) }
+    ensures { IfOk result
+        (λ claim. claim_of claim
+        ≡ grafts.claim_of_both (claim_of own.now) (claim_of other.now) nodes.now) }
 {
     match (own, other) {
         (Claim::Network(own), Claim::Network(other)) => {
@@ -163,7 +170,9 @@ fn put_back(
 ) -> Result<(Claim, Tree), AllocError>
     requires { (p : Problem) × IsLeafOf p tree.now part.now at }
     ensures tree { IfOk result (λ found. found.1 ≡ grafts.graft_at at tree.now part.now.tree) }
-    ensures claim { IfOk result (λ found. claim_of found.0 ≡ grafts.claim_of_both (claim_of claim.now) part.now.claim found.1) }
+    ensures claim { IfOk result
+        (λ found. claim_of found.0
+        ≡ grafts.claim_of_both (claim_of claim.now) part.now.claim found.1) }
 {
     grafts_are_partial();
     tree.is_tree();
@@ -182,8 +191,11 @@ pub(crate) fn leaves_of(
     tree: &Tree,
 ) -> Result<Vec<OpenLeaf>, MergeFault>
     ensures partial { OnOk result (IsPartial site.now first_node (claim_of claim.now) tree.now) }
-    ensures leaves { IfOk result (λ v. leaves_at v.items ≡ open_leaves (shape_of site.now) (first_node ∷ []) tree.now 0) }
-    ensures fault { IfErr result (λ fault. (part : parts.Part) → MergeFails site.now (claim_of claim.now) tree.now part fault) }
+    ensures leaves { IfOk result
+        (λ v. leaves_at v.items ≡ open_leaves (shape_of site.now) (first_node ∷ []) tree.now 0) }
+    ensures fault { IfErr result
+        (λ fault. (part : parts.Part)
+        → MergeFails site.now (claim_of claim.now) tree.now part fault) }
 {
     if (u32::MAX as usize) < tree.nodes().len() {
         return Err(MergeFault::Memory);
@@ -198,8 +210,12 @@ pub(crate) fn leaves_of(
 // Judges the part. For a part with too many nodes to be numbered the answer is `Memory`.
 pub(crate) fn judge_part(alloc: Global, site: &Site<'_>, part: &Part) -> Result<(), MergeFault>
     requires { KnowsInside (shape_of site.now) (start_of part.now) }
-    ensures partial { OnOk result (IsPartial site.now (start_of part.now) part.now.claim part.now.tree) }
-    ensures fault { IfErr result (λ fault. (claim : rules.Claim) (tree : trees.Tree) → IsPartial site.now first_node claim tree → MergeFails site.now claim tree part.now fault) }
+    ensures partial { OnOk result
+        (IsPartial site.now (start_of part.now) part.now.claim part.now.tree) }
+    ensures fault { IfErr result
+        (λ fault. (claim : rules.Claim) (tree : trees.Tree)
+        → IsPartial site.now first_node claim tree
+        → MergeFails site.now claim tree part.now fault) }
 {
     if (u32::MAX as usize) < part.tree().nodes().len() {
         return Err(MergeFault::Memory);
@@ -224,7 +240,9 @@ pub fn merge(
 ) -> Result<(Claim, Tree), MergeFault>
     requires known { KnowsInside (shape_of site.now) (start_of part.now) }
     requires few { length tree.now + length part.now.tree < 2 ^ 32 - 1 }
-    ensures merged { IfOk result (λ found. IsMerged site.now (claim_of claim.now) tree.now part.now (claim_of found.0) found.1) }
+    ensures merged { IfOk result
+        (λ found. IsMerged site.now (claim_of claim.now) tree.now part.now (claim_of found.0)
+        found.1) }
     ensures fault { IfErr result (MergeFails site.now (claim_of claim.now) tree.now part.now) }
 {
     grafts_are_partial();

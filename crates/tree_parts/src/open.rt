@@ -29,10 +29,13 @@ pub fn open_leaves(
 ) -> Result<Vec<OpenLeaf>, Refusal>
     requires few { length tree.now < 2 ^ 32 }
     ensures partial { OnOk result (IsPartial site.now first_node (claim_of claim.now) tree.now) }
-    ensures opens { IsPartial site.now first_node (claim_of claim.now) tree.now → IsOkOrMemory result }
-    ensures leaves { IfOk result (λ v. leaves_at v.items ≡ open_leaves (shape_of site.now) (first_node ∷ []) tree.now 0) }
+    ensures opens { IsPartial site.now first_node (claim_of claim.now) tree.now
+        → IsOkOrMemory result }
+    ensures leaves { IfOk result
+        (λ v. leaves_at v.items ≡ open_leaves (shape_of site.now) (first_node ∷ []) tree.now 0) }
     // A refusal names the first fault. A first fault is named, unless there is no memory.
-    ensures refused { IfErr result (Refuses true site.now first_node (claim_of claim.now) tree.now) }
+    ensures refused { IfErr result
+        (Refuses true site.now first_node (claim_of claim.now) tree.now) }
     ensures names_claim { NamesClaim true site.now (claim_of claim.now) result }
     ensures names_node { NamesNode true site.now first_node (claim_of claim.now) tree.now result }
 {
@@ -47,12 +50,16 @@ pub fn open_leaves(
 pub fn check_part(alloc: Global, site: &Site<'_>, part: &Part) -> Result<(), Refusal>
     requires known { KnowsInside (shape_of site.now) (start_of part.now) }
     requires few { length part.now.tree < 2 ^ 32 }
-    ensures partial { OnOk result (IsPartial site.now (start_of part.now) part.now.claim part.now.tree) }
-    ensures passes { IsPartial site.now (start_of part.now) part.now.claim part.now.tree → IsOkOrMemory result }
+    ensures partial { OnOk result
+        (IsPartial site.now (start_of part.now) part.now.claim part.now.tree) }
+    ensures passes { IsPartial site.now (start_of part.now) part.now.claim part.now.tree
+        → IsOkOrMemory result }
     // A refusal names the first fault. A first fault is named, unless there is no memory.
-    ensures refused { IfErr result (Refuses true site.now (start_of part.now) part.now.claim part.now.tree) }
+    ensures refused { IfErr result
+        (Refuses true site.now (start_of part.now) part.now.claim part.now.tree) }
     ensures names_claim { NamesClaim true site.now part.now.claim result }
-    ensures names_node { NamesNode true site.now (start_of part.now) part.now.claim part.now.tree result }
+    ensures names_node { NamesNode true site.now (start_of part.now) part.now.claim part.now.tree
+        result }
 {
     let start = part.start();
     match check_from(alloc, site, &start, true, part.claim(), part.tree()) {

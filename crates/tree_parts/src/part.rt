@@ -24,7 +24,14 @@ impl Model for Part {
 
     ghost Value = { rules.Part };
 
-    ghost view = { λ p. record { inside = p.start.inside; outside = p.start.outside; claim = claim_of p.claim; tree = p.tree; tail = tail_of p.tail } };
+    ghost view = { λ p. record {
+      inside = p.start.inside;
+      outside = p.start.outside;
+      claim =
+          claim_of p.claim;
+      tree = p.tree;
+      tail = tail_of p.tail;
+    } };
 
     ghost invariant = { λ p. IsApart p.start.inside p.start.outside };
 }
@@ -33,7 +40,15 @@ impl Part {
     /// The part of a run from the node.
     pub fn of(start: Node, claim: Claim, tree: Tree, tail: Tail) -> Part
         requires { IsApart start.inside start.outside }
-        ensures { result ≡ record { inside = start.inside; outside = start.outside; claim = claim_of claim; tree = tree; tail = tail_of tail } }
+        ensures { result
+            ≡ record {
+              inside = start.inside;
+              outside = start.outside;
+              claim =
+                  claim_of claim;
+              tree = tree;
+              tail = tail_of tail;
+            } }
     {
         Part {
             start,

@@ -1,5 +1,6 @@
 //! Several parts that are put back in turn.
-ghost use Rattle.std.specs.Prelude.{◌≡◌, ◌≤◌, ◌<◌, ◌+◌, ◌^◌, ℕ, true, false, [], length, take, OnOk, IfOk, IfErr};
+ghost use Rattle.std.specs.Prelude.{◌≡◌, ◌≤◌, ◌<◌, ◌+◌, ◌^◌, ℕ, true, false, [], length, take};
+ghost use Rattle.std.specs.Prelude.{OnOk, IfOk, IfErr};
 ghost use Rattle.problem_rules.specs.Each.{Each};
 ghost use Rattle.pns_rules.specs.Shape.{shape_of};
 ghost use Rattle.tree_rules.specs.Tree.{IsTree};
@@ -60,7 +61,8 @@ impl PartFault {
 
 // The cheaper network of two claims, or the first if the second is not cheaper.
 fn cheapest(alloc: Global, own: Claim, other: &Claim) -> Result<Claim, AllocError>
-    ensures { IfOk result (λ claim. claim_of claim ≡ splices.cheapest (claim_of own) (claim_of other.now)) }
+    ensures { IfOk result
+        (λ claim. claim_of claim ≡ splices.cheapest (claim_of own) (claim_of other.now)) }
 {
     match other {
         Claim::Network(other) => match own {
@@ -100,7 +102,9 @@ fn put_all(
     requires within { AreWithin (length tree) (splices_of waiting.items) }
     requires tree { IsTree (spliced (splices_of waiting.items) tree) }
     ensures tree { IfOk result (λ m. m.tree ≡ spliced (splices_of waiting.items) tree) }
-    ensures claim { IfOk result (λ m. claim_of m.claim ≡ splices.settled (claim_of claim) (spliced (splices_of waiting.items) tree)) }
+    ensures claim { IfOk result
+        (λ m. claim_of m.claim
+        ≡ splices.settled (claim_of claim) (spliced (splices_of waiting.items) tree)) }
     ensures count { IfOk result (λ m. m.count ≡ count) }
     ensures fault { IfErr result (λ stop. stop ≡ record { part = 0; fault = Memory }) }
 {
@@ -126,11 +130,19 @@ fn take_next(
 ) -> Result<bool, MergeFault>
     requires known { KnowsInside (shape_of site.now) (start_of part.now) }
     requires rising { AreRising (splices_of waiting.old.items) }
-    ensures partial { OnOk result (IsPartial site.now (start_of part.now) part.now.claim part.now.tree) }
-    ensures put { IfOk result (λ taken. taken ≡ true → IsOneMore (leaves_at leaves.now) part.now (splices_of waiting.old.items) (splices_of waiting.new.items)) }
+    ensures partial { OnOk result
+        (IsPartial site.now (start_of part.now) part.now.claim part.now.tree) }
+    ensures put { IfOk result (λ taken. taken ≡ true
+        → IsOneMore (leaves_at leaves.now) part.now (splices_of waiting.old.items)
+        (splices_of waiting.new.items)) }
     ensures kept { IfOk result (λ taken. taken ≡ false → waiting.new ≡ waiting.old) }
-    ensures none { IfOk result (λ taken. taken ≡ false → waiting.old.items ≡ [] → (k : ℕ) → IsAmong (record { number = k; node = start_of part.now }) (leaves_at leaves.now) → ⊥) }
-    ensures fault { IfErr result (λ fault. (claim : rules.Claim) (tree : trees.Tree) → IsPartial site.now first_node claim tree → MergeFails site.now claim tree part.now fault) }
+    ensures none { IfOk result
+        (λ taken. taken ≡ false → waiting.old.items ≡ [] → (k : ℕ)
+        → IsAmong (record { number = k; node = start_of part.now }) (leaves_at leaves.now) → ⊥) }
+    ensures fault { IfErr result
+        (λ fault. (claim : rules.Claim) (tree : trees.Tree)
+        → IsPartial site.now first_node claim tree
+        → MergeFails site.now claim tree part.now fault) }
 {
     judge_part(alloc, site, part)?;
     match put_by(alloc, leaves, waiting, part) {
@@ -152,8 +164,12 @@ fn merge_some(
     requires some { 0 < length parts.now }
     ensures some { IfOk result (λ m. 0 < m.count) }
     ensures within { IfOk result (λ m. m.count ≤ length parts.now) }
-    ensures merged { IfOk result (λ m. AreMerged site.now (claim_of claim) whole (take m.count parts.now) (claim_of m.claim) m.tree) }
-    ensures fault { IfErr result (λ stop. StopsAt site.now (claim_of claim) whole parts.now stop.part stop.fault) }
+    ensures merged { IfOk result
+        (λ m. AreMerged site.now (claim_of claim) whole (take m.count parts.now)
+        (claim_of m.claim)
+        m.tree) }
+    ensures fault { IfErr result
+        (λ stop. StopsAt site.now (claim_of claim) whole parts.now stop.part stop.fault) }
 {
     let leaves = match leaves_of(alloc, site, &claim, &whole) {
         Ok(leaves) => leaves,
@@ -199,8 +215,10 @@ pub fn merge_all(
     parts: &[Part],
 ) -> Result<(Claim, Tree), PartFault>
     requires known { Each (λ part. KnowsInside (shape_of site.now) (start_of part)) parts.now }
-    ensures merged { IfOk result (λ found. AreMerged site.now (claim_of claim) tree parts.now (claim_of found.0) found.1) }
-    ensures fault { IfErr result (λ stop. StopsAt site.now (claim_of claim) tree parts.now stop.part stop.fault) }
+    ensures merged { IfOk result
+        (λ found. AreMerged site.now (claim_of claim) tree parts.now (claim_of found.0) found.1) }
+    ensures fault { IfErr result
+        (λ stop. StopsAt site.now (claim_of claim) tree parts.now stop.part stop.fault) }
 {
     let mut both = claim;
     let mut whole = tree;

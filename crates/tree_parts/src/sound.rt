@@ -25,7 +25,9 @@ fn are_apart(a: UnitSet, b: UnitSet) -> bool
 
 fn make_no_raw(graph: &Graph, set: UnitSet) -> bool
     requires { (u : ℕ) → has set u ≡ true → u < (shape graph.now).units }
-    ensures { IsTrue result ↔ ((u x : ℕ) → has set u ≡ true → (shape graph.now).makes u x ≡ true → (shape graph.now).raw x ≡ true → ⊥) }
+    ensures { IsTrue result
+        ↔ ((u x : ℕ) → has set u ≡ true → (shape graph.now).makes u x ≡ true
+        → (shape graph.now).raw x ≡ true → ⊥) }
 {
     graph.made(set).meet(graph.raws()).is_empty()
 }

@@ -16,7 +16,8 @@ fn lay_back(
     keep: usize,
 ) -> Result<(), AllocError>
     requires { keep ≤ length nodes.old.items }
-    ensures whole { OnOk result (nodes.new.items ++ reverse back.new.items ≡ nodes.old.items ++ reverse back.old.items) }
+    ensures whole { OnOk result
+        (nodes.new.items ++ reverse back.new.items ≡ nodes.old.items ++ reverse back.old.items) }
     ensures kept { OnOk result (length nodes.new.items ≡ keep) }
 {
     'laying: while keep < nodes.len() {
@@ -48,7 +49,9 @@ fn put_in(
 ) -> Result<(), AllocError>
     requires within { part.place < length nodes.old.items }
     requires some { 0 < length part.nodes.items }
-    ensures whole { OnOk result (nodes.new.items ++ reverse back.new.items ≡ grafts.graft_at part.place (nodes.old.items ++ reverse back.old.items) part.nodes.items) }
+    ensures whole { OnOk result
+        (nodes.new.items ++ reverse back.new.items
+        ≡ grafts.graft_at part.place (nodes.old.items ++ reverse back.old.items) part.nodes.items) }
     ensures kept { OnOk result (length nodes.new.items ≡ part.place) }
 {
     let mut other = part.nodes;

@@ -1,5 +1,6 @@
 //! Parts that wait for the places of their leaves in one tree.
-ghost use Rattle.std.specs.Prelude.{◌≡◌, ◌≤◌, ◌<◌, ℕ, true, false, [], length, take, drop, IfOk, IfSome, IfNone};
+ghost use Rattle.std.specs.Prelude.{◌≡◌, ◌≤◌, ◌<◌, ℕ, true, false, [], length, take, drop, IfOk};
+ghost use Rattle.std.specs.Prelude.{IfSome, IfNone};
 ghost use Rattle.part_rules.specs.OpenLeaves.{IsAmong};
 ghost use Rattle.cert_check.specs.OpenLeaves.{leaves_at};
 ghost use Rattle.part_laws.specs.Splices.{AllBelow, AllAbove, AreRising};
@@ -49,9 +50,13 @@ pub fn put_by(
     part: &Part,
 ) -> Result<bool, AllocError>
     requires rising { AreRising (splices_of waiting.old.items) }
-    ensures put { IfOk result (λ taken. taken ≡ true → IsOneMore (leaves_at leaves.now) part.now (splices_of waiting.old.items) (splices_of waiting.new.items)) }
+    ensures put { IfOk result (λ taken. taken ≡ true
+        → IsOneMore (leaves_at leaves.now) part.now (splices_of waiting.old.items)
+        (splices_of waiting.new.items)) }
     ensures kept { IfOk result (λ taken. taken ≡ false → waiting.new ≡ waiting.old) }
-    ensures none { IfOk result (λ taken. taken ≡ false → waiting.old.items ≡ [] → (k : ℕ) → IsAmong (record { number = k; node = start_of part.now }) (leaves_at leaves.now) → ⊥) }
+    ensures none { IfOk result
+        (λ taken. taken ≡ false → waiting.old.items ≡ [] → (k : ℕ)
+        → IsAmong (record { number = k; node = start_of part.now }) (leaves_at leaves.now) → ⊥) }
 {
     let start = part.start();
     let Some(place) = leaf_at(leaves, &start) else {

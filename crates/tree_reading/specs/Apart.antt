@@ -24,7 +24,8 @@ abbrev pub formed_by : {A : Type 0} → Bool → Result A TreeKind → Result A 
 formed_by formed read = if formed then read else Err BadLine
 
 -- the same, if there may be nothing to read
-abbrev pub formed_if_read : {A : Type 0} → Bool → Option (Result A TreeKind) → Option (Result A TreeKind)
+abbrev pub formed_if_read : {A : Type 0} → Bool → Option (Result A TreeKind)
+    → Option (Result A TreeKind)
 formed_if_read formed None = None
 formed_if_read formed (Some read) = Some (formed_by formed read)
 

@@ -9,5 +9,6 @@ abbrev pub so_far : {A : Type 0} → Option TreeKind → List A → Result (List
 so_far None values = Ok values
 so_far (Some kind) values = Err kind
 
-abbrev pub joined : {A : Type 0} → Result (List A) TreeKind → Result (List A) TreeKind → Result (List A) TreeKind
+abbrev pub joined : {A : Type 0} → Result (List A) TreeKind → Result (List A) TreeKind
+    → Result (List A) TreeKind
 joined front rest = mapped (λ found. found.0 ++ found.1) (both front rest)

@@ -11,5 +11,8 @@ abbrev pub taken : {A : Type 0} → A → List ℕ → Cut → Taken A
 taken what bytes cut = record { what = what; number = cut.line; behind = lines_at bytes cut }
 
 -- one line
-abbrev pub line_taken : {A : Type 0} → (Line → Result A TreeKind) → ℕ → List Line → Result (Taken A) Fault
-line_taken judge number lines = first_line judge number lines (λ a lines. Ok (record { what = a; number = suc number; behind = lines }))
+abbrev pub line_taken : {A : Type 0} → (Line → Result A TreeKind) → ℕ → List Line
+    → Result (Taken A) Fault
+line_taken judge number lines =
+    first_line judge number lines
+    (λ a lines. Ok (record { what = a; number = suc number; behind = lines }))

@@ -15,7 +15,8 @@ abbrev pub kind_at : ℕ → TreeKind → TextFault TreeKind
 kind_at number kind = At number kind
 
 -- the fault of the line of this number, of which this was read
-pub record IsOfLine {A : Type 0} (number : ℕ) (read : Result A TreeKind) (fault : TextFault TreeKind) : Type 0 where
+pub record IsOfLine {A : Type 0} (number : ℕ) (read : Result A TreeKind)
+    (fault : TextFault TreeKind) : Type 0 where
   pub kind : TreeKind
   pub read_is : read ≡ Err kind
   pub fault_is : fault ≡ kind_at number kind

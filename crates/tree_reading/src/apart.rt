@@ -32,7 +32,8 @@ pub fn parts_of<'a>(line: &Line<'a>) -> LineParts<'a>
 /// token.
 pub fn some_token(fields: Option<&[u8]>) -> Result<(&[u8], Option<&[u8]>), TreeKind>
     ensures ok { IfOk result (λ found. tokens_in fields.entry ≡ found.0.now ∷ tokens_in found.1) }
-    ensures fault { IfErr result (λ kind. (kind ≡ TreeKind.BadLine) × (tokens_in fields.entry ≡ [])) }
+    ensures fault { IfErr result
+        (λ kind. (kind ≡ TreeKind.BadLine) × (tokens_in fields.entry ≡ [])) }
 {
     next_token(fields).ok_or(TreeKind::BadLine)
 }
@@ -40,7 +41,8 @@ pub fn some_token(fields: Option<&[u8]>) -> Result<(&[u8], Option<&[u8]>), TreeK
 /// The value. It is `BadLine` if and only if a token is left.
 pub fn alone<A: Drop>(value: A, fields: Option<&[u8]>) -> Result<A, TreeKind>
     ensures ok { IfOk result (λ found. (found ≡ value) × (tokens_in fields.entry ≡ [])) }
-    ensures fault { IfErr result (λ kind. (kind ≡ TreeKind.BadLine) × (0 < length (tokens_in fields.entry))) }
+    ensures fault { IfErr result
+        (λ kind. (kind ≡ TreeKind.BadLine) × (0 < length (tokens_in fields.entry))) }
 {
     match next_token(fields) {
         None => Ok(value),
@@ -51,7 +53,8 @@ pub fn alone<A: Drop>(value: A, fields: Option<&[u8]>) -> Result<A, TreeKind>
 /// The one token that is left. It is `BadLine` if and only if there are more or fewer.
 pub fn only(fields: Option<&[u8]>) -> Result<&[u8], TreeKind>
     ensures ok { IfOk result (λ token. tokens_in fields.entry ≡ token.now ∷ []) }
-    ensures fault { IfErr result (λ kind. (kind ≡ TreeKind.BadLine) × (length (tokens_in fields.entry) ≡ 1 → ⊥)) }
+    ensures fault { IfErr result
+        (λ kind. (kind ≡ TreeKind.BadLine) × (length (tokens_in fields.entry) ≡ 1 → ⊥)) }
 {
     let (token, behind) = some_token(fields)?;
     alone(token, behind)
@@ -60,7 +63,8 @@ pub fn only(fields: Option<&[u8]>) -> Result<&[u8], TreeKind>
 /// The two tokens that are left. It is `BadLine` if and only if there are more or fewer.
 pub fn pair(fields: Option<&[u8]>) -> Result<(&[u8], &[u8]), TreeKind>
     ensures ok { IfOk result (λ found. tokens_in fields.entry ≡ found.0.now ∷ found.1.now ∷ []) }
-    ensures fault { IfErr result (λ kind. (kind ≡ TreeKind.BadLine) × (length (tokens_in fields.entry) ≡ 2 → ⊥)) }
+    ensures fault { IfErr result
+        (λ kind. (kind ≡ TreeKind.BadLine) × (length (tokens_in fields.entry) ≡ 2 → ⊥)) }
 {
     let (token, behind) = some_token(fields)?;
     Ok((token, only(behind)?))

@@ -47,10 +47,13 @@ pub fn read_network(
 ) -> Result<(Network, Cut), TreeFault>
     requires cut { IsCut bytes.now cut }
     requires few { length bytes.now < 2 ^ 32 - 1 }
-    ensures read { IfOk result (λ found. network_taken problem.now cut.line (lines_at bytes.now cut) ≡ Ok (taken found.0 bytes.now found.1)) }
+    ensures read { IfOk result
+        (λ found. network_taken problem.now cut.line (lines_at bytes.now cut)
+        ≡ Ok (taken found.0 bytes.now found.1)) }
     ensures behind { IfOk result (λ found. IsBehind bytes.now cut found.1) }
     ensures known { IfOk result (λ found. AreUnits problem.now found.0.units) }
-    ensures fault { IfErr result (Tells (network_taken problem.now cut.line (lines_at bytes.now cut))) }
+    ensures fault { IfErr result
+        (Tells (network_taken problem.now cut.line (lines_at bytes.now cut))) }
 {
     let (line, first) = next_line(bytes, cut)?;
     let units = at_line(cut, network_line(problem, &parts_of(&line)))?;
@@ -66,7 +69,8 @@ pub fn read_claim(
 ) -> Result<(Claim, Cut), TreeFault>
     requires cut { IsCut bytes.now cut }
     requires few { length bytes.now < 2 ^ 32 - 1 }
-    ensures { GivesAt claim_of (KnowsClaim problem.now) (claim_taken problem.now) bytes.now cut result }
+    ensures { GivesAt claim_of (KnowsClaim problem.now) (claim_taken problem.now) bytes.now cut
+        result }
 {
     let (line, first) = next_line(bytes, cut)?;
     match at_line(cut, opening_line(problem, &parts_of(&line)))? {

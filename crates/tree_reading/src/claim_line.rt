@@ -34,9 +34,14 @@ pub fn file_type_line(line: &Line) -> Result<(), TreeKind>
 /// What the first line of a claim says.
 #[tactic(auto, using(crate::proofs::Counted::not_alone))]
 pub fn opening_line(problem: &Problem, line: &LineParts) -> Result<Opening, TreeKind>
-    ensures ok { IfOk result (λ opening. formed_by line.now.formed (reads.opening_by problem.now line.now.word (tokens_in line.now.fields)) ≡ Ok (opening_of opening)) }
+    ensures ok { IfOk result
+        (λ opening. formed_by line.now.formed
+        (reads.opening_by problem.now line.now.word (tokens_in line.now.fields))
+        ≡ Ok (opening_of opening)) }
     ensures known { IfOk result (KnowsOpening problem.now) }
-    ensures fault { IfErr result (λ kind. formed_by line.now.formed (reads.opening_by problem.now line.now.word (tokens_in line.now.fields)) ≡ Err kind) }
+    ensures fault { IfErr result
+        (λ kind. formed_by line.now.formed
+        (reads.opening_by problem.now line.now.word (tokens_in line.now.fields)) ≡ Err kind) }
 {
     if !line.formed {
         return Err(TreeKind::BadLine);
@@ -51,9 +56,13 @@ pub fn opening_line(problem: &Problem, line: &LineParts) -> Result<Opening, Tree
 
 /// The units of a network.
 pub fn network_line(problem: &Problem, line: &LineParts) -> Result<UnitSet, TreeKind>
-    ensures ok { IfOk result (λ us. formed_by line.now.formed (reads.network_by problem.now line.now.word (tokens_in line.now.fields)) ≡ Ok us) }
+    ensures ok { IfOk result
+        (λ us. formed_by line.now.formed
+        (reads.network_by problem.now line.now.word (tokens_in line.now.fields)) ≡ Ok us) }
     ensures known { IfOk result (AreUnits problem.now) }
-    ensures fault { IfErr result (λ kind. formed_by line.now.formed (reads.network_by problem.now line.now.word (tokens_in line.now.fields)) ≡ Err kind) }
+    ensures fault { IfErr result
+        (λ kind. formed_by line.now.formed
+        (reads.network_by problem.now line.now.word (tokens_in line.now.fields)) ≡ Err kind) }
 {
     match line.word {
         Some(Word::Network) if line.formed => units_of(problem, line.fields),
@@ -67,10 +76,16 @@ pub fn sizes_line(
     count: u32,
     line: &LineParts,
 ) -> Result<(i128, Vec<i128>), LineFault>
-    ensures ok { IfOk result (λ found. formed_by {A = ℤ × List ℤ} line.now.formed (reads.sizes_by count line.now.word (tokens_in line.now.fields)) ≡ Ok (found.0, found.1.items)) }
+    ensures ok { IfOk result
+        (λ found. formed_by {A = ℤ × List ℤ} line.now.formed
+        (reads.sizes_by count line.now.word (tokens_in line.now.fields))
+        ≡ Ok (found.0, found.1.items)) }
     ensures sized { IfOk result (λ found. (length found.1.items ≡ count) × (pos 1 ≤ℤ found.0)) }
     ensures range { IfOk result (λ found. InRange found.0 × AllInRange found.1.items) }
-    ensures fault { IfErr result (TellsLine (formed_by {A = ℤ × List ℤ} line.now.formed (reads.sizes_by count line.now.word (tokens_in line.now.fields)))) }
+    ensures fault { IfErr result
+        (TellsLine
+        (formed_by {A = ℤ × List ℤ} line.now.formed
+        (reads.sizes_by count line.now.word (tokens_in line.now.fields)))) }
 {
     let (Some(Word::Sizes), true, Some((first, behind))) = (
         line.word,
@@ -96,7 +111,8 @@ pub fn sizes_line(
 /// The cost.
 #[tactic(auto, using(crate::proofs::Counted::not_one))]
 pub fn cost_line(line: &LineParts) -> Result<i128, TreeKind>
-    ensures value { result ≡ formed_by line.now.formed (reads.cost_by line.now.word (tokens_in line.now.fields)) }
+    ensures value { result ≡ formed_by line.now.formed
+        (reads.cost_by line.now.word (tokens_in line.now.fields)) }
     ensures range { IfOk result InRange }
 {
     match line.word {

@@ -24,7 +24,10 @@ fn take_column(
     token: &[u8],
 ) -> Result<Option<TreeKind>, AllocError>
     requires { Each (KnowsColumn problem.now) columns.old.items }
-    ensures next { IfOk result (λ next. so_far next columns.new.items ≡ joined (so_far fault columns.old.items) (rules.mapped (λ a. a ∷ []) (rules.column_of problem.now token.now))) }
+    ensures next { IfOk result
+        (λ next. so_far next columns.new.items
+        ≡ joined (so_far fault columns.old.items)
+        (rules.mapped (λ a. a ∷ []) (rules.column_of problem.now token.now))) }
     ensures known { OnOk result (Each (KnowsColumn problem.now) columns.new.items) }
 {
     match (fault, column_of(problem, token)) {
@@ -43,9 +46,11 @@ pub fn columns_of(
     problem: &Problem,
     fields: Option<&[u8]>,
 ) -> Result<Vec<Column>, LineFault>
-    ensures ok { IfOk result (λ v. rules.each (rules.column_of problem.now) (tokens_in fields.entry) ≡ Ok v.items) }
+    ensures ok { IfOk result
+        (λ v. rules.each (rules.column_of problem.now) (tokens_in fields.entry) ≡ Ok v.items) }
     ensures known { IfOk result (λ v. Each (KnowsColumn problem.now) v.items) }
-    ensures fault { IfErr result (TellsLine (rules.each (rules.column_of problem.now) (tokens_in fields.entry))) }
+    ensures fault { IfErr result
+        (TellsLine (rules.each (rules.column_of problem.now) (tokens_in fields.entry))) }
 {
     let mut columns = Vec::new(alloc);
     let mut fault = None;

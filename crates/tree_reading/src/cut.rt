@@ -1,5 +1,6 @@
 //! Places in a text.
-ghost use Rattle.std.specs.Prelude.{◌≡◌, ◌<◌, ◌∷◌, ◌^◌, ◌-◌, [], suc, IfSome, IfNone, IfOk, IfErr, length};
+ghost use Rattle.std.specs.Prelude.{◌≡◌, ◌<◌, ◌∷◌, ◌^◌, ◌-◌, [], suc, IfSome, IfNone, IfOk, IfErr};
+ghost use Rattle.std.specs.Prelude.{length};
 ghost use Rattle.tree_reading.specs.View.{line_of};
 ghost use Rattle.tree_reading.specs.Place.{IsCut, IsBehind, lines_at};
 ghost use Rattle.tree_reading.specs.Tells.{kind_at};
@@ -19,7 +20,8 @@ pub struct Cut {
 pub fn line_at(bytes: &[u8], cut: Cut) -> Option<(Line<'_>, Cut)>
     requires cut { IsCut bytes.now cut }
     requires few { length bytes.now < 2 ^ 32 - 1 }
-    ensures line { IfSome result (λ found. lines_at bytes.now cut ≡ line_of found.0 ∷ lines_at bytes.now found.1) }
+    ensures line { IfSome result
+        (λ found. lines_at bytes.now cut ≡ line_of found.0 ∷ lines_at bytes.now found.1) }
     ensures cut { IfSome result (λ found. IsCut bytes.now found.1) }
     ensures number { IfSome result (λ found. found.1.line ≡ suc cut.line) }
     ensures later { IfSome result (λ found. cut.at < found.1.at) }
@@ -41,10 +43,12 @@ pub fn line_at(bytes: &[u8], cut: Cut) -> Option<(Line<'_>, Cut)>
 pub fn next_line(bytes: &[u8], cut: Cut) -> Result<(Line<'_>, Cut), TreeFault>
     requires cut { IsCut bytes.now cut }
     requires few { length bytes.now < 2 ^ 32 - 1 }
-    ensures line { IfOk result (λ found. lines_at bytes.now cut ≡ line_of found.0 ∷ lines_at bytes.now found.1) }
+    ensures line { IfOk result
+        (λ found. lines_at bytes.now cut ≡ line_of found.0 ∷ lines_at bytes.now found.1) }
     ensures behind { IfOk result (λ found. IsBehind bytes.now cut found.1) }
     ensures number { IfOk result (λ found. found.1.line ≡ suc cut.line) }
-    ensures none { IfErr result (λ fault. (lines_at bytes.now cut ≡ []) × (fault ≡ kind_at cut.line TreeKind.BadLine)) }
+    ensures none { IfErr result
+        (λ fault. (lines_at bytes.now cut ≡ []) × (fault ≡ kind_at cut.line TreeKind.BadLine)) }
 {
     line_at(bytes, cut).ok_or(kind_at(cut, TreeKind::BadLine))
 }

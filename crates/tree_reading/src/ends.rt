@@ -25,10 +25,12 @@ use tree_text_rules::{TreeKind, Word};
 fn short_end(problem: &Problem, word: Option<Word>, fields: Option<&[u8]>) -> Result<End, TreeKind>
     requires refuted { word ≡ Some Word.Refuted → ⊥ }
     requires bound { word ≡ Some Word.Bound → ⊥ }
-    ensures ok { IfOk result (λ end. reads.end_by problem.now word (tokens_in fields.entry) ≡ Ok (end_of end)) }
+    ensures ok { IfOk result
+        (λ end. reads.end_by problem.now word (tokens_in fields.entry) ≡ Ok (end_of end)) }
     ensures known { IfOk result (λ end. KnowsEnd problem.now (end_of end)) }
     ensures whole { IfOk result (λ end. HasChildren (end_of end)) }
-    ensures fault { IfErr result (λ kind. reads.end_by problem.now word (tokens_in fields.entry) ≡ Err kind) }
+    ensures fault { IfErr result
+        (λ kind. reads.end_by problem.now word (tokens_in fields.entry) ≡ Err kind) }
 {
     match word {
         Some(Word::Dead) => Ok(End::Dead(one_material(problem, fields)?)),
@@ -46,8 +48,12 @@ fn short_end(problem: &Problem, word: Option<Word>, fields: Option<&[u8]>) -> Re
 
 // A scale and multipliers.
 fn scaled_in(alloc: Global, fields: Option<&[u8]>) -> Result<Scaled, LineFault>
-    ensures ok { IfOk result (λ s. reads.one_and_more rules.number_of rules.number_of (tokens_in fields.entry) ≡ Ok (s.d, s.ys)) }
-    ensures fault { IfErr result (TellsLine (reads.one_and_more rules.number_of rules.number_of (tokens_in fields.entry))) }
+    ensures ok { IfOk result
+        (λ s. reads.one_and_more rules.number_of rules.number_of (tokens_in fields.entry)
+        ≡ Ok (s.d, s.ys)) }
+    ensures fault { IfErr result
+        (TellsLine
+        (reads.one_and_more rules.number_of rules.number_of (tokens_in fields.entry))) }
 {
     if fields.is_none() {
         return Err(LineFault::Kind(TreeKind::BadLine));
@@ -57,10 +63,16 @@ fn scaled_in(alloc: Global, fields: Option<&[u8]>) -> Result<Scaled, LineFault>
 
 /// The end that a line says.
 pub fn end_line(alloc: Global, problem: &Problem, line: &LineParts) -> Result<End, LineFault>
-    ensures ok { IfOk result (λ end. formed_by line.now.formed (reads.end_by problem.now line.now.word (tokens_in line.now.fields)) ≡ Ok (end_of end)) }
+    ensures ok { IfOk result
+        (λ end. formed_by line.now.formed
+        (reads.end_by problem.now line.now.word (tokens_in line.now.fields))
+        ≡ Ok (end_of end)) }
     ensures known { IfOk result (λ end. KnowsEnd problem.now (end_of end)) }
     ensures whole { IfOk result (λ end. HasChildren (end_of end)) }
-    ensures fault { IfErr result (TellsLine (formed_by line.now.formed (reads.end_by problem.now line.now.word (tokens_in line.now.fields)))) }
+    ensures fault { IfErr result
+        (TellsLine
+        (formed_by line.now.formed
+        (reads.end_by problem.now line.now.word (tokens_in line.now.fields)))) }
 {
     if !line.formed {
         return Err(LineFault::Kind(TreeKind::BadLine));

@@ -29,10 +29,18 @@ pub fn read_steps(
 ) -> Result<(Vec<Step>, Cut), TreeFault>
     requires cut { IsCut bytes.now cut }
     requires few { length bytes.now < 2 ^ 32 - 1 }
-    ensures ok { IfOk result (λ found. steps_taken problem.now (record { option = option; steps = [] }) cut.line (lines_at bytes.now cut) ≡ Ok (taken (record { option = option; steps = map step_of found.0.items }) bytes.now found.1)) }
+    ensures ok { IfOk result
+        (λ found. steps_taken problem.now (record { option = option; steps = [] }) cut.line
+        (lines_at bytes.now cut)
+        ≡ Ok
+        (taken (record { option = option; steps = map step_of found.0.items }) bytes.now found.1)) }
     ensures reached { IfOk result (λ found. IsReached bytes.now cut found.1) }
-    ensures known { IfOk result (λ found. Each (KnowsStep problem.now) (map step_of found.0.items)) }
-    ensures fault { IfErr result (Tells (steps_taken problem.now (record { option = option; steps = [] }) cut.line (lines_at bytes.now cut))) }
+    ensures known { IfOk result
+        (λ found. Each (KnowsStep problem.now) (map step_of found.0.items)) }
+    ensures fault { IfErr result
+        (Tells
+        (steps_taken problem.now (record { option = option; steps = [] }) cut.line
+        (lines_at bytes.now cut))) }
 {
     let mut steps = Vec::new(alloc);
     let mut at = cut;
@@ -50,7 +58,8 @@ pub fn read_steps(
 pub fn read_option(problem: &Problem, bytes: &[u8], cut: Cut) -> Result<(UnitSet, Cut), TreeFault>
     requires cut { IsCut bytes.now cut }
     requires few { length bytes.now < 2 ^ 32 - 1 }
-    ensures { GivesAt (λ us. us) (AreUnits problem.now) (line_taken (option_read problem.now)) bytes.now cut result }
+    ensures { GivesAt (λ us. us) (AreUnits problem.now) (line_taken (option_read problem.now))
+        bytes.now cut result }
 {
     let (line, behind) = next_line(bytes, cut)?;
     let option = at_line(cut, option_line(problem, &parts_of(&line)))?;
@@ -69,10 +78,17 @@ pub fn read_head(
 ) -> Result<(UnitSet, Vec<Step>, Cut), TreeFault>
     requires cut { IsCut bytes.now cut }
     requires few { length bytes.now < 2 ^ 32 - 1 }
-    ensures read { IfOk result (λ found. head_taken problem.now cut.line (lines_at bytes.now cut) ≡ Ok (taken (record { option = found.0; steps = map step_of found.1.items }) bytes.now found.2)) }
+    ensures read { IfOk result
+        (λ found. head_taken problem.now cut.line (lines_at bytes.now cut)
+        ≡ Ok
+        (taken (record { option = found.0; steps = map step_of found.1.items }) bytes.now
+        found.2)) }
     ensures behind { IfOk result (λ found. IsBehind bytes.now cut found.2) }
-    ensures known { IfOk result (λ found. AreUnits problem.now found.0 × Each (KnowsStep problem.now) (map step_of found.1.items)) }
-    ensures fault { IfErr result (Tells (head_taken problem.now cut.line (lines_at bytes.now cut))) }
+    ensures known { IfOk result
+        (λ found. AreUnits problem.now found.0
+        × Each (KnowsStep problem.now) (map step_of found.1.items)) }
+    ensures fault { IfErr result
+        (Tells (head_taken problem.now cut.line (lines_at bytes.now cut))) }
 {
     let (option, first) = read_option(problem, bytes, cut)?;
     let (steps, behind) = read_steps(alloc, problem, option, bytes, first)?;

@@ -17,7 +17,8 @@ pub struct Line<'a> {
 #[tactic(auto, using(crate::proofs::Cutting::line_ended, crate::proofs::Cutting::line_open))]
 pub fn first_line(rest: &[u8]) -> (Line<'_>, usize)
     requires { 0 < length rest.now }
-    ensures cut { lines_of rest.now ≡ line_of result.0 ∷ lines_of (drop result.1 rest.now) }
+    ensures cut { lines_of rest.now ≡ line_of result.0
+        ∷ lines_of (drop result.1 rest.now) }
     ensures some { 0 < result.1 }
     ensures within { result.1 ≤ length rest.now }
 {
@@ -47,7 +48,8 @@ pub fn first_token(text: &[u8]) -> (&[u8], Option<&[u8]>)
 /// The first token of what is left of a line, and what follows it. It is `None` if and only if
 /// there is no token.
 pub fn next_token(rest: Option<&[u8]>) -> Option<(&[u8], Option<&[u8]>)>
-    ensures some { IfSome result (λ found. tokens_in rest.entry ≡ found.0.now ∷ tokens_in found.1) }
+    ensures some { IfSome result
+        (λ found. tokens_in rest.entry ≡ found.0.now ∷ tokens_in found.1) }
     ensures none { IfNone result (tokens_in rest.entry ≡ []) }
 {
     Some(first_token(rest?))

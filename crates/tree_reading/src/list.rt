@@ -12,7 +12,8 @@ use std::alloc::Global;
 
 /// The numbers of what is left of a line, in a list with room for exactly this many.
 pub fn numbers_of(alloc: Global, fields: Option<&[u8]>) -> Result<Vec<i128>, LineFault>
-    ensures ok { IfOk result (λ v. rules.each rules.number_of (tokens_in fields.entry) ≡ Ok v.items) }
+    ensures ok { IfOk result
+        (λ v. rules.each rules.number_of (tokens_in fields.entry) ≡ Ok v.items) }
     ensures range { IfOk result (λ v. AllInRange v.items) }
     ensures fault { IfErr result (TellsLine (rules.each rules.number_of (tokens_in fields.entry))) }
 {

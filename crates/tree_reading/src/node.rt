@@ -29,7 +29,9 @@ pub fn read_end(
 ) -> Result<(End, Cut), TreeFault>
     requires cut { IsCut bytes.now cut }
     requires few { length bytes.now < 2 ^ 32 - 1 }
-    ensures read { IfOk result (λ found. end_taken problem.now cut.line (lines_at bytes.now cut) ≡ Ok (taken (end_of found.0) bytes.now found.1)) }
+    ensures read { IfOk result
+        (λ found. end_taken problem.now cut.line (lines_at bytes.now cut)
+        ≡ Ok (taken (end_of found.0) bytes.now found.1)) }
     ensures behind { IfOk result (λ found. IsBehind bytes.now cut found.1) }
     ensures known { IfOk result (λ found. KnowsEnd problem.now (end_of found.0)) }
     ensures whole { IfOk result (λ found. HasChildren (end_of found.0)) }

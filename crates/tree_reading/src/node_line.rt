@@ -12,9 +12,14 @@ use unit_sets::UnitSet;
 
 /// The option of the node that a line begins.
 pub fn option_line(problem: &Problem, line: &LineParts) -> Result<UnitSet, TreeKind>
-    ensures ok { IfOk result (λ us. reads.option_by problem.now line.now.word (tokens_in line.now.fields) line.now.formed ≡ Ok us) }
+    ensures ok { IfOk result
+        (λ us. reads.option_by problem.now line.now.word (tokens_in line.now.fields)
+        line.now.formed
+        ≡ Ok us) }
     ensures known { IfOk result (AreUnits problem.now) }
-    ensures fault { IfErr result (λ kind. reads.option_by problem.now line.now.word (tokens_in line.now.fields) line.now.formed ≡ Err kind) }
+    ensures fault { IfErr result
+        (λ kind. reads.option_by problem.now line.now.word (tokens_in line.now.fields)
+        line.now.formed ≡ Err kind) }
 {
     match line.word {
         Some(Word::Node) if line.formed => units_of(problem, line.fields),
@@ -26,9 +31,12 @@ pub fn option_line(problem: &Problem, line: &LineParts) -> Result<UnitSet, TreeK
 /// The root's line, which has no names.
 #[tactic(auto, using(crate::proofs::Counted::not_alone))]
 pub fn root_line(line: &LineParts) -> Result<UnitSet, TreeKind>
-    ensures ok { IfOk result (λ us. reads.root_by line.now.word (tokens_in line.now.fields) line.now.formed ≡ Ok us) }
+    ensures ok { IfOk result
+        (λ us. reads.root_by line.now.word (tokens_in line.now.fields) line.now.formed ≡ Ok us) }
     ensures none { IfOk result (λ us. us ≡ []) }
-    ensures fault { IfErr result (λ kind. reads.root_by line.now.word (tokens_in line.now.fields) line.now.formed ≡ Err kind) }
+    ensures fault { IfErr result
+        (λ kind. reads.root_by line.now.word (tokens_in line.now.fields) line.now.formed
+        ≡ Err kind) }
 {
     match line.word {
         Some(Word::Node) if line.formed => alone(UnitSet::empty(), line.fields),

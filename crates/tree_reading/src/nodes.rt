@@ -1,5 +1,6 @@
 //! A whole tree.
-ghost use Rattle.std.specs.Prelude.{◌≡◌, ◌<◌, ◌≤◌, ◌+◌, ◌-◌, ◌^◌, [], zero, Ok, IfOk, IfErr, length};
+ghost use Rattle.std.specs.Prelude.{◌≡◌, ◌<◌, ◌≤◌, ◌+◌, ◌-◌, ◌^◌, [], zero, Ok, IfOk, IfErr};
+ghost use Rattle.std.specs.Prelude.{length};
 ghost use Rattle.tree_rules.specs.Known.{KnowsTree};
 ghost use Rattle.tree_rules.specs.Tree as trees;
 ghost use Rattle.tree_text_rules.specs.Read.{tree_taken};
@@ -37,11 +38,14 @@ pub fn read_nodes(
 ) -> Result<(Tree, Cut), TreeFault>
     requires cut { IsCut bytes.now cut }
     requires few { length bytes.now < 2 ^ 32 - 1 }
-    ensures ok { IfOk result (λ found. begun problem.now [] zero cut.line (lines_at bytes.now cut) ≡ Ok (taken found.0 bytes.now found.1)) }
+    ensures ok { IfOk result
+        (λ found. begun problem.now [] zero cut.line (lines_at bytes.now cut)
+        ≡ Ok (taken found.0 bytes.now found.1)) }
     ensures behind { IfOk result (λ found. IsBehind bytes.now cut found.1) }
     ensures count { IfOk result (λ found. length found.0 ≤ found.1.at) }
     ensures known { IfOk result (λ found. KnowsTree problem.now found.0) }
-    ensures fault { IfErr result (Tells (begun problem.now [] zero cut.line (lines_at bytes.now cut))) }
+    ensures fault { IfErr result
+        (Tells (begun problem.now [] zero cut.line (lines_at bytes.now cut))) }
 {
     let mut nodes = Vec::new(alloc);
     let mut option = UnitSet::empty();
@@ -68,7 +72,8 @@ pub fn read_whole(
 ) -> Result<(Tree, Cut), TreeFault>
     requires cut { IsCut bytes.now cut }
     requires few { length bytes.now < 2 ^ 32 - 1 }
-    ensures gives { GivesAt (λ tree. tree) (KnowsTree problem.now) (tree_taken problem.now) bytes.now cut result }
+    ensures gives { GivesAt (λ tree. tree) (KnowsTree problem.now) (tree_taken problem.now)
+        bytes.now cut result }
     ensures count { IfOk result (λ found. length found.0 ≤ found.1.at) }
 {
     let (line, first) = next_line(bytes, cut)?;

@@ -37,7 +37,8 @@ fn entry_of(problem: &Problem, fields: Option<&[u8]>) -> Result<Place, TreeKind>
 }
 
 fn flow_place(problem: &Problem, fields: Option<&[u8]>) -> Result<Place, TreeKind>
-    ensures value { result ≡ rules.mapped (λ found. places.Flow found.0 found.1) (reads.two (rules.unit_of problem.now) rules.flow_of (tokens_in fields.entry)) }
+    ensures value { result ≡ rules.mapped (λ found. places.Flow found.0 found.1)
+        (reads.two (rules.unit_of problem.now) rules.flow_of (tokens_in fields.entry)) }
     ensures known { IfOk result (KnowsPlace problem.now) }
 {
     let (unit, which) = pair(fields)?;
@@ -46,7 +47,8 @@ fn flow_place(problem: &Problem, fields: Option<&[u8]>) -> Result<Place, TreeKin
 }
 
 fn refute_place(problem: &Problem, fields: Option<&[u8]>) -> Result<Place, TreeKind>
-    ensures value { result ≡ rules.mapped (λ found. places.Refute found.0 found.1) (reads.two (rules.column_of problem.now) rules.count_of (tokens_in fields.entry)) }
+    ensures value { result ≡ rules.mapped (λ found. places.Refute found.0 found.1)
+        (reads.two (rules.column_of problem.now) rules.count_of (tokens_in fields.entry)) }
     ensures known { IfOk result (KnowsPlace problem.now) }
 {
     let (row, at) = pair(fields)?;

@@ -18,7 +18,8 @@ use unit_sets::Step;
 // The step of a line that begins as one.
 #[tactic(auto, using(crate::proofs::Counted::not_two))]
 fn step_of(problem: &Problem, line: &LineParts) -> Result<Step, TreeKind>
-    ensures value { IfSome (reads.step_by problem.now line.now.word (tokens_in line.now.fields)) (λ read. formed_by line.now.formed read ≡ rules.mapped step_of result) }
+    ensures value { IfSome (reads.step_by problem.now line.now.word (tokens_in line.now.fields))
+        (λ read. formed_by line.now.formed read ≡ rules.mapped step_of result) }
     ensures known { IfOk result (λ step. KnowsStep problem.now (step_of step)) }
 {
     if !line.formed {
@@ -40,8 +41,11 @@ fn step_of(problem: &Problem, line: &LineParts) -> Result<Step, TreeKind>
 
 /// The step that a line says, or none if its first word is another.
 pub fn step_line(problem: &Problem, line: &LineParts) -> Option<Result<Step, TreeKind>>
-    ensures value { formed_if_read line.now.formed (reads.step_by problem.now line.now.word (tokens_in line.now.fields)) ≡ option_map (rules.mapped step_of) result }
-    ensures known { IfSome result (λ read. IfOk read (λ step. KnowsStep problem.now (step_of step))) }
+    ensures value { formed_if_read line.now.formed
+        (reads.step_by problem.now line.now.word (tokens_in line.now.fields))
+        ≡ option_map (rules.mapped step_of) result }
+    ensures known { IfSome result
+        (λ read. IfOk read (λ step. KnowsStep problem.now (step_of step))) }
 {
     match line.word {
         Some(Word::Raw | Word::Rival | Word::Starve | Word::Loose | Word::Sole) => {

@@ -21,7 +21,8 @@ use tree_text_rules::TreeKind;
 fn read_nothing(tail: Tail, bytes: &[u8], cut: Cut) -> Result<Tail, TreeFault>
     requires cut { IsCut bytes.now cut }
     requires few { length bytes.now < 2 ^ 32 - 1 }
-    ensures { Gives tail_of (λ found. found ≡ tail_of tail) (nothing_behind (tail_of tail) cut.line (lines_at bytes.now cut)) result }
+    ensures { Gives tail_of (λ found. found ≡ tail_of tail)
+        (nothing_behind (tail_of tail) cut.line (lines_at bytes.now cut)) result }
 {
     match line_at(bytes, cut) {
         None => Ok(tail),
@@ -33,7 +34,8 @@ fn read_nothing(tail: Tail, bytes: &[u8], cut: Cut) -> Result<Tail, TreeFault>
 fn read_close(tail: Tail, bytes: &[u8], cut: Cut) -> Result<Tail, TreeFault>
     requires cut { IsCut bytes.now cut }
     requires few { length bytes.now < 2 ^ 32 - 1 }
-    ensures { Gives tail_of (λ found. found ≡ tail_of tail) (close_taken (tail_of tail) cut.line (lines_at bytes.now cut)) result }
+    ensures { Gives tail_of (λ found. found ≡ tail_of tail)
+        (close_taken (tail_of tail) cut.line (lines_at bytes.now cut)) result }
 {
     let (line, behind) = next_line(bytes, cut)?;
     at_line(cut, close_line(&parts_of(&line)))?;
@@ -50,7 +52,8 @@ fn read_past(
 ) -> Result<Tail, TreeFault>
     requires cut { IsCut bytes.now cut }
     requires few { length bytes.now < 2 ^ 32 - 1 }
-    ensures { Gives tail_of (KnowsTail problem.now) (past_taken problem.now node cut.line (lines_at bytes.now cut)) result }
+    ensures { Gives tail_of (KnowsTail problem.now)
+        (past_taken problem.now node cut.line (lines_at bytes.now cut)) result }
 {
     let (line, first) = next_line(bytes, cut)?;
     let read = nonbasic_line(alloc, problem, &parts_of(&line));
@@ -75,9 +78,11 @@ pub fn read_tail(
 ) -> Result<Tail, TreeFault>
     requires cut { IsCut bytes.now cut }
     requires few { length bytes.now < 2 ^ 32 - 1 }
-    ensures read { IfOk result (λ tail. tail_taken problem.now cut.line (lines_at bytes.now cut) ≡ Ok (tail_of tail)) }
+    ensures read { IfOk result
+        (λ tail. tail_taken problem.now cut.line (lines_at bytes.now cut) ≡ Ok (tail_of tail)) }
     ensures known { IfOk result (λ tail. KnowsTail problem.now (tail_of tail)) }
-    ensures fault { IfErr result (Tells (tail_taken problem.now cut.line (lines_at bytes.now cut))) }
+    ensures fault { IfErr result
+        (Tells (tail_taken problem.now cut.line (lines_at bytes.now cut))) }
 {
     let (line, first) = next_line(bytes, cut)?;
     match at_line(cut, tail_opening_line(&parts_of(&line)))? {

@@ -22,8 +22,15 @@ use tree_text_rules::{TreeKind, Word};
 /// What the first line of a tail says.
 #[tactic(auto, using(crate::proofs::Counted::not_alone, crate::proofs::Counted::not_two))]
 pub fn tail_opening_line(line: &LineParts) -> Result<TailOpening, TreeKind>
-    ensures ok { IfOk result (λ opening. reads.behind_nodes line.now.word (formed_by line.now.formed (reads.tail_opening_by line.now.word (tokens_in line.now.fields))) ≡ Ok (tail_opening_of opening)) }
-    ensures fault { IfErr result (λ kind. reads.behind_nodes line.now.word (formed_by line.now.formed (reads.tail_opening_by line.now.word (tokens_in line.now.fields))) ≡ Err kind) }
+    ensures ok { IfOk result
+        (λ opening. reads.behind_nodes line.now.word
+        (formed_by line.now.formed
+        (reads.tail_opening_by line.now.word (tokens_in line.now.fields)))
+        ≡ Ok (tail_opening_of opening)) }
+    ensures fault { IfErr result
+        (λ kind. reads.behind_nodes line.now.word
+        (formed_by line.now.formed
+        (reads.tail_opening_by line.now.word (tokens_in line.now.fields))) ≡ Err kind) }
 {
     match line.word {
         Some(Word::Node) => Err(TreeKind::MoreNodes),
@@ -45,9 +52,16 @@ pub fn nonbasic_line(
     problem: &Problem,
     line: &LineParts,
 ) -> Result<Vec<Column>, LineFault>
-    ensures ok { IfOk result (λ v. reads.behind_nodes line.now.word (formed_by line.now.formed (reads.nonbasic_by problem.now line.now.word (tokens_in line.now.fields))) ≡ Ok v.items) }
+    ensures ok { IfOk result
+        (λ v. reads.behind_nodes line.now.word
+        (formed_by line.now.formed
+        (reads.nonbasic_by problem.now line.now.word (tokens_in line.now.fields))) ≡ Ok v.items) }
     ensures known { IfOk result (λ v. Each (KnowsColumn problem.now) v.items) }
-    ensures fault { IfErr result (TellsLine (reads.behind_nodes line.now.word (formed_by line.now.formed (reads.nonbasic_by problem.now line.now.word (tokens_in line.now.fields))))) }
+    ensures fault { IfErr result
+        (TellsLine
+        (reads.behind_nodes line.now.word
+        (formed_by line.now.formed
+        (reads.nonbasic_by problem.now line.now.word (tokens_in line.now.fields))))) }
 {
     match line.word {
         Some(Word::Node) => Err(LineFault::Kind(TreeKind::MoreNodes)),
@@ -58,7 +72,9 @@ pub fn nonbasic_line(
 
 /// The place at which a number is out of range.
 pub fn place_line(problem: &Problem, line: &LineParts) -> Result<Place, TreeKind>
-    ensures value { result ≡ reads.behind_nodes line.now.word (formed_by line.now.formed (reads.place_by problem.now line.now.word (tokens_in line.now.fields))) }
+    ensures value { result ≡ reads.behind_nodes line.now.word
+        (formed_by line.now.formed
+        (reads.place_by problem.now line.now.word (tokens_in line.now.fields))) }
     ensures known { IfOk result (KnowsPlace problem.now) }
 {
     match line.word {
@@ -71,7 +87,8 @@ pub fn place_line(problem: &Problem, line: &LineParts) -> Result<Place, TreeKind
 /// The last line.
 #[tactic(auto, using(crate::proofs::Counted::not_alone))]
 pub fn close_line(line: &LineParts) -> Result<(), TreeKind>
-    ensures { result ≡ reads.behind_nodes line.now.word (formed_by line.now.formed (reads.close_by line.now.word (tokens_in line.now.fields))) }
+    ensures { result ≡ reads.behind_nodes line.now.word
+        (formed_by line.now.formed (reads.close_by line.now.word (tokens_in line.now.fields))) }
 {
     match line.word {
         Some(Word::Node) => Err(TreeKind::MoreNodes),

@@ -29,10 +29,15 @@ pub fn read_rest(
 ) -> Result<(Claim, Tree, Tail), TreeFault>
     requires cut { IsCut bytes.now cut }
     requires few { length bytes.now < 2 ^ 32 - 1 }
-    ensures read { IfOk result (λ c. rest_taken problem.now cut.line (lines_at bytes.now cut) ≡ Ok (record { claim = claim_of c.0; tree = c.1; tail = tail_of c.2 })) }
+    ensures read { IfOk result
+        (λ c. rest_taken problem.now cut.line (lines_at bytes.now cut)
+        ≡ Ok (record { claim = claim_of c.0; tree = c.1; tail = tail_of c.2 })) }
     ensures few { IfOk result (λ c. length c.1 ≤ length bytes.now) }
-    ensures known { IfOk result (λ c. KnowsClaim problem.now (claim_of c.0) × KnowsTree problem.now c.1 × KnowsTail problem.now (tail_of c.2)) }
-    ensures fault { IfErr result (Tells (rest_taken problem.now cut.line (lines_at bytes.now cut))) }
+    ensures known { IfOk result
+        (λ c. KnowsClaim problem.now (claim_of c.0) × KnowsTree problem.now c.1
+        × KnowsTail problem.now (tail_of c.2)) }
+    ensures fault { IfErr result
+        (Tells (rest_taken problem.now cut.line (lines_at bytes.now cut))) }
 {
     let (claim, first) = read_claim(alloc, problem, bytes, cut)?;
     let (tree, second) = read_whole(alloc, problem, bytes, first)?;
@@ -49,9 +54,13 @@ pub fn read_tree(
     bytes: &[u8],
 ) -> Result<(Claim, Tree, Tail), TreeFault>
     requires { length bytes.now < 2 ^ 32 - 1 }
-    ensures read { IfOk result (λ c. read_text problem.now bytes.now ≡ Ok (record { claim = claim_of c.0; tree = c.1; tail = tail_of c.2 })) }
+    ensures read { IfOk result
+        (λ c. read_text problem.now bytes.now
+        ≡ Ok (record { claim = claim_of c.0; tree = c.1; tail = tail_of c.2 })) }
     ensures few { IfOk result (λ c. length c.1 ≤ length bytes.now) }
-    ensures known { IfOk result (λ c. KnowsClaim problem.now (claim_of c.0) × KnowsTree problem.now c.1 × KnowsTail problem.now (tail_of c.2)) }
+    ensures known { IfOk result
+        (λ c. KnowsClaim problem.now (claim_of c.0) × KnowsTree problem.now c.1
+        × KnowsTail problem.now (tail_of c.2)) }
     ensures fault { IfErr result (TellsFault problem.now bytes.now) }
 {
     let front = Cut { at: 0, line: 1 };

@@ -23,7 +23,8 @@ fn goes_on(rises: bool, least: u32, unit: u32) -> bool
 pub fn units_of(problem: &Problem, fields: Option<&[u8]>) -> Result<UnitSet, TreeKind>
     ensures ok { IfOk result (λ us. rules.units_of problem.now (tokens_in fields.entry) ≡ Ok us) }
     ensures known { IfOk result (AreUnits problem.now) }
-    ensures fault { IfErr result (λ kind. rules.units_of problem.now (tokens_in fields.entry) ≡ Err kind) }
+    ensures fault { IfErr result
+        (λ kind. rules.units_of problem.now (tokens_in fields.entry) ≡ Err kind) }
 {
     problem.is_valid();
     let mut units = UnitSet::empty();

@@ -1,4 +1,5 @@
--- A problem in which three units make one material: U1 and U3 make C of A, U2 makes C of B, and U4 makes the product P of C.
+-- A problem in which three units make one material: U1 and U3 make C of A, U2 makes C of B, and U4
+-- makes the product P of C.
 use Rattle.std.proofs.Common.{ℕ, pos, List, [], ◌∷◌, refl}
 use Rattle.problem_rules.specs.Problem.{Problem, Term, raw_material, intermediate, product}
 use Rattle.problem_rules.specs.Validity.{IsValid}
@@ -9,10 +10,39 @@ term_of x = record { material = x; rate = pos 1000000 } ∷ []
 
 abbrev pub example : Problem
 example = record {
-  materials = record { name = 65 ∷ []; kind = raw_material; price = pos 2000000; lower = pos 0; upper = pos 1000000000000000 }
-      ∷ record { name = 66 ∷ []; kind = raw_material; price = pos 3000000; lower = pos 0; upper = pos 1000000000000000 }
-      ∷ record { name = 67 ∷ []; kind = intermediate; price = pos 0; lower = pos 0; upper = pos 1000000000000000 }
-      ∷ record { name = 80 ∷ []; kind = product; price = pos 0; lower = pos 20000000; upper = pos 20000000 }
+  materials =
+      record {
+        name = 65 ∷ [];
+        kind = raw_material;
+        price = pos 2000000;
+        lower = pos 0;
+        upper =
+            pos 1000000000000000;
+      }
+      ∷ record {
+        name = 66 ∷ [];
+        kind = raw_material;
+        price = pos 3000000;
+        lower = pos 0;
+        upper =
+            pos 1000000000000000;
+      }
+      ∷ record {
+        name = 67 ∷ [];
+        kind = intermediate;
+        price = pos 0;
+        lower = pos 0;
+        upper =
+            pos 1000000000000000;
+      }
+      ∷ record {
+        name = 80 ∷ [];
+        kind = product;
+        price = pos 0;
+        lower = pos 20000000;
+        upper =
+            pos 20000000;
+      }
       ∷ [];
   units = record {
     name = 85 ∷ 49 ∷ [];

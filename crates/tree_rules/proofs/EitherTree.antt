@@ -1,6 +1,8 @@
--- The branch tree of the example, which is accepted for the network of U3 and U4: U3 goes in or out, with U3 in U1 goes in or
--- out, and with U1 out so does U2. Then changes of the tree, and the first fault of each.
-use Rattle.std.proofs.Common.{◌≡◌, ℕ, ◌<◌, ℤ, pos, ◌*ℤ◌, ◌≤ℤ◌, true, false, List, [], ◌∷◌, refl, arith, inl, inr}
+-- The branch tree of the example, which is accepted for the network of U3 and U4. U3 goes in or
+-- out; with U3 in, U1 goes in or out; with U1 out, so does U2. Then there are changes of the tree,
+-- and the first fault of each.
+use Rattle.std.proofs.Common.{◌≡◌, ℕ, ◌<◌, ℤ, pos, ◌*ℤ◌, ◌≤ℤ◌, true, false, List, [], ◌∷◌, refl}
+use Rattle.std.proofs.Common.{arith, inl, inr}
 use Rattle.number_sets.specs.Sets.{has, listed}
 use Rattle.number_sets.proofs.SetLemmas.{has_below}
 use Rattle.pns_rules.specs.Shape.{Shape, shape_of, IsProper}
@@ -21,7 +23,8 @@ use Rattle.tree_rules.specs.Claim.{Network, network, IsFeasible, size_in, claime
 use Rattle.tree_rules.specs.Leaf.{Leaf, bounded, multiplier, LeafPasses}
 use Rattle.tree_rules.specs.Accepted.{Tree, first_node, IsAccepted, NodeIsFault}
 use Rattle.tree_rules.proofs.EitherProblem.{example, example_is_valid}
-use Rattle.tree_rules.proofs.Worked.{in_range, at_most, not_at_most, EachBelow, each_below, no_case, no_other}
+use Rattle.tree_rules.proofs.Worked.{in_range, at_most, not_at_most, EachBelow, each_below, no_case}
+use Rattle.tree_rules.proofs.Worked.{no_other}
 
 abbrev g : Shape
 g = shape_of example
@@ -30,7 +33,14 @@ abbrev net : Net
 net = net_of example
 
 abbrev claim : Network
-claim = record { units = 2 ∷ 3 ∷ []; sizes = pos 20000000 ∷ pos 20000000 ∷ []; d = pos 1; cost = pos 65000000000000000000 }
+claim =
+    record {
+      units = 2 ∷ 3 ∷ [];
+      sizes = pos 20000000 ∷ pos 20000000 ∷ [];
+      d = pos 1;
+      cost =
+          pos 65000000000000000000;
+    }
 
 -- ---- the tree
 
@@ -46,7 +56,7 @@ split_by t w = record { option = t; steps = []; end = branch w }
 abbrev bound_by : List ℕ → List ℤ → TreeNode Leaf
 bound_by t ys = record { option = t; steps = []; end = leaf (bounded (pos 1) ys) }
 
--- the multipliers where U3 is in, where U1 and U2 are out, and where U3 is out
+-- the multipliers with U3 in, with U1 and U2 out, and with U3 out
 abbrev two_each : List ℤ
 two_each = pos 0 ∷ pos 0 ∷ pos 2000000 ∷ pos 2000000 ∷ []
 
@@ -56,7 +66,7 @@ two_last = pos 0 ∷ pos 2000000 ∷ pos 2000000 ∷ []
 abbrev three_each : List ℤ
 three_each = pos 0 ∷ pos 0 ∷ pos 3100000 ∷ pos 3100000 ∷ []
 
--- the subtree where U3 is in, with its option
+-- the subtree with U3 in, with its option
 abbrev with_three : List ℕ → Tree → Tree
 with_three t rest =
     split_by t (either 0)
@@ -89,13 +99,16 @@ size_high = ((((tt, λ e. no_case e), λ e. no_case e), λ e. at_most _ _ tt), �
 others : EachBelow 4 (λ i. has (2 ∷ 3 ∷ []) i ≡ false → size_in claim i ≡ pos 0)
 others = ((((tt, λ e. refl), λ e. refl), λ e. no_other e), λ e. no_other e)
 
-low_ends : EachBelow 4 (λ j. mats g (has (2 ∷ 3 ∷ [])) j ≡ true → (low_end net j (net.lower j) *ℤ pos 1) ≤ℤ balance net (has (2 ∷ 3 ∷ [])) (size_in claim) j)
+low_ends : EachBelow 4 (λ j. mats g (has (2 ∷ 3 ∷ [])) j ≡ true
+    → (low_end net j (net.lower j) *ℤ pos 1) ≤ℤ balance net (has (2 ∷ 3 ∷ [])) (size_in claim) j)
 unfolding listed
 low_ends = ((((tt, λ e. at_most _ _ tt), λ e. no_case e), λ e. at_most _ _ tt), λ e. at_most _ _ tt)
 
-high_ends : EachBelow 4 (λ j. mats g (has (2 ∷ 3 ∷ [])) j ≡ true → balance net (has (2 ∷ 3 ∷ [])) (size_in claim) j ≤ℤ (high_end net j (net.lower j) *ℤ pos 1))
+high_ends : EachBelow 4 (λ j. mats g (has (2 ∷ 3 ∷ [])) j ≡ true
+    → balance net (has (2 ∷ 3 ∷ [])) (size_in claim) j ≤ℤ (high_end net j (net.lower j) *ℤ pos 1))
 unfolding listed
-high_ends = ((((tt, λ e. at_most _ _ tt), λ e. no_case e), λ e. at_most _ _ tt), λ e. at_most _ _ tt)
+high_ends =
+    ((((tt, λ e. at_most _ _ tt), λ e. no_case e), λ e. at_most _ _ tt), λ e. at_most _ _ tt)
 
 its_flows : IsFlows net (has (2 ∷ 3 ∷ [])) (size_in claim) (pos 1)
 its_flows = record {
@@ -123,7 +136,7 @@ is_feasible = record {
 abbrev start : Node
 start = after g first_node (sole 3 3)
 
--- where U3 is in or out; then where U1 is in or out; then where U2 is in or out
+-- the nodes with U3 in or out; then with U1 in or out; then with U2 in or out
 abbrev three_in : Node
 three_in = child_at g start (either 2) (2 ∷ [])
 
@@ -148,7 +161,7 @@ one_maker = ((((tt, λ e. no_case e), λ e. no_case e), λ e. no_case e), λ e f
 its_steps : StepsPass g first_node first_steps
 its_steps = ((refl, omega arith, refl, refl, refl, each_below 4 _ one_maker), tt)
 
--- each unit may be decided where it is, and decides something
+-- each unit may be decided at its node, and decides something
 three_may : MayBranch g start (either 2)
 three_may = (omega arith, refl)
 
@@ -175,74 +188,159 @@ Bounds n ys = LeafPasses false example (claimed_cost (network claim)) n (bounded
 
 one_bound : Bounds one_in two_each
 unfolding listed
-one_bound = record { positive = at_most _ _ tt; each_row = refl; formed = in_range (steps_of one_in two_each) refl; reaches = at_most _ _ tt }
+one_bound =
+    record {
+      positive = at_most _ _ tt;
+      each_row = refl;
+      formed =
+          in_range (steps_of one_in two_each) refl;
+      reaches = at_most _ _ tt;
+    }
 
 two_bound : Bounds two_in two_each
 unfolding listed
-two_bound = record { positive = at_most _ _ tt; each_row = refl; formed = in_range (steps_of two_in two_each) refl; reaches = at_most _ _ tt }
+two_bound =
+    record {
+      positive = at_most _ _ tt;
+      each_row = refl;
+      formed =
+          in_range (steps_of two_in two_each) refl;
+      reaches = at_most _ _ tt;
+    }
 
 last_bound : Bounds two_out two_last
 unfolding listed
-last_bound = record { positive = at_most _ _ tt; each_row = refl; formed = in_range (steps_of two_out two_last) refl; reaches = at_most _ _ tt }
+last_bound =
+    record {
+      positive = at_most _ _ tt;
+      each_row = refl;
+      formed =
+          in_range (steps_of two_out two_last) refl;
+      reaches = at_most _ _ tt;
+    }
 
 out_bound : Bounds three_out three_each
 unfolding listed
-out_bound = record { positive = at_most _ _ tt; each_row = refl; formed = in_range (steps_of three_out three_each) refl; reaches = at_most _ _ tt }
+out_bound =
+    record {
+      positive = at_most _ _ tt;
+      each_row = refl;
+      formed =
+          in_range (steps_of three_out three_each) refl;
+      reaches = at_most _ _ tt;
+    }
 
 -- the values that are bounded: 75, 66, 65 and 67
 values : (bound net one_in (pos 1) (multiplier example one_in two_each) ≡ pos 75000000000000000000)
     × (bound net two_in (pos 1) (multiplier example two_in two_each) ≡ pos 66000000000000000000)
     × (bound net two_out (pos 1) (multiplier example two_out two_last) ≡ pos 65000000000000000000)
-    × (bound net three_out (pos 1) (multiplier example three_out three_each) ≡ pos 67000000000000000000)
+    × (bound net three_out (pos 1) (multiplier example three_out three_each)
+    ≡ pos 67000000000000000000)
 unfolding listed
 values = (refl, refl, refl, refl)
 
 is_accepted : IsAccepted example first_node (network claim) tree
 is_accepted = record {
   claimed = is_feasible;
-  passes =
-      (its_steps, (three_may, refl), (tt, (one_may, refl), (tt, one_bound, (tt, (two_may, refl), (tt, two_bound, (tt, last_bound, (tt, out_bound, tt)))))));
+  passes = (
+    its_steps,
+    (three_may, refl),
+    (
+      tt,
+      (one_may, refl),
+      (
+        tt,
+        one_bound,
+        (tt, (two_may, refl), (tt, two_bound, (tt, last_bound, (tt, out_bound, tt)))),
+      ),
+    ),
+  );
 }
 
 -- ---- faults
 
 -- U4 is taken in at the root
-unit_is_in : NodeIsFault false example first_node (network claim) (root_by (either 3) ∷ with_three (2 ∷ []) (bound_by [] three_each ∷ [])) 0 causes.Options
+unit_is_in : NodeIsFault false example first_node (network claim)
+    (root_by (either 3) ∷ with_three (2 ∷ []) (bound_by [] three_each ∷ [])) 0 causes.Options
 unit_is_in = inr (its_steps, inl (refl, λ h. no_case h.0.1))
 
 -- U2 is decided, and the first child takes U3 in
-other_unit : NodeIsFault false example first_node (network claim) (root_by (either 1) ∷ with_three (2 ∷ []) (bound_by [] three_each ∷ [])) 0 causes.Options
+other_unit : NodeIsFault false example first_node (network claim)
+    (root_by (either 1) ∷ with_three (2 ∷ []) (bound_by [] three_each ∷ [])) 0 causes.Options
 other_unit = inr (its_steps, inl (refl, λ h. cc))
 
 -- the first child takes nothing in, or U1 too; the second takes U3 in
-nothing_in : NodeIsFault false example first_node (network claim) (root_by (either 2) ∷ with_three [] (bound_by [] three_each ∷ [])) 0 causes.Options
+nothing_in : NodeIsFault false example first_node (network claim)
+    (root_by (either 2) ∷ with_three [] (bound_by [] three_each ∷ [])) 0 causes.Options
 nothing_in = inr (its_steps, inl (refl, λ h. cc))
 
-two_are_in : NodeIsFault false example first_node (network claim) (root_by (either 2) ∷ with_three (0 ∷ 2 ∷ []) (bound_by [] three_each ∷ [])) 0 causes.Options
+two_are_in : NodeIsFault false example first_node (network claim)
+    (root_by (either 2) ∷ with_three (0 ∷ 2 ∷ []) (bound_by [] three_each ∷ [])) 0 causes.Options
 two_are_in = inr (its_steps, inl (refl, λ h. cc))
 
-both_in : NodeIsFault false example first_node (network claim) (root_by (either 2) ∷ with_three (2 ∷ []) (bound_by (2 ∷ []) three_each ∷ [])) 0 causes.Options
+both_in : NodeIsFault false example first_node (network claim)
+    (root_by (either 2) ∷ with_three (2 ∷ []) (bound_by (2 ∷ []) three_each ∷ [])) 0 causes.Options
 both_in = inr (its_steps, inl (refl, λ h. cc))
 
 -- two children are not all options of C
-too_few : NodeIsFault false example first_node (network claim) (root_by (at_material 2 2) ∷ with_three (2 ∷ []) (bound_by [] three_each ∷ [])) 0 causes.Options
+too_few : NodeIsFault false example first_node (network claim)
+    (root_by (at_material 2 2) ∷ with_three (2 ∷ []) (bound_by [] three_each ∷ [])) 0 causes.Options
 unfolding listed
 too_few = inr (its_steps, inl (refl, λ h. cc))
 
--- U1 is left out at the node where it is decided again
+-- U1 is left out at the node at which it is decided again
 unit_is_out : NodeIsFault false example first_node (network claim)
-    (root_by (either 2) ∷ split_by (2 ∷ []) (either 0) ∷ bound_by (0 ∷ []) two_each ∷ split_by [] (either 0) ∷ bound_by (0 ∷ []) two_each ∷ bound_by [] two_last ∷ bound_by [] three_each ∷ [])
+    (root_by (either 2) ∷ split_by (2 ∷ []) (either 0) ∷ bound_by (0 ∷ []) two_each
+    ∷ split_by [] (either 0) ∷ bound_by (0 ∷ []) two_each ∷ bound_by [] two_last
+    ∷ bound_by [] three_each ∷ [])
     3 causes.Options
-unit_is_out = (its_steps, (three_may, refl), (tt, (one_may, refl), (tt, one_bound, inr (tt, inl (refl, λ h. no_case h.0.1)))))
+unit_is_out = (
+  its_steps,
+  (three_may, refl),
+  (tt, (one_may, refl), (tt, one_bound, inr (tt, inl (refl, λ h. no_case h.0.1)))),
+)
 
--- the bound where U3 is out is below the claimed cost
+-- the bound with U3 out is below the claimed cost
 abbrev low_each : List ℤ
 low_each = pos 0 ∷ pos 0 ∷ pos 2999999 ∷ pos 2999999 ∷ []
 
-bound_is_low : NodeIsFault false example first_node (network claim) (root_by (either 2) ∷ with_three (2 ∷ []) (bound_by [] low_each ∷ [])) 6 causes.Bound
+bound_is_low : NodeIsFault false example first_node (network claim)
+    (root_by (either 2) ∷ with_three (2 ∷ []) (bound_by [] low_each ∷ [])) 6 causes.Bound
 unfolding listed
 bound_is_low = (
   its_steps,
   (three_may, refl),
-  (tt, (one_may, refl), (tt, one_bound, (tt, (two_may, refl), (tt, two_bound, (tt, last_bound, inr (tt, inr ((tt, at_most _ _ tt, refl), inr (in_range (steps_of three_out low_each) refl, inl (refl, λ h. not_at_most (pos 65000000000000000000) (pos 64999980000000000000) tt h))))))))),
+  (
+    tt,
+    (one_may, refl),
+    (
+      tt,
+      one_bound,
+      (
+        tt,
+        (two_may, refl),
+        (
+          tt,
+          two_bound,
+          (
+            tt,
+            last_bound,
+            inr (
+              tt,
+              inr (
+                (tt, at_most _ _ tt, refl),
+                inr (
+                  in_range (steps_of three_out low_each) refl,
+                  inl (
+                    refl,
+                    λ h. not_at_most (pos 65000000000000000000) (pos 64999980000000000000) tt h,
+                  ),
+                ),
+              ),
+            ),
+          ),
+        ),
+      ),
+    ),
+  ),
 )

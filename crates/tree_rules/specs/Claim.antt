@@ -1,6 +1,7 @@
--- Claims: a network with its cost, that no network has flows, or nothing. Where a claim fails, the first line of its table
--- that does not hold tells why.
-use Rattle.std.specs.Prelude.{◌≡◌, ℕ, ℤ, pos, ◌*ℤ◌, ◌≤ℤ◌, Bool, true, List, length, Option, Some, None}
+-- Claims: a network with its cost, that no network has flows, or nothing. If a claim fails, the
+-- first line of its table that does not hold gives the cause.
+use Rattle.std.specs.Prelude.{◌≡◌, ℕ, ℤ, pos, ◌*ℤ◌, ◌≤ℤ◌, Bool, true, List, length, Option, Some}
+use Rattle.std.specs.Prelude.{None}
 use Rattle.number_sets.specs.Sets.{has, IsSet}
 use Rattle.problem_rules.specs.Problem.{Problem}
 use Rattle.pns_rules.specs.Shape.{shape_of}
@@ -11,11 +12,12 @@ use Rattle.flow_rules.specs.Steps.{AreInRange}
 use Rattle.flow_rules.specs.CostSteps.{cost_steps}
 use Rattle.flow_rules.specs.FeasibleSteps.{feasible_steps}
 use Rattle.tree_rules.specs.declared.why.Why.{Why}
-use Rattle.tree_rules.specs.declared.why.Why.TheVariants.{Unknown, Axiom, Exclusion, Flows, Cost, Sum}
+use Rattle.tree_rules.specs.declared.why.Why.TheVariants.{Unknown, Axiom, Exclusion, Flows, Cost}
+use Rattle.tree_rules.specs.declared.why.Why.TheVariants.{Sum}
 use Rattle.tree_rules.specs.Fault.{Fails}
 
--- units with their sizes and the cost, all numbers over d: the size of a unit is its number in millionths over d, and the
--- cost over d and the payout period is in 10^-18 of the money unit
+-- units with their sizes and the cost, all numbers over d: the size of a unit is its number over d
+-- in millionths; the cost over d and the payout period is in 10^-18 of the money unit
 pub record Network : Type 0 where
   pub units : List ℕ
   pub sizes : List ℤ
@@ -28,7 +30,7 @@ pub record IsSized (w : Network) : Type 0 where
   pub one_size : length w.sizes ≡ length w.units
   pub positive : pos 1 ≤ℤ w.d
 
--- the size of each unit, 0 for those that are not in the network
+-- the size of each unit; 0 for a unit that is not in the network
 abbrev pub size_in : Network → ℕ → ℤ
 size_in w = beside w.units w.sizes
 
@@ -43,26 +45,26 @@ pub record CostOver : Type 0 where
   pub cost : ℤ
   pub d : ℤ
 
--- there is one where a network is claimed
+-- there is one if a network is claimed
 abbrev pub claimed_cost : Claim → Option CostOver
 claimed_cost (network w) = Some (record { cost = w.cost; d = w.d })
 claimed_cost infeasible = None
 claimed_cost unknown = None
 
--- the number over d is at least the claimed cost; none is where no cost is claimed
+-- the number over d is at least the claimed cost; if no cost is claimed, no number is
 abbrev pub IsAtLeast : Option CostOver → ℤ → ℤ → Type 0
 IsAtLeast None n d = ⊥
 IsAtLeast (Some claimed) n d = (claimed.cost *ℤ d) ≤ℤ (n *ℤ claimed.d)
 
--- the number over d is at most the claimed cost; each is where no cost is claimed
+-- the number over d is at most the claimed cost; if no cost is claimed, each number is
 abbrev pub IsAtMost : Option CostOver → ℤ → ℤ → Type 0
 IsAtMost None n d = Unit {0}
 IsAtMost (Some claimed) n d = (n *ℤ claimed.d) ≤ℤ (claimed.cost *ℤ d)
 
 -- ---- which claims pass
 
--- the units are an allowed solution structure, the sizes are flows for them, and the cost is that of the flows; all numbers
--- that the two sums form are in range
+-- the units are a clash-free solution structure, the sizes are flows for them, and the cost is that
+-- of the flows; all numbers that the two sums form are in range
 pub record IsFeasible (p : Problem) (w : Network) : Type 0 where
   pub structure : IsStructure (shape_of p) (has w.units)
   pub allowed : IsAllowed (shape_of p) (has w.units)
@@ -71,7 +73,7 @@ pub record IsFeasible (p : Problem) (w : Network) : Type 0 where
   pub costs : AreInRange (cost_steps (net_of p) (has w.units) (size_in w) w.d)
   pub cost_is : cost (net_of p) (has w.units) (size_in w) w.d ≡ w.cost
 
--- nothing may be claimed of a partial tree
+-- with a partial tree nothing may be claimed
 abbrev pub ClaimPasses : Bool → Problem → Claim → Type 0
 ClaimPasses partial p (network w) = IsFeasible p w
 ClaimPasses partial p infeasible = Unit {0}
@@ -86,6 +88,7 @@ ClaimFails partial p (network w) why =
     (Fails (AreInRange (feasible_steps (net_of p) (has w.units) (size_in w) w.d)) Sum
     (Fails (IsFlows (net_of p) (has w.units) (size_in w) w.d) Flows
     (Fails (AreInRange (cost_steps (net_of p) (has w.units) (size_in w) w.d)) Sum
-    (Fails (cost (net_of p) (has w.units) (size_in w) w.d ≡ w.cost) Cost ⊥ why) why) why) why) why) why
+    (Fails (cost (net_of p) (has w.units) (size_in w) w.d ≡ w.cost) Cost ⊥ why) why) why) why) why)
+    why
 ClaimFails partial p infeasible why = ⊥
 ClaimFails partial p unknown why = Fails (partial ≡ true) Unknown ⊥ why

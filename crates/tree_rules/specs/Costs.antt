@@ -1,4 +1,4 @@
--- Costs, a number over another, compared by cross products.
+-- Costs: one number over another, compared by cross products.
 use Rattle.std.specs.Prelude.{ℤ, ◌*ℤ◌, ◌≤ℤ◌, Option, Some, None, ℕ, Bool}
 use Rattle.problem_rules.specs.Problem.{Problem}
 use Rattle.flow_rules.specs.Net.{net_of}
@@ -9,12 +9,14 @@ use Rattle.tree_rules.specs.Claim.{CostOver, IsAtLeast}
 abbrev pub IsNoMore : CostOver → CostOver → Type 0
 IsNoMore v w = (v.cost *ℤ w.d) ≤ℤ (w.cost *ℤ v.d)
 
--- the second cost is at most the first, and there is one where there was one
+-- the new cost is at most the old, and there is one if there was one
 abbrev pub HasFallen : Option CostOver → Option CostOver → Type 0
 HasFallen None new = Unit {0}
 HasFallen (Some old) None = ⊥
 HasFallen (Some old) (Some new) = IsNoMore new old
 
--- any flows for the units of s cost at least what is claimed; where no cost is claimed there are none
+-- any flows for the units of s cost at least what is claimed; if no cost is claimed there are no
+-- flows
 abbrev pub CostsEnough : Problem → Option CostOver → (ℕ → Bool) → Type 0
-CostsEnough p claimed s = (z : ℕ → ℤ) (d : ℤ) → IsFlows (net_of p) s z d → IsAtLeast claimed (cost (net_of p) s z d) d
+CostsEnough p claimed s = (z : ℕ → ℤ) (d : ℤ) → IsFlows (net_of p) s z d
+    → IsAtLeast claimed (cost (net_of p) s z d) d

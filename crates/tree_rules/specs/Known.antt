@@ -1,5 +1,5 @@
--- Values whose numbers a problem knows: each unit, material and exclusion is below the problem's count, and each set of units
--- rises. Whole numbers are in range.
+-- Values whose numbers a problem knows: each unit, material and exclusion is below the problem's
+-- count, and each set of units is a rising list. Whole numbers are in range.
 use Rattle.std.specs.Prelude.{ℕ, ◌<◌, List, length, Option, Some, None}
 use Rattle.number_sets.specs.Sets.{IsSet}
 use Rattle.integer_laws.specs.Range.{InRange, AllInRange}
@@ -79,7 +79,8 @@ KnowsRow p None = Unit {0}
 KnowsRow p (Some column) = KnowsColumn p column
 
 abbrev pub KnowsPlace : Problem → Place → Type 0
-KnowsPlace p (places.Entry leave enter row column which) = KnowsColumn p leave × KnowsColumn p enter × KnowsRow p row × KnowsColumn p column
+KnowsPlace p (places.Entry leave enter row column which) =
+    KnowsColumn p leave × KnowsColumn p enter × KnowsRow p row × KnowsColumn p column
 KnowsPlace p (places.Flow unit which) = IsUnit p unit
 KnowsPlace p (places.Cost at) = Unit {0}
 KnowsPlace p (places.FlowSum at) = Unit {0}

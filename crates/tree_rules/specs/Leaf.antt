@@ -1,5 +1,5 @@
--- The leaves of a branch tree, which of them pass at a node, and why one fails: first the count of multipliers, the claim and
--- d, then the numbers of the sum, then the comparison.
+-- The leaves of a branch tree, which of them pass at a node, and why one fails. First the count of
+-- multipliers, the claim and d are judged, then the numbers of the sum, then the comparison.
 use Rattle.std.specs.Prelude.{◌≡◌, ℕ, ℤ, pos, ◌≤ℤ◌, Bool, true, List, length, Option, Some, None}
 use Rattle.problem_rules.specs.Problem.{Problem}
 use Rattle.pns_rules.specs.Shape.{shape_of}
@@ -15,8 +15,8 @@ use Rattle.tree_rules.specs.declared.why.Why.TheVariants as causes
 use Rattle.tree_rules.specs.Fault.{Fails}
 use Rattle.tree_rules.specs.Claim.{CostOver, IsAtLeast}
 
--- a dead material; an exclusion that clashes; multipliers that refute the node; a bound with its scale d and its multipliers;
--- or a leaf that is still open
+-- a dead material; an exclusion that clashes; multipliers that refute the node; a bound with its
+-- scale d and its multipliers; or a leaf that is still open
 pub data Leaf : Type 0 where
   dead : ℕ → Leaf
   clash : ℕ → Leaf
@@ -48,13 +48,14 @@ pub record IsRefuted (p : Problem) (n : Node) (ys : List ℤ) : Type 0 where
   pub formed : IsFormed p n (pos 0) ys
   pub refutes : Refutes (net_of p) n (multiplier p n ys)
 
-pub record IsBounded (p : Problem) (claimed : Option CostOver) (n : Node) (d : ℤ) (ys : List ℤ) : Type 0 where
+pub record IsBounded (p : Problem) (claimed : Option CostOver) (n : Node) (d : ℤ)
+    (ys : List ℤ) : Type 0 where
   pub positive : pos 1 ≤ℤ d
   pub each_row : IsOneEach p n ys
   pub formed : IsFormed p n d ys
   pub reaches : Reaches p claimed n d ys
 
--- leaves may be open in a partial tree
+-- in a partial tree leaves may be open
 abbrev pub LeafPasses : Bool → Problem → Option CostOver → Node → Leaf → Type 0
 LeafPasses partial p claimed n (dead x) = IsDead (shape_of p) n x
 LeafPasses partial p claimed n (clash k) = Clashes (shape_of p) n.inside k
@@ -71,7 +72,8 @@ IsClaimed (Some claimed) = Unit {0}
 
 abbrev pub LeafFails : Bool → Problem → Option CostOver → Node → Leaf → Why → Type 0
 LeafFails partial p claimed n (dead x) why = Fails (IsDead (shape_of p) n x) causes.Dead ⊥ why
-LeafFails partial p claimed n (clash k) why = Fails (Clashes (shape_of p) n.inside k) causes.Clash ⊥ why
+LeafFails partial p claimed n (clash k) why =
+    Fails (Clashes (shape_of p) n.inside k) causes.Clash ⊥ why
 LeafFails partial p claimed n (refuted ys) why =
     Fails (IsOneEach p n ys) causes.Refuted
     (Fails (IsFormed p n (pos 0) ys) causes.Sum

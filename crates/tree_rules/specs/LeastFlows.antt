@@ -1,5 +1,5 @@
--- What there is to say of the flows of a solution structure: flows of least cost, with multipliers whose bound is that cost; or
--- that it has none, with multipliers that refute them.
+-- What can be said of the flows of a solution structure. It has flows of least cost, with
+-- multipliers whose bound is that cost. Or it has none, and multipliers refute them.
 use Rattle.std.specs.Prelude.{◌≡◌, ℕ, ◌&&◌, not, nat_lt, ℤ, pos, ◌*ℤ◌, ◌≤ℤ◌, List, length}
 use Rattle.number_sets.specs.Sets.{has}
 use Rattle.problem_rules.specs.Problem.{Problem}
@@ -11,7 +11,8 @@ use Rattle.tree_rules.specs.Claim.{Network, size_in}
 
 -- the node at which these units are taken in and all others left out
 abbrev pub decided : Problem → List ℕ → Node
-decided p us = record { inside = has us; outside = λ u. nat_lt u (length p.units) && not (has us u) }
+decided p us =
+    record { inside = has us; outside = λ u. nat_lt u (length p.units) && not (has us u) }
 
 -- its rows, the materials of the units
 abbrev pub rows_of : Problem → List ℕ → List ℕ
@@ -26,11 +27,13 @@ pub record HasFlows (p : Problem) (w : Network) : Type 0 where
 pub record ProveCost (p : Problem) (w : Network) (d : ℤ) (ys : List ℤ) : Type 0 where
   pub positive : pos 1 ≤ℤ d
   pub one_each : length ys ≡ length (rows_of p w.units)
-  pub reached : w.d *ℤ bound (net_of p) (decided p w.units) d (beside (rows_of p w.units) ys) ≡ d *ℤ w.cost
+  pub reached : w.d *ℤ bound (net_of p) (decided p w.units) d (beside (rows_of p w.units) ys)
+      ≡ d *ℤ w.cost
 
 -- no flows for the units of the network cost less than it; compared by cross products
 abbrev pub IsLeast : Problem → Network → Type 0
-IsLeast p w = (z : ℕ → ℤ) (e : ℤ) → IsFlows (net_of p) (has w.units) z e → (w.cost *ℤ e) ≤ℤ (cost (net_of p) (has w.units) z e *ℤ w.d)
+IsLeast p w = (z : ℕ → ℤ) (e : ℤ) → IsFlows (net_of p) (has w.units) z e
+    → (w.cost *ℤ e) ≤ℤ (cost (net_of p) (has w.units) z e *ℤ w.d)
 
 pub record IsLeastFlows (p : Problem) (w : Network) (d : ℤ) (ys : List ℤ) : Type 0 where
   pub flows : HasFlows p w

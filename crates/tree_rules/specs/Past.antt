@@ -1,4 +1,4 @@
--- Where a number of a node's program is past the range.
+-- When a number of a node's program overflows.
 use Rattle.std.specs.Prelude.{List}
 use Rattle.problem_rules.specs.Each.{Each}
 use Rattle.problem_rules.specs.Problem.{Problem}
@@ -9,8 +9,9 @@ use Rattle.flow_rules.specs.declared.place.Place.{Place}
 use Rattle.tree_rules.specs.Known.{KnowsColumn, KnowsPlace}
 use Rattle.path_rules.specs.PastPlace.{IsPastNamed}
 
--- the place is past at the last basis of the path of the node's program, these are the columns outside that basis, and all their
--- numbers are those of units and materials of the problem
+-- the number at the place overflows at the last basis of the path of the node's program, these are
+-- the columns outside that basis, and all their numbers are those of units and materials of the
+-- problem
 pub record IsPastAt (p : Problem) (n : Node) (nonbasic : List Column) (place : Place) : Type 0 where
   pub past : IsPastNamed (net_of p) n nonbasic place
   pub columns : Each (KnowsColumn p) nonbasic

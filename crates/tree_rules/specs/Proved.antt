@@ -1,4 +1,4 @@
--- What a search promises of a claim and its tree, and up to which budget it may stop.
+-- What a search promises of a claim and its tree, and below which budget it may stop.
 use Rattle.std.specs.Prelude.{ℕ, suc, ◌<◌, ◌-◌, ◌^◌, Bool, false, length}
 use Rattle.number_sets.specs.Sets.{listed}
 use Rattle.problem_rules.specs.Problem.{Problem}
@@ -21,7 +21,8 @@ pub record IsProved (p : Problem) (start : Node) (claim : claims.Claim) (tree : 
   pub few : length tree < 2 ^ 32 - 1
 
 -- a lean tree that proves the claim but for its open leaves, with numbers that the problem knows
-pub record IsStopped (p : Problem) (start : Node) (claim : claims.Claim) (tree : Tree) : Type 0 where
+pub record IsStopped (p : Problem) (start : Node) (claim : claims.Claim) (tree : Tree) : Type
+    0 where
   pub partial : IsPartial p start claim tree
   pub lean : IsLean p IsUntried (claimed_cost claim) start tree
   pub of_claim : KnowsClaim p claim
@@ -30,4 +31,5 @@ pub record IsStopped (p : Problem) (start : Node) (claim : claims.Claim) (tree :
 
 -- the budget is below twice the number of sets of units of the maximal structure
 abbrev pub IsBelowLimit : Problem → ℕ → Type 0
-IsBelowLimit p budget = (all : ℕ → Bool) → IsUnion (shape_of p) (λ u. false) all → budget < 2 ^ suc (length (listed (shape_of p).units all))
+IsBelowLimit p budget = (all : ℕ → Bool) → IsUnion (shape_of p) (λ u. false) all
+    → budget < 2 ^ suc (length (listed (shape_of p).units all))

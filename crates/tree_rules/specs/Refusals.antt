@@ -1,4 +1,4 @@
--- What a refusal says of a claim and a tree. Want of memory says nothing.
+-- What a refusal says of a claim and a tree. A refusal for lack of memory says nothing.
 use Rattle.std.specs.Prelude.{Bool}
 use Rattle.problem_rules.specs.Problem.{Problem}
 use Rattle.pns_rules.specs.Nodes.{Node}
@@ -8,8 +8,10 @@ use Rattle.tree_rules.specs.declared.refusal.Refusal.{Refusal}
 use Rattle.tree_rules.specs.declared.refusal.Refusal.TheVariants.{Memory, Claim}
 use Rattle.tree_rules.specs.declared.refusal.Refusal.TheVariants as refusals
 
--- the claim fails first for the cause; or it passes, and node k is the first that fails, for the cause
+-- The claim fails first for the cause. Or it passes, and node k is the first that fails, for the
+-- cause.
 abbrev pub Refuses : Bool → Problem → Node → rules.Claim → Tree → Refusal → Type 0
 Refuses partial p start claim tree Memory = Unit {0}
 Refuses partial p start claim tree (Claim why) = rules.ClaimFails partial p claim why
-Refuses partial p start claim tree (refusals.Node k why) = rules.ClaimPasses partial p claim × NodeIsFault partial p start claim tree k why
+Refuses partial p start claim tree (refusals.Node k why) =
+    rules.ClaimPasses partial p claim × NodeIsFault partial p start claim tree k why

@@ -1,5 +1,5 @@
--- Branch trees, as lists of their nodes in preorder (accelerated branch and bound of Friedler, Varga, Feher and Fan 1996). L
--- is what the leaves may be.
+-- Branch trees, as lists of their nodes in preorder (accelerated branch and bound of Friedler,
+-- Varga, Feher and Fan 1996). L is what the leaves may be.
 use Rattle.std.specs.Prelude.{◌≡◌, ℕ, zero, suc, ◌+◌, ◌<◌, List, [], ◌∷◌, ◌++◌}
 use Rattle.pns_rules.specs.Shape.{Shape}
 use Rattle.pns_rules.specs.Nodes.{Node, Step, IsPossible, after}
@@ -9,7 +9,8 @@ pub data End (L : Type 0) : Type 0 where
   branch : Way → End L
   leaf : L → End L
 
--- the option of the parent's way to branch, which is taken in at this node; what follows from it; and the end
+-- the option of the parent's way to branch, which is taken in at this node; the steps that follow
+-- from it; and the end
 pub record TreeNode (L : Type 0) : Type 0 where
   pub option : List ℕ
   pub steps : List Step
@@ -38,7 +39,7 @@ abbrev pub IsTree : {L : Type 0} → List (TreeNode L) → Type 0
 IsTree [] = ⊥
 IsTree (t ∷ ts) = (t.option ≡ []) × IsForest 1 (t ∷ ts)
 
--- what stands behind k subtrees
+-- what follows k subtrees
 abbrev pub skip : {L : Type 0} → ℕ → List (TreeNode L) → List (TreeNode L)
 skip zero ts = ts
 skip (suc k) [] = []
@@ -50,7 +51,7 @@ roots zero ts = []
 roots (suc k) [] = []
 roots (suc k) (t ∷ ts) = t.option ∷ roots k (skip 1 (t ∷ ts))
 
--- ---- where the nodes of a tree stand
+-- ---- the nodes at which the ends of a tree are
 
 -- each step is possible in turn
 abbrev pub StepsPass : Shape → Node → List Step → Type 0
@@ -67,23 +68,27 @@ abbrev pub below : {L : Type 0} → Shape → Node → End L → List Node
 below g n (branch w) = children_at g n w
 below g n (leaf l) = []
 
--- of the subtrees of the nodes `ns`, node k in preorder has this end, and its steps leave the node `n`
+-- of the subtrees of the nodes in the first list, node k in preorder has the end e, and its steps
+-- leave the node n
 abbrev pub Stands : {L : Type 0} → Shape → List Node → List (TreeNode L) → ℕ → Node → End L → Type 0
 Stands g [] ts k n e = ⊥
 Stands g (m ∷ ms) [] k n e = ⊥
 Stands g (m ∷ ms) (t ∷ ts) zero n e = (after_all g m t.steps ≡ n) × (t.end ≡ e)
-Stands g (m ∷ ms) (t ∷ ts) (suc k) n e = Stands g (below g (after_all g m t.steps) t.end ++ ms) ts k n e
+Stands g (m ∷ ms) (t ∷ ts) (suc k) n e =
+    Stands g (below g (after_all g m t.steps) t.end ++ ms) ts k n e
 
--- ---- trees that pass: P tells which leaves are allowed, and at which nodes
+-- ---- trees that pass: P says which leaves pass, and at which nodes
 
--- A leaf passes by P. A branch passes where the node may be branched so and the children, whose subtrees begin the list behind
--- it, have all options in order.
-abbrev pub EndPasses : {L : Type 0} → Shape → (Node → L → Type 0) → Node → End L → List (TreeNode L) → Type 0
+-- A leaf passes by P. A branch passes if the node may be branched so, and the children have all
+-- options in order. The subtrees of the children begin the list `behind`.
+abbrev pub EndPasses : {L : Type 0} → Shape → (Node → L → Type 0) → Node → End L → List (TreeNode L)
+    → Type 0
 EndPasses g P n (branch w) behind = MayBranch g n w × (roots (width w) behind ≡ options_at g n w)
 EndPasses g P n (leaf l) behind = P n l
 
 -- The list is the subtrees of the nodes, one after the other, and each passes at its node.
-abbrev pub Pass : {L : Type 0} → Shape → (Node → L → Type 0) → List Node → List (TreeNode L) → Type 0
+abbrev pub Pass : {L : Type 0} → Shape → (Node → L → Type 0) → List Node → List (TreeNode L)
+    → Type 0
 Pass g P [] [] = Unit {0}
 Pass g P [] (t ∷ ts) = ⊥
 Pass g P (n ∷ ns) [] = ⊥

@@ -1,12 +1,14 @@
--- The ways to branch at a node. Each decides a set of units and lists its options: of the units that it decides an option is
--- taken in and the others are left out.
-use Rattle.std.specs.Prelude.{◌≡◌, ℕ, ◌<◌, ◌≤◌, Bool, true, not, ◌&&◌, ◌||◌, ◌==◌, List, [], ◌∷◌, map, length}
+-- The ways to branch at a node. Each decides a set of units and lists its options: of the units
+-- that it decides, those of an option are taken in and the others are left out.
+use Rattle.std.specs.Prelude.{◌≡◌, ℕ, ◌<◌, ◌≤◌, Bool, true, not, ◌&&◌, ◌||◌, ◌==◌, List, [], ◌∷◌}
+use Rattle.std.specs.Prelude.{map, length}
 use Rattle.number_sets.specs.Sets.{has}
 use Rattle.pns_rules.specs.Shape.{Shape}
 use Rattle.pns_rules.specs.Structure.{is_needed}
 use Rattle.pns_rules.specs.Nodes.{Node, is_free, options}
 
--- at a material, with the number of children that are written; or at a unit, which goes in or goes out
+-- at a material, with the number of children that are written; or at a unit, which goes in or goes
+-- out
 pub data Way : Type 0 where
   at_material : ℕ → ℕ → Way
   either : ℕ → Way
@@ -41,7 +43,8 @@ child_at g n w t = record {
 abbrev pub children_at : Shape → Node → Way → List Node
 children_at g n w = map (child_at g n w) (options_at g n w)
 
--- there is something to decide: the material has two options or more, or the unit makes a needed material
+-- there is something to decide: the material has two options or more, or the unit makes a needed
+-- material
 abbrev pub IsDecision : Shape → Node → Way → Type 0
 IsDecision g n (at_material x c) = 2 ≤ length (options g n x)
 IsDecision g n (either u) = (x : ℕ) × (is_needed g n.inside x ≡ true) × (g.makes u x ≡ true)

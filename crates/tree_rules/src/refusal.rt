@@ -3,10 +3,10 @@ use crate::why::Why;
 /// Why a claim with its tree is refused.
 #[derive(Clone, Copy, Debug, PartialEq, Eq)]
 pub enum Refusal {
-    /// There was no memory for the walk. Nothing is said of the tree.
+    /// There was no memory to walk the tree. Nothing is said of the tree.
     Memory,
     /// The claim fails.
     Claim(Why),
-    /// The claim passes, and of the nodes in preorder, counted from 0, this is the first that fails.
+    /// The claim passes. Of the nodes in preorder, counted from 0, this is the first that fails.
     Node { node: u32, why: Why },
 }

@@ -3,9 +3,11 @@ use Rattle.std.specs.Prelude.{List, [], ◌∷◌, ◌++◌, map, decimal}
 use Rattle.std.specs.Fmt.{signed_decimal}
 use Rattle.problem_rules.specs.Problem.{Problem}
 use Rattle.problem_rules.specs.Each.{Each}
-use Rattle.tree_rules.specs.Known.{IsUnit, IsMaterial, IsExclusion, AreUnits, KnowsColumn, KnowsPlace}
+use Rattle.tree_rules.specs.Known.{IsUnit, IsMaterial, IsExclusion, AreUnits, KnowsColumn}
+use Rattle.tree_rules.specs.Known.{KnowsPlace}
 use Rattle.tree_text_rules.specs.Line.{Token}
-use Rattle.tree_text_rules.specs.Spelling.{unit_name, material_name, exclusion_name, column_text, place_fields}
+use Rattle.tree_text_rules.specs.Spelling.{unit_name, material_name, exclusion_name, column_text}
+use Rattle.tree_text_rules.specs.Spelling.{place_fields}
 use Rattle.tree_text.specs.declared.line.Field.{Field}
 use Rattle.tree_text.specs.declared.line.Field.TheVariants as fields
 

@@ -1,8 +1,10 @@
 //! Columns and places after the first word of a line.
-ghost use Rattle.std.specs.Prelude.{◌≡◌, ◌<◌, ◌++◌, [], ◌∷◌, OnOk, codes, decimal, map, string_bytes};
+ghost use Rattle.std.specs.Prelude.{◌≡◌, ◌<◌, ◌++◌, [], ◌∷◌, OnOk, codes, decimal, map};
+ghost use Rattle.std.specs.Prelude.{string_bytes};
 ghost use Rattle.problem_rules.specs.Each.{Each};
 ghost use Rattle.tree_rules.specs.Known.{KnowsColumn, KnowsRow, KnowsPlace};
-ghost use Rattle.tree_text_rules.specs.Spelling.{column_text, row_text, which_text, flow_text, place_fields};
+ghost use Rattle.tree_text_rules.specs.Spelling.{column_text, row_text, which_text, flow_text};
+ghost use Rattle.tree_text_rules.specs.Spelling.{place_fields};
 ghost use Rattle.tree_text.specs.Printing.{appended};
 
 use crate::field::{material_name, push_count, push_field, unit_name};
@@ -13,7 +15,8 @@ use std::alloc::AllocError;
 
 // A column of a unit or of a row: its mark and the name.
 fn push_marked(line: &mut String, mark: &str, name: &str) -> Result<(), AllocError>
-    ensures { OnOk result (string_bytes line.new ≡ appended (string_bytes line.old) ((mark.now ++ name.now) ∷ [])) }
+    ensures { OnOk result
+        (string_bytes line.new ≡ appended (string_bytes line.old) ((mark.now ++ name.now) ∷ [])) }
 {
     line.push(' ')?;
     line.push_str(mark)?;
@@ -23,7 +26,9 @@ fn push_marked(line: &mut String, mark: &str, name: &str) -> Result<(), AllocErr
 
 fn push_column(line: &mut String, problem: &Problem, column: Column) -> Result<(), AllocError>
     requires { KnowsColumn problem.now column }
-    ensures { OnOk result (string_bytes line.new ≡ appended (string_bytes line.old) (column_text problem.now column ∷ [])) }
+    ensures { OnOk result
+        (string_bytes line.new
+        ≡ appended (string_bytes line.old) (column_text problem.now column ∷ [])) }
 {
     match column {
         Column::X(unit) => push_marked(line, "x:", unit_name(problem, unit)),
@@ -41,7 +46,9 @@ pub(crate) fn push_columns(
     columns: &[Column],
 ) -> Result<(), AllocError>
     requires { Each (KnowsColumn problem.now) columns.now }
-    ensures { OnOk result (string_bytes line.new ≡ appended (string_bytes line.old) (map (column_text problem.now) columns.now)) }
+    ensures { OnOk result
+        (string_bytes line.new
+        ≡ appended (string_bytes line.old) (map (column_text problem.now) columns.now)) }
 {
     'printing: for column in columns {
         push_column(line, problem, *column)?;
@@ -51,7 +58,8 @@ pub(crate) fn push_columns(
 
 fn push_row(line: &mut String, problem: &Problem, row: Option<Column>) -> Result<(), AllocError>
     requires { KnowsRow problem.now row }
-    ensures { OnOk result (string_bytes line.new ≡ appended (string_bytes line.old) (row_text problem.now row ∷ [])) }
+    ensures { OnOk result
+        (string_bytes line.new ≡ appended (string_bytes line.old) (row_text problem.now row ∷ [])) }
 {
     match row {
         Some(column) => push_column(line, problem, column),
@@ -82,7 +90,8 @@ fn flow_text(which: FlowStep) -> &'static str
 
 // A word and the number of a step.
 fn push_step(line: &mut String, word: &str, at: u32) -> Result<(), AllocError>
-    ensures { OnOk result (string_bytes line.new ≡ appended (string_bytes line.old) (word.now ∷ decimal at ∷ [])) }
+    ensures { OnOk result
+        (string_bytes line.new ≡ appended (string_bytes line.old) (word.now ∷ decimal at ∷ [])) }
 {
     push_field(line, word)?;
     push_count(line, at)
@@ -94,7 +103,9 @@ pub(crate) fn push_place(
     place: Place,
 ) -> Result<(), AllocError>
     requires { KnowsPlace problem.now place }
-    ensures { OnOk result (string_bytes line.new ≡ appended (string_bytes line.old) (place_fields problem.now place)) }
+    ensures { OnOk result
+        (string_bytes line.new
+        ≡ appended (string_bytes line.old) (place_fields problem.now place)) }
 {
     match place {
         Place::Entry {

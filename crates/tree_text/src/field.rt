@@ -1,5 +1,6 @@
 //! Names and numbers after the first word of a line, each after a space.
-ghost use Rattle.std.specs.Prelude.{◌≡◌, ◌<◌, ◌≤◌, [], ◌∷◌, OnOk, decimal, map, length, string_bytes};
+ghost use Rattle.std.specs.Prelude.{◌≡◌, ◌<◌, ◌≤◌, [], ◌∷◌, OnOk, decimal, map, length};
+ghost use Rattle.std.specs.Prelude.{string_bytes};
 ghost use Rattle.std.specs.Fmt.{signed_decimal};
 ghost use Rattle.tree_text_rules.specs.Spelling.{unit_name, material_name, exclusion_name};
 ghost use Rattle.tree_rules.specs.Known.{IsUnit, IsMaterial, IsExclusion, AreUnits};
@@ -20,7 +21,8 @@ pub fn begin(line: &mut String, word: &str) -> Result<(), AllocError>
 
 /// A field, unchanged.
 pub fn push_field(line: &mut String, field: &str) -> Result<(), AllocError>
-    ensures { OnOk result (string_bytes line.new ≡ appended (string_bytes line.old) (field.now ∷ [])) }
+    ensures { OnOk result
+        (string_bytes line.new ≡ appended (string_bytes line.old) (field.now ∷ [])) }
 {
     line.push(' ')?;
     line.push_str(field)?;
@@ -29,7 +31,8 @@ pub fn push_field(line: &mut String, field: &str) -> Result<(), AllocError>
 
 /// A count.
 pub fn push_count(line: &mut String, count: u32) -> Result<(), AllocError>
-    ensures { OnOk result (string_bytes line.new ≡ appended (string_bytes line.old) (decimal count ∷ [])) }
+    ensures { OnOk result
+        (string_bytes line.new ≡ appended (string_bytes line.old) (decimal count ∷ [])) }
 {
     line.push(' ')?;
     write!(line, "{count}")?;
@@ -37,7 +40,8 @@ pub fn push_count(line: &mut String, count: u32) -> Result<(), AllocError>
 }
 
 pub(crate) fn push_options(line: &mut String, options: u128) -> Result<(), AllocError>
-    ensures { OnOk result (string_bytes line.new ≡ appended (string_bytes line.old) (decimal options ∷ [])) }
+    ensures { OnOk result
+        (string_bytes line.new ≡ appended (string_bytes line.old) (decimal options ∷ [])) }
 {
     line.push(' ')?;
     write!(line, "{options}")?;
@@ -46,7 +50,8 @@ pub(crate) fn push_options(line: &mut String, options: u128) -> Result<(), Alloc
 
 /// A whole number.
 pub fn push_number(line: &mut String, number: i128) -> Result<(), AllocError>
-    ensures { OnOk result (string_bytes line.new ≡ appended (string_bytes line.old) (signed_decimal number ∷ [])) }
+    ensures { OnOk result
+        (string_bytes line.new ≡ appended (string_bytes line.old) (signed_decimal number ∷ [])) }
 {
     line.push(' ')?;
     write!(line, "{number}")?;
@@ -55,7 +60,9 @@ pub fn push_number(line: &mut String, number: i128) -> Result<(), AllocError>
 
 /// Whole numbers, each after a space.
 pub fn push_numbers(line: &mut String, numbers: &[i128]) -> Result<(), AllocError>
-    ensures { OnOk result (string_bytes line.new ≡ appended (string_bytes line.old) (map signed_decimal numbers.now)) }
+    ensures { OnOk result
+        (string_bytes line.new
+        ≡ appended (string_bytes line.old) (map signed_decimal numbers.now)) }
 {
     'printing: for number in numbers {
         push_number(line, *number)?;
@@ -97,7 +104,9 @@ pub(crate) fn push_units(
     units: UnitSet,
 ) -> Result<(), AllocError>
     requires { AreUnits problem.now units }
-    ensures { OnOk result (string_bytes line.new ≡ appended (string_bytes line.old) (map (unit_name problem.now) units)) }
+    ensures { OnOk result
+        (string_bytes line.new
+        ≡ appended (string_bytes line.old) (map (unit_name problem.now) units)) }
 {
     for unit in units {
         push_field(line, unit_name(problem, unit))?;

@@ -36,7 +36,9 @@ pub(crate) enum Field<'a> {
 
 fn push(line: &mut String, problem: &Problem, field: &Field) -> Result<(), AllocError>
     requires { KnowsField problem.now field.now }
-    ensures { OnOk result (string_bytes line.new ≡ appended (string_bytes line.old) (field_tokens problem.now field.now)) }
+    ensures { OnOk result
+        (string_bytes line.new
+        ≡ appended (string_bytes line.old) (field_tokens problem.now field.now)) }
 {
     match field {
         Field::Unit(unit) => push_field(line, unit_name(problem, *unit)),
@@ -61,7 +63,8 @@ fn make(
     fields: &[Field],
 ) -> Result<(), AllocError>
     requires { Each (KnowsField problem.now) fields.now }
-    ensures { OnOk result (string_bytes line.new ≡ joined 32 (word.now ∷ tokens_of problem.now fields.now)) }
+    ensures { OnOk result
+        (string_bytes line.new ≡ joined 32 (word.now ∷ tokens_of problem.now fields.now)) }
 {
     begin(line, word)?;
     'printing: for field in fields {
@@ -79,7 +82,8 @@ pub(crate) fn put<K: Sink>(
     out: &mut K,
 ) -> Result<(), PrintFault>
     requires { Each (KnowsField problem.now) fields.now }
-    ensures { Puts ((word.now ∷ tokens_of problem.now fields.now) ∷ []) (K.state out.old) (K.state out.new) result }
+    ensures { Puts ((word.now ∷ tokens_of problem.now fields.now) ∷ []) (K.state out.old)
+        (K.state out.new) result }
 {
     let made = make(line, problem, word, fields);
     put_line(out, line, made)

@@ -2,9 +2,12 @@
 ghost use Rattle.std.specs.Prelude.{◌≡◌, ◌∷◌, [], map};
 ghost use Rattle.problem_rules.specs.Each.{Each};
 ghost use Rattle.pgraph.specs.View.{step_of};
-ghost use Rattle.tree_rules.specs.Known.{AreUnits, KnowsStep, KnowsEnd, KnowsNode, KnowsTree, KnowsClaim, KnowsColumn, KnowsPlace, KnowsTail};
+ghost use Rattle.tree_rules.specs.Known.{AreUnits, KnowsStep, KnowsEnd, KnowsNode, KnowsTree};
+ghost use Rattle.tree_rules.specs.Known.{KnowsClaim, KnowsColumn, KnowsPlace, KnowsTail};
 ghost use Rattle.branch_tree.specs.View.{end_of, claim_of, tail_of};
-ghost use Rattle.tree_text_rules.specs.Spelling.{step_line, end_line, head_lines, node_lines, tree_lines, network_lines, claim_lines, place_lines, tail_lines, rest_lines};
+ghost use Rattle.tree_text_rules.specs.Spelling.{step_line, end_line, head_lines, node_lines};
+ghost use Rattle.tree_text_rules.specs.Spelling.{tree_lines, network_lines, claim_lines};
+ghost use Rattle.tree_text_rules.specs.Spelling.{place_lines, tail_lines, rest_lines};
 ghost use Rattle.tree_text.specs.Prints.{Puts};
 
 use crate::fault::PrintFault;
@@ -22,7 +25,8 @@ fn put_step<K: Sink>(
     out: &mut K,
 ) -> Result<(), PrintFault>
     requires { KnowsStep problem.now (step_of step) }
-    ensures { Puts (step_line problem.now (step_of step) ∷ []) (K.state out.old) (K.state out.new) result }
+    ensures { Puts (step_line problem.now (step_of step) ∷ []) (K.state out.old) (K.state out.new)
+        result }
 {
     match step {
         Step::Raw(unit) => put(line, problem, "raw", &[Field::Unit(unit)], out),
@@ -45,7 +49,8 @@ pub(crate) fn put_head<K: Sink>(
 ) -> Result<(), PrintFault>
     requires option { AreUnits problem.now option }
     requires steps { Each (KnowsStep problem.now) (map step_of steps.now) }
-    ensures { Puts (head_lines problem.now option (map step_of steps.now)) (K.state out.old) (K.state out.new) result }
+    ensures { Puts (head_lines problem.now option (map step_of steps.now)) (K.state out.old)
+        (K.state out.new) result }
 {
     put(line, problem, "node", &[Field::Units(option)], out)?;
     'printing: for step in steps {
@@ -61,7 +66,8 @@ pub(crate) fn put_end<K: Sink>(
     out: &mut K,
 ) -> Result<(), PrintFault>
     requires { KnowsEnd problem.now (end_of end.now) }
-    ensures { Puts (end_line problem.now (end_of end.now) ∷ []) (K.state out.old) (K.state out.new) result }
+    ensures { Puts (end_line problem.now (end_of end.now) ∷ []) (K.state out.old) (K.state out.new)
+        result }
 {
     match end {
         End::Dead(material) => put(line, problem, "dead", &[Field::Material(*material)], out),
@@ -118,7 +124,8 @@ pub(crate) fn put_network<'a, K: Sink>(
     out: &mut K,
 ) -> Result<(), PrintFault>
     requires { AreUnits problem.now network.now.units }
-    ensures { Puts (network_lines problem.now network.now) (K.state out.old) (K.state out.new) result }
+    ensures { Puts (network_lines problem.now network.now) (K.state out.old) (K.state out.new)
+        result }
 {
     // An array without a reference needs to be given the lifetime of those that have one.
     let units: [Field<'a>; 1] = [Field::Units(network.units())];
@@ -136,7 +143,8 @@ fn put_claim<K: Sink>(
     out: &mut K,
 ) -> Result<(), PrintFault>
     requires { KnowsClaim problem.now (claim_of claim.now) }
-    ensures { Puts (claim_lines problem.now (claim_of claim.now)) (K.state out.old) (K.state out.new) result }
+    ensures { Puts (claim_lines problem.now (claim_of claim.now)) (K.state out.old)
+        (K.state out.new) result }
 {
     match claim {
         Claim::Network(network) => put_network(line, problem, network, out),
@@ -154,7 +162,8 @@ pub(crate) fn put_place<'a, K: Sink>(
 ) -> Result<(), PrintFault>
     requires columns { Each (KnowsColumn problem.now) nonbasic.now }
     requires known { KnowsPlace problem.now place }
-    ensures { Puts (place_lines problem.now nonbasic.now place) (K.state out.old) (K.state out.new) result }
+    ensures { Puts (place_lines problem.now nonbasic.now place) (K.state out.old) (K.state out.new)
+        result }
 {
     put(line, problem, "nonbasic", &[Field::Columns(nonbasic)], out)?;
     let place: [Field<'a>; 1] = [Field::Place(place)];
@@ -168,7 +177,8 @@ pub(crate) fn put_tail<K: Sink>(
     out: &mut K,
 ) -> Result<(), PrintFault>
     requires { KnowsTail problem.now (tail_of tail.now) }
-    ensures { Puts (tail_lines problem.now (tail_of tail.now)) (K.state out.old) (K.state out.new) result }
+    ensures { Puts (tail_lines problem.now (tail_of tail.now)) (K.state out.old) (K.state out.new)
+        result }
 {
     match tail {
         Tail::Whole => put(line, problem, "end", &[], out),
@@ -200,7 +210,8 @@ pub(crate) fn put_rest<K: Sink>(
     requires claim { KnowsClaim problem.now (claim_of claim.now) }
     requires tree { KnowsTree problem.now tree.now }
     requires tail { KnowsTail problem.now (tail_of tail.now) }
-    ensures { Puts (rest_lines problem.now (claim_of claim.now) tree.now (tail_of tail.now)) (K.state out.old) (K.state out.new) result }
+    ensures { Puts (rest_lines problem.now (claim_of claim.now) tree.now (tail_of tail.now))
+        (K.state out.old) (K.state out.new) result }
 {
     put_claim(line, problem, claim, out)?;
     put_nodes(line, problem, tree.nodes(), out)?;

@@ -2,9 +2,11 @@
 ghost use Rattle.std.specs.Prelude.{◌≡◌, ◌≤◌, [], ◌∷◌, map};
 ghost use Rattle.problem_rules.specs.Each.{Each};
 ghost use Rattle.pgraph.specs.View.{step_of};
-ghost use Rattle.tree_rules.specs.Known.{AreUnits, KnowsStep, KnowsEnd, KnowsTree, KnowsClaim, KnowsColumn, KnowsPlace, KnowsTail};
+ghost use Rattle.tree_rules.specs.Known.{AreUnits, KnowsStep, KnowsEnd, KnowsTree, KnowsClaim};
+ghost use Rattle.tree_rules.specs.Known.{KnowsColumn, KnowsPlace, KnowsTail};
 ghost use Rattle.branch_tree.specs.View.{end_of, claim_of, tail_of};
-ghost use Rattle.tree_text_rules.specs.Spelling.{end_line, head_lines, network_lines, place_lines, tail_lines, rest_lines, tree_text_lines};
+ghost use Rattle.tree_text_rules.specs.Spelling.{end_line, head_lines, network_lines, place_lines};
+ghost use Rattle.tree_text_rules.specs.Spelling.{tail_lines, rest_lines, tree_text_lines};
 ghost use Rattle.tree_text.specs.Prints.{Prints};
 
 use crate::fault::PrintFault;
@@ -31,7 +33,9 @@ pub fn print_tree<K: Sink>(
     requires claim { KnowsClaim problem.now (claim_of claim.now) }
     requires tree { KnowsTree problem.now tree.now }
     requires tail { KnowsTail problem.now (tail_of tail.now) }
-    ensures prints { Prints (tree_text_lines problem.now (claim_of claim.now) tree.now (tail_of tail.now)) (K.state out.old) (K.state out.new) result }
+    ensures prints { Prints
+        (tree_text_lines problem.now (claim_of claim.now) tree.now (tail_of tail.now))
+        (K.state out.old) (K.state out.new) result }
     ensures later { (K.state out.old).faults ≤ (K.state out.new).faults }
 {
     let mut line = String::new(alloc);
@@ -51,7 +55,9 @@ pub fn print_rest<K: Sink>(
     requires claim { KnowsClaim problem.now (claim_of claim.now) }
     requires tree { KnowsTree problem.now tree.now }
     requires tail { KnowsTail problem.now (tail_of tail.now) }
-    ensures prints { Prints (rest_lines problem.now (claim_of claim.now) tree.now (tail_of tail.now)) (K.state out.old) (K.state out.new) result }
+    ensures prints { Prints
+        (rest_lines problem.now (claim_of claim.now) tree.now (tail_of tail.now)) (K.state out.old)
+        (K.state out.new) result }
     ensures later { (K.state out.old).faults ≤ (K.state out.new).faults }
 {
     let mut line = String::new(alloc);
@@ -66,7 +72,8 @@ pub fn print_network<K: Sink>(
     out: &mut K,
 ) -> Result<(), PrintFault>
     requires known { AreUnits problem.now network.now.units }
-    ensures prints { Prints (network_lines problem.now network.now) (K.state out.old) (K.state out.new) result }
+    ensures prints { Prints (network_lines problem.now network.now) (K.state out.old)
+        (K.state out.new) result }
     ensures later { (K.state out.old).faults ≤ (K.state out.new).faults }
 {
     let mut line = String::new(alloc);
@@ -83,7 +90,8 @@ pub fn print_head<K: Sink>(
 ) -> Result<(), PrintFault>
     requires option { AreUnits problem.now option }
     requires steps { Each (KnowsStep problem.now) (map step_of steps.now) }
-    ensures prints { Prints (head_lines problem.now option (map step_of steps.now)) (K.state out.old) (K.state out.new) result }
+    ensures prints { Prints (head_lines problem.now option (map step_of steps.now))
+        (K.state out.old) (K.state out.new) result }
     ensures later { (K.state out.old).faults ≤ (K.state out.new).faults }
 {
     let mut line = String::new(alloc);
@@ -98,7 +106,8 @@ pub fn print_end<K: Sink>(
     out: &mut K,
 ) -> Result<(), PrintFault>
     requires known { KnowsEnd problem.now (end_of end.now) }
-    ensures prints { Prints (end_line problem.now (end_of end.now) ∷ []) (K.state out.old) (K.state out.new) result }
+    ensures prints { Prints (end_line problem.now (end_of end.now) ∷ []) (K.state out.old)
+        (K.state out.new) result }
     ensures later { (K.state out.old).faults ≤ (K.state out.new).faults }
 {
     let mut line = String::new(alloc);
@@ -115,7 +124,8 @@ pub fn print_place<K: Sink>(
 ) -> Result<(), PrintFault>
     requires columns { Each (KnowsColumn problem.now) nonbasic.now }
     requires known { KnowsPlace problem.now place.now }
-    ensures prints { Prints (place_lines problem.now nonbasic.now place.now) (K.state out.old) (K.state out.new) result }
+    ensures prints { Prints (place_lines problem.now nonbasic.now place.now) (K.state out.old)
+        (K.state out.new) result }
     ensures later { (K.state out.old).faults ≤ (K.state out.new).faults }
 {
     let mut line = String::new(alloc);
@@ -130,7 +140,8 @@ pub fn print_tail<K: Sink>(
     out: &mut K,
 ) -> Result<(), PrintFault>
     requires known { KnowsTail problem.now (tail_of tail.now) }
-    ensures prints { Prints (tail_lines problem.now (tail_of tail.now)) (K.state out.old) (K.state out.new) result }
+    ensures prints { Prints (tail_lines problem.now (tail_of tail.now)) (K.state out.old)
+        (K.state out.new) result }
     ensures later { (K.state out.old).faults ≤ (K.state out.new).faults }
 {
     let mut line = String::new(alloc);

@@ -1,6 +1,8 @@
 -- A text is split at the places at which it was joined, and joined at the places at which it was
 -- split.
-use Rattle.std.proofs.Common.{◌≡◌, ◌==◌, Bool, true, false, cond, ℕ, List, [], ◌∷◌, ◌++◌, map, flat_map, refl, sym, ap, ap₂, ◌∙◌, append_assoc, append-nil, eqb-true, if◌then◌else◌}
+use Rattle.std.proofs.Common.{◌≡◌, ◌==◌, Bool, true, false, cond, ℕ, List, [], ◌∷◌, ◌++◌, map}
+use Rattle.std.proofs.Common.{flat_map, refl, sym, ap, ap₂, ◌∙◌, append_assoc, append-nil, eqb-true}
+use Rattle.std.proofs.Common.{if◌then◌else◌}
 use Rattle.std.specs.List.{list_any, slice_split, onto_first}
 use Rattle.problem_rules.specs.Each.{Each}
 use Rattle.text_rules.specs.Canonical.{joined}
@@ -12,16 +14,20 @@ use Rattle.tree_text_laws.specs.Codes.{line_of}
 
 -- ---- pieces
 
-joined_onto : {A : Type 0} (mark x : A) (pieces : List (List A)) → joined mark (onto_first x pieces) ≡ x ∷ joined mark pieces
+joined_onto : {A : Type 0} (mark x : A) (pieces : List (List A))
+    → joined mark (onto_first x pieces) ≡ x ∷ joined mark pieces
 joined_onto mark x [] = refl
 joined_onto mark x (piece ∷ []) = refl
 joined_onto mark x (piece ∷ next ∷ pieces) = refl
 
 -- a split gives a piece at least
-joined_split_at : {A : Type 0} (p : A → Bool) (mark : A) (xs : List A) → joined mark ([] ∷ slice_split p xs) ≡ mark ∷ joined mark (slice_split p xs)
+joined_split_at : {A : Type 0} (p : A → Bool) (mark : A) (xs : List A)
+    → joined mark ([] ∷ slice_split p xs) ≡ mark ∷ joined mark (slice_split p xs)
 joined_split_at p mark [] = refl
 joined_split_at p mark (x ∷ xs) = at (p x) (slice_split p xs) where
-  at : (b : Bool) (pieces : List (List _)) → joined mark ([] ∷ cond b ([] ∷ pieces) (onto_first x pieces)) ≡ mark ∷ joined mark (cond b ([] ∷ pieces) (onto_first x pieces))
+  at : (b : Bool) (pieces : List (List _))
+      → joined mark ([] ∷ cond b ([] ∷ pieces) (onto_first x pieces)) ≡ mark
+      ∷ joined mark (cond b ([] ∷ pieces) (onto_first x pieces))
   at true pieces = refl
   at false [] = refl
   at false (piece ∷ pieces) = refl
@@ -30,9 +36,14 @@ joined_split_at p mark (x ∷ xs) = at (p x) (slice_split p xs) where
 pub joined_split : (k : ℕ) (bytes : List ℕ) → joined k (slice_split (λ c. c == k) bytes) ≡ bytes
 joined_split k [] = refl
 joined_split k (c ∷ cs) = at (c == k) refl (joined_split k cs) where
-  at : (b : Bool) → (c == k) ≡ b → joined k (slice_split (λ c. c == k) cs) ≡ cs → joined k (cond b ([] ∷ slice_split (λ c. c == k) cs) (onto_first c (slice_split (λ c. c == k) cs))) ≡ c ∷ cs
-  at true e rest = joined_split_at (λ c. c == k) k cs ∙ ap₂ (λ (x : ℕ) (xs : List ℕ). x ∷ xs) (sym (eqb-true c k e)) rest
-  at false e rest = joined_onto k c (slice_split (λ c. c == k) cs) ∙ ap (λ (xs : List ℕ). c ∷ xs) rest
+  at : (b : Bool) → (c == k) ≡ b → joined k (slice_split (λ c. c == k) cs) ≡ cs
+      → joined k
+      (cond b ([] ∷ slice_split (λ c. c == k) cs) (onto_first c (slice_split (λ c. c == k) cs))) ≡ c
+      ∷ cs
+  at true e rest = joined_split_at (λ c. c == k) k cs
+      ∙ ap₂ (λ (x : ℕ) (xs : List ℕ). x ∷ xs) (sym (eqb-true c k e)) rest
+  at false e rest = joined_onto k c (slice_split (λ c. c == k) cs)
+      ∙ ap (λ (xs : List ℕ). c ∷ xs) rest
 
 -- ---- lines
 
@@ -55,25 +66,31 @@ bytes_said [] = refl
 bytes_said (line ∷ lines) = ap (λ (rest : List ℕ). line_text line ++ rest) (bytes_said lines)
 
 -- a text whose lines are those of tokens is the text of these
-pub text_back : (bytes : List ℕ) (lines : List (List Token)) → lines_of bytes ≡ map line_of lines → bytes ≡ text_of lines
+pub text_back : (bytes : List ℕ) (lines : List (List Token)) → lines_of bytes ≡ map line_of lines
+    → bytes ≡ text_of lines
 text_back bytes lines e =
-    sym (joined_split 10 bytes) ∙ sym (bytes_from (slice_split is_feed bytes)) ∙ ap (flat_map line_bytes) e ∙ bytes_said lines
+    sym (joined_split 10 bytes) ∙ sym (bytes_from (slice_split is_feed bytes))
+    ∙ ap (flat_map line_bytes) e ∙ bytes_said lines
 
 abbrev pub HasNoFeed : List Token → Type 0
 HasNoFeed tokens = list_any is_feed (joined 32 tokens) ≡ false
 
-split_text : (lines : List (List Token)) → Each HasNoFeed lines → slice_split is_feed (text_of lines) ≡ map (joined 32) lines ++ [] ∷ []
+split_text : (lines : List (List Token)) → Each HasNoFeed lines
+    → slice_split is_feed (text_of lines) ≡ map (joined 32) lines ++ [] ∷ []
 split_text [] each = refl
 split_text (line ∷ lines) each =
     ap (slice_split is_feed) (append_assoc (joined 32 line) (10 ∷ []) (text_of lines))
     ∙ split_at is_feed (joined 32 line) 10 (text_of lines) each.0 refl
     ∙ ap (λ (rest : List (List ℕ)). joined 32 line ∷ rest) (split_text lines each.1)
 
-lines_ended : (lines : List (List Token)) → lines_from (map (joined 32) lines ++ [] ∷ []) ≡ map line_of lines
+lines_ended : (lines : List (List Token))
+    → lines_from (map (joined 32) lines ++ [] ∷ []) ≡ map line_of lines
 lines_ended [] = refl
 lines_ended (line ∷ []) = refl
-lines_ended (line ∷ next ∷ lines) = ap (λ (rest : List Line). line_of line ∷ rest) (lines_ended (next ∷ lines))
+lines_ended (line ∷ next ∷ lines) =
+    ap (λ (rest : List Line). line_of line ∷ rest) (lines_ended (next ∷ lines))
 
 -- and the text of tokens has their lines
-pub text_again : (lines : List (List Token)) → Each HasNoFeed lines → lines_of (text_of lines) ≡ map line_of lines
+pub text_again : (lines : List (List Token)) → Each HasNoFeed lines
+    → lines_of (text_of lines) ≡ map line_of lines
 text_again lines each = ap lines_from (split_text lines each) ∙ lines_ended lines

@@ -1,5 +1,6 @@
 -- The line of a word and tokens says that word and those tokens, and no other line does.
-use Rattle.std.proofs.Common.{◌≡◌, Bool, true, false, ℕ, List, [], ◌∷◌, Option, Some, None, refl, sym, ap, ap₂, ◌∙◌, if◌then◌else◌}
+use Rattle.std.proofs.Common.{◌≡◌, Bool, true, false, ℕ, List, [], ◌∷◌, Option, Some, None, refl}
+use Rattle.std.proofs.Common.{sym, ap, ap₂, ◌∙◌, if◌then◌else◌}
 use Rattle.std.specs.List.{list_all, list_any}
 use Rattle.std.specs.Str.{bytes_eq}
 use Rattle.std.proofs.lemmas.Bool.{and_parts, and_from}
@@ -7,32 +8,44 @@ use Rattle.std.proofs.lemmas.Slice.Eq.{bytes_eq-Decides}
 use Rattle.problem_rules.specs.Each.{Each}
 use Rattle.text_rules.specs.Canonical.{joined}
 use Rattle.text_laws.proofs.Each.{each-to}
-use Rattle.tree_text_rules.specs.Line.{Token, Line, is_feed, is_space, tokens_of, has_bytes, is_formed, word_text, word_named, first_word, behind_first, word_of, fields_of}
+use Rattle.tree_text_rules.specs.Line.{Token, Line, is_feed, is_space, tokens_of, has_bytes}
+use Rattle.tree_text_rules.specs.Line.{is_formed, word_text, word_named, first_word, behind_first}
+use Rattle.tree_text_rules.specs.Line.{word_of, fields_of}
 use Rattle.tree_text_rules.specs.declared.Word.{Word}
 use Rattle.tree_text_rules.specs.declared.Word.TheVariants as words
 use Rattle.tree_text_laws.proofs.Pieces.{split_joined, joined_none, joined_split, HasNoFeed}
 use Rattle.tree_text_laws.specs.Codes.{line_of, IsToken}
 
 pub no_feed : (tokens : List Token) → Each IsToken tokens → HasNoFeed tokens
-no_feed tokens each = joined_none is_feed 32 tokens refl (each-to IsToken (λ t. list_any is_feed t ≡ false) (λ t is. is.feed) tokens each)
+no_feed tokens each =
+    joined_none is_feed 32 tokens refl
+    (each-to IsToken (λ t. list_any is_feed t ≡ false) (λ t is. is.feed) tokens each)
 
 -- ---- what a line of tokens says
 
-pub tokens_said : (token : Token) (tokens : List Token) → IsToken token → Each IsToken tokens → tokens_of (line_of (token ∷ tokens)) ≡ token ∷ tokens
-tokens_said token tokens one each = split_joined is_space 32 token tokens refl one.space (each-to IsToken (λ t. list_any is_space t ≡ false) (λ t is. is.space) tokens each)
+pub tokens_said : (token : Token) (tokens : List Token) → IsToken token → Each IsToken tokens
+    → tokens_of (line_of (token ∷ tokens)) ≡ token ∷ tokens
+tokens_said token tokens one each =
+    split_joined is_space 32 token tokens refl one.space
+    (each-to IsToken (λ t. list_any is_space t ≡ false) (λ t is. is.space) tokens each)
 
 all_some : (tokens : List Token) → Each IsToken tokens → list_all has_bytes tokens ≡ true
 all_some [] each = refl
-all_some (token ∷ tokens) each = and_from (has_bytes token) (list_all has_bytes tokens) each.0.some (all_some tokens each.1)
+all_some (token ∷ tokens) each =
+    and_from (has_bytes token) (list_all has_bytes tokens) each.0.some (all_some tokens each.1)
 
-pub formed_said : (token : Token) (tokens : List Token) → IsToken token → Each IsToken tokens → is_formed (line_of (token ∷ tokens)) ≡ true
-formed_said token tokens one each = ap (list_all has_bytes) (tokens_said token tokens one each) ∙ all_some (token ∷ tokens) (one, each)
+pub formed_said : (token : Token) (tokens : List Token) → IsToken token → Each IsToken tokens
+    → is_formed (line_of (token ∷ tokens)) ≡ true
+formed_said token tokens one each = ap (list_all has_bytes) (tokens_said token tokens one each)
+    ∙ all_some (token ∷ tokens) (one, each)
 
 -- and the line that has its form and these tokens
-pub line_from : (line : Line) (tokens : List Token) → is_formed line ≡ true → tokens_of line ≡ tokens → line ≡ line_of tokens
+pub line_from : (line : Line) (tokens : List Token) → is_formed line ≡ true
+    → tokens_of line ≡ tokens → line ≡ line_of tokens
 line_from line tokens formed cut =
     ap₂ (λ (t : List ℕ) (b : Bool). let l : Line = record { text = t; ended = b } in l)
-    (sym (joined_split 32 line.text) ∙ ap (joined 32) cut) (and_parts line.ended (list_all has_bytes (tokens_of line)) formed).0
+    (sym (joined_split 32 line.text) ∙ ap (joined 32) cut)
+    (and_parts line.ended (list_all has_bytes (tokens_of line)) formed).0
 
 pub word_is_token : (word : Word) → IsToken (word_text word)
 word_is_token words.Network = record { some = refl; space = refl; feed = refl }
@@ -91,7 +104,8 @@ pub record Says (line : Line) (word : Word) (fields : List Token) : Type 0 where
   pub word_is : word_of line ≡ Some word
   pub fields_are : fields_of line ≡ fields
 
-pub says_word : (word : Word) (fields : List Token) → Each IsToken fields → Says (line_of (word_text word ∷ fields)) word fields
+pub says_word : (word : Word) (fields : List Token) → Each IsToken fields
+    → Says (line_of (word_text word ∷ fields)) word fields
 says_word word fields each =
     let tokens = tokens_said (word_text word) fields (word_is_token word) each in
     record {
@@ -102,14 +116,20 @@ says_word word fields each =
 
 -- ---- which line says a word
 
-at_word : (token : Token) (named word : Word) (rest : Option Word) (b : Bool) → bytes_eq token (word_text named) ≡ b → (rest ≡ Some word → token ≡ word_text word) → (if b then Some named else rest) ≡ Some word → token ≡ word_text word
+at_word : (token : Token) (named word : Word) (rest : Option Word) (b : Bool)
+    → bytes_eq token (word_text named) ≡ b → (rest ≡ Some word → token ≡ word_text word)
+    → (if b then Some named else rest) ≡ Some word → token ≡ word_text word
 at_word token named word rest true same later e =
     let is : named ≡ word = cc in
     (bytes_eq-Decides token (word_text named)).0 same ∙ ap word_text is
 at_word token named word rest false same later e = later e
 
-step : (token : Token) (named word : Word) (rest : Option Word) → (rest ≡ Some word → token ≡ word_text word) → (if bytes_eq token (word_text named) then Some named else rest) ≡ Some word → token ≡ word_text word
-step token named word rest later e = at_word token named word rest (bytes_eq token (word_text named)) refl later e
+step : (token : Token) (named word : Word) (rest : Option Word)
+    → (rest ≡ Some word → token ≡ word_text word)
+    → (if bytes_eq token (word_text named) then Some named else rest) ≡ Some word
+    → token ≡ word_text word
+step token named word rest later e =
+    at_word token named word rest (bytes_eq token (word_text named)) refl later e
 
 none_named : (token : Token) (word : Word) → None ≡ Some word → token ≡ word_text word
 none_named token word e = absurd cc
@@ -117,17 +137,29 @@ none_named token word e = absurd cc
 word_back : (token : Token) (word : Word) → word_named token ≡ Some word → token ≡ word_text word
 unfolding word_named
 word_back token word =
-    step token words.Network word _ (step token words.Sizes word _ (step token words.Cost word _ (step token words.Infeasible word _
-    (step token words.Unknown word _ (step token words.Node word _ (step token words.Raw word _ (step token words.Rival word _
-    (step token words.Starve word _ (step token words.Loose word _ (step token words.Sole word _ (step token words.Dead word _
-    (step token words.Clash word _ (step token words.Refuted word _ (step token words.Bound word _ (step token words.Branch word _
-    (step token words.Either word _ (step token words.Open word _ (step token words.Spent word _ (step token words.Past word _
-    (step token words.Nonbasic word _ (step token words.Place word _ (step token words.End word None (none_named token word)))))))))))))))))))))))
+    step token words.Network word _
+    (step token words.Sizes word _
+    (step token words.Cost word _ (step token words.Infeasible word _
+    (step token words.Unknown word _
+    (step token words.Node word _ (step token words.Raw word _ (step token words.Rival word _
+    (step token words.Starve word _
+    (step token words.Loose word _ (step token words.Sole word _ (step token words.Dead word _
+    (step token words.Clash word _
+    (step token words.Refuted word _
+    (step token words.Bound word _ (step token words.Branch word _
+    (step token words.Either word _
+    (step token words.Open word _ (step token words.Spent word _ (step token words.Past word _
+    (step token words.Nonbasic word _
+    (step token words.Place word _
+    (step token words.End word None (none_named token word)))))))))))))))))))))))
 
-first_back : (tokens : List Token) (word : Word) → first_word tokens ≡ Some word → tokens ≡ word_text word ∷ behind_first tokens
+first_back : (tokens : List Token) (word : Word) → first_word tokens ≡ Some word
+    → tokens ≡ word_text word ∷ behind_first tokens
 first_back [] word e = absurd cc
 first_back (token ∷ tokens) word e = ap (λ (t : Token). t ∷ tokens) (word_back token word e)
 
 -- a line with its form is that of its word and the tokens after it
-pub line_back : (line : Line) (word : Word) → is_formed line ≡ true → word_of line ≡ Some word → line ≡ line_of (word_text word ∷ fields_of line)
-line_back line word formed named = line_from line (word_text word ∷ fields_of line) formed (first_back (tokens_of line) word named)
+pub line_back : (line : Line) (word : Word) → is_formed line ≡ true → word_of line ≡ Some word
+    → line ≡ line_of (word_text word ∷ fields_of line)
+line_back line word formed named =
+    line_from line (word_text word ∷ fields_of line) formed (first_back (tokens_of line) word named)

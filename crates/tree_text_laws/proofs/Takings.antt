@@ -1,5 +1,6 @@
 -- What is taken of a text, with the number of the line after it.
-use Rattle.std.proofs.Common.{◌≡◌, ◌+◌, ℕ, suc, List, [], ◌∷◌, ◌++◌, length, map, Result, Ok, sym, ◌∙◌, ap, arith, length-append}
+use Rattle.std.proofs.Common.{◌≡◌, ◌+◌, ℕ, suc, List, [], ◌∷◌, ◌++◌, length, map, Result, Ok, sym}
+use Rattle.std.proofs.Common.{◌∙◌, ap, arith, length-append}
 use Rattle.std.proofs.lemmas.List.{length-map}
 use Rattle.problem_rules.specs.Problem.{Problem}
 use Rattle.problem_rules.specs.WellFormed.{IsWellFormed}
@@ -7,28 +8,45 @@ use Rattle.pns_rules.specs.Nodes as nodes
 use Rattle.tree_rules.specs.Claim as claims
 use Rattle.tree_rules.specs.Accepted.{Tree}
 use Rattle.tree_text_rules.specs.Line.{Token, Line}
-use Rattle.tree_text_rules.specs.Read.{Fault, Taken, network_taken, claim_taken, end_taken, tree_taken, tail_taken, rest_taken}
-use Rattle.tree_text_rules.specs.Spelling.{step_line, end_line, node_lines, network_lines, claim_lines, tree_lines, tail_lines, rest_lines}
+use Rattle.tree_text_rules.specs.Read.{Fault, Taken, network_taken, claim_taken, end_taken}
+use Rattle.tree_text_rules.specs.Read.{tree_taken, tail_taken, rest_taken}
+use Rattle.tree_text_rules.specs.Spelling.{step_line, end_line, node_lines, network_lines}
+use Rattle.tree_text_rules.specs.Spelling.{claim_lines, tree_lines, tail_lines, rest_lines}
 use Rattle.tree_text_laws.specs.LineFits.{FitsEnd}
 use Rattle.tree_text_laws.specs.Fits.{FitsNetwork, FitsClaim, FitsTree, FitsTail, Fits}
 use Rattle.tree_text_laws.specs.Lines.{lines_said, TakesJust, ReadsJust}
-use Rattle.tree_text_laws.proofs.Claims.{network_back, network_again, claim_back, claim_again, behind_claim}
+use Rattle.tree_text_laws.proofs.Claims.{network_back, network_again, claim_back, claim_again}
+use Rattle.tree_text_laws.proofs.Claims.{behind_claim}
 use Rattle.tree_text_laws.proofs.Heads.{end_back, end_again}
-use Rattle.tree_text_laws.proofs.Nodes.{tree_back, tree_again, behind_tree, behind_nodes, behind_steps}
+use Rattle.tree_text_laws.proofs.Nodes.{tree_back, tree_again, behind_tree, behind_nodes}
+use Rattle.tree_text_laws.proofs.Nodes.{behind_steps}
 use Rattle.tree_text_laws.proofs.Parts.{good, good_is}
 use Rattle.tree_text_laws.proofs.Tails.{tail_back, tail_again}
 use Rattle.tree_text_laws.proofs.WholeText.{rest_back, rest_again}
 
 -- A reading that takes the lines of each value that fits, and those of no other, goes on at the
 -- number after them.
-module _ {A : Type 0} (read : ℕ → List Line → Result (Taken A) Fault) (spell : A → List (List Token)) (Fit : A → Type 0)
-    (takes : (a : A) (number : ℕ) (behind : List Line) → Fit a → read number (lines_said (spell a) ++ behind) ≡ Ok (record { what = a; number = number + length (spell a); behind = behind }))
-    (back : (number : ℕ) (lines : List Line) (taken : Taken A) → read number lines ≡ Ok taken → (lines ≡ lines_said (spell taken.what) ++ taken.behind) × Fit taken.what) where
-  number_at : (number : ℕ) (lines : List Line) (taken : Taken A) → read number lines ≡ Ok taken → taken.number ≡ number + length (spell taken.what)
+module _ {A : Type 0} (read : ℕ → List Line → Result (Taken A) Fault)
+    (spell : A → List (List Token)) (Fit : A → Type 0)
+    (takes : (a : A) (number : ℕ) (behind : List Line) → Fit a
+    → read number (lines_said (spell a) ++ behind)
+    ≡ Ok (record { what = a; number = number + length (spell a); behind = behind }))
+    (back : (number : ℕ) (lines : List Line) (taken : Taken A) → read number lines ≡ Ok taken
+    → (lines ≡ lines_said (spell taken.what) ++ taken.behind) × Fit taken.what) where
+  number_at : (number : ℕ) (lines : List Line) (taken : Taken A) → read number lines ≡ Ok taken
+      → taken.number ≡ number + length (spell taken.what)
   number_at number lines taken e =
       let b = back number lines taken e in
-      let same : Taken A = record { what = taken.what; number = number + length (spell taken.what); behind = taken.behind } in
-      let is : taken ≡ same = good_is taken same (sym e ∙ ap (read number) b.0 ∙ takes taken.what number taken.behind b.1) in
+      let same : Taken A =
+      record {
+        what = taken.what;
+        number = number + length (spell taken.what);
+        behind =
+            taken.behind;
+      } in
+      let is : taken ≡ same =
+      good_is taken same (sym e ∙ ap (read number) b.0
+      ∙ takes taken.what number taken.behind b.1) in
       ap (λ (t : Taken A). t.number) is
 
   pub takes_just : TakesJust read spell Fit
@@ -40,49 +58,72 @@ module _ {A : Type 0} (read : ℕ → List Line → Result (Taken A) Fault) (spe
   }
 
 -- another number of the line that follows
-numbered : {A : Type 0} (a : A) (behind : List Line) (n m : ℕ) → n ≡ m → good (let t : Taken A = record { what = a; number = n; behind = behind } in t) ≡ good (let t : Taken A = record { what = a; number = m; behind = behind } in t)
-numbered a behind n m e = ap (λ (k : ℕ). good (let t : Taken _ = record { what = a; number = k; behind = behind } in t)) e
+numbered : {A : Type 0} (a : A) (behind : List Line) (n m : ℕ) → n ≡ m
+    → good (let t : Taken A = record { what = a; number = n; behind = behind } in t)
+    ≡ good (let t : Taken A = record { what = a; number = m; behind = behind } in t)
+numbered a behind n m e =
+    ap (λ (k : ℕ). good (let t : Taken _ = record { what = a; number = k; behind = behind } in t)) e
 
 module _ (p : Problem) (formed : IsWellFormed p) where
   pub networks_taken : TakesJust (network_taken p) (network_lines p) (FitsNetwork p)
   networks_taken = takes_just (network_taken p) (network_lines p) (FitsNetwork p)
-      (λ w number behind fits. network_again p formed w number behind fits.known fits.kept ∙ numbered w behind (suc (suc (suc number))) (number + length (network_lines p w)) (let e : suc (suc (suc number)) ≡ number + 3 = omega arith in e))
-      (λ number lines taken e. let b = network_back p formed number lines taken e in (b.lines_are, record { known = b.known; kept = b.kept }))
+      (λ w number behind fits. network_again p formed w number behind fits.known fits.kept
+      ∙ numbered w behind (suc (suc (suc number))) (number + length (network_lines p w))
+      (let e : suc (suc (suc number)) ≡ number + 3 = omega arith in e))
+      (λ number lines taken e. let b =
+      network_back p formed number lines taken e in
+      (b.lines_are, record { known = b.known; kept = b.kept }))
 
-  claim_count : (c : claims.Claim) (number : ℕ) → behind_claim p formed c number ≡ number + length (claim_lines p c)
-  claim_count (claims.network w) number = let e : suc (suc (suc number)) ≡ number + 3 = omega arith in e
+  claim_count : (c : claims.Claim) (number : ℕ)
+      → behind_claim p formed c number ≡ number + length (claim_lines p c)
+  claim_count (claims.network w) number = let e : suc (suc (suc number)) ≡ number + 3 =
+      omega arith in e
   claim_count claims.infeasible number = let e : suc number ≡ number + 1 = omega arith in e
   claim_count claims.unknown number = let e : suc number ≡ number + 1 = omega arith in e
 
   pub claims_taken : TakesJust (claim_taken p) (claim_lines p) (FitsClaim p)
   claims_taken = takes_just (claim_taken p) (claim_lines p) (FitsClaim p)
-      (λ c number behind fits. claim_again p formed c number behind fits.known fits.kept ∙ numbered c behind (behind_claim p formed c number) (number + length (claim_lines p c)) (claim_count c number))
-      (λ number lines taken e. let b = claim_back p formed number lines taken e in (b.lines_are, record { known = b.known; kept = b.kept }))
+      (λ c number behind fits. claim_again p formed c number behind fits.known fits.kept
+      ∙ numbered c behind (behind_claim p formed c number) (number + length (claim_lines p c))
+      (claim_count c number))
+      (λ number lines taken e. let b =
+      claim_back p formed number lines taken e in
+      (b.lines_are, record { known = b.known; kept = b.kept }))
 
   pub ends_taken : TakesJust (end_taken p) (λ end. end_line p end ∷ []) (FitsEnd p)
   ends_taken = takes_just (end_taken p) (λ end. end_line p end ∷ []) (FitsEnd p)
-      (λ end number behind fits. end_again p formed end number behind fits ∙ numbered end behind (suc number) (number + 1) (let e : suc number ≡ number + 1 = omega arith in e))
+      (λ end number behind fits. end_again p formed end number behind fits
+      ∙ numbered end behind (suc number) (number + 1)
+      (let e : suc number ≡ number + 1 = omega arith in e))
       (end_back p formed)
 
-  steps_count : (ss : List nodes.Step) (number : ℕ) → behind_steps p formed number ss ≡ number + length ss
+  steps_count : (ss : List nodes.Step) (number : ℕ)
+      → behind_steps p formed number ss ≡ number + length ss
   steps_count [] number = let e : number ≡ number + 0 = omega arith in e
-  steps_count (s ∷ ss) number = steps_count ss (suc number) ∙ (let e : suc number + length ss ≡ number + suc (length ss) = omega arith in e)
+  steps_count (s ∷ ss) number = steps_count ss (suc number)
+      ∙ (let e : suc number + length ss ≡ number + suc (length ss) = omega arith in e)
 
-  nodes_count : (ts : Tree) (number : ℕ) → behind_nodes p formed number ts ≡ number + length (tree_lines p ts)
+  nodes_count : (ts : Tree) (number : ℕ)
+      → behind_nodes p formed number ts ≡ number + length (tree_lines p ts)
   nodes_count [] number = let e : number ≡ number + 0 = omega arith in e
   nodes_count (t ∷ ts) number =
       let here : ℕ = behind_steps p formed (suc number) t.steps in
       let steps : here ≡ suc number + length t.steps = steps_count t.steps (suc number) in
       let all : List (List Token) = map (step_line p) t.steps in
       let size : length all ≡ length t.steps = length-map t.steps (step_line p) in
-      let node : length (all ++ end_line p t.end ∷ []) ≡ length all + 1 = length-append all (end_line p t.end ∷ []) in
-      let whole : length (node_lines p t ++ tree_lines p ts) ≡ length (node_lines p t) + length (tree_lines p ts) = length-append (node_lines p t) (tree_lines p ts) in
+      let node : length (all ++ end_line p t.end ∷ []) ≡ length all + 1 =
+      length-append all (end_line p t.end ∷ []) in
+      let whole : length (node_lines p t ++ tree_lines p ts) ≡ length (node_lines p t)
+      + length (tree_lines p ts) = length-append (node_lines p t) (tree_lines p ts) in
       nodes_count ts (suc here) ∙ omega (arith, steps, size, node, whole)
 
   pub trees_taken : TakesJust (tree_taken p) (tree_lines p) (FitsTree p)
   trees_taken = takes_just (tree_taken p) (tree_lines p) (FitsTree p)
-      (λ ts number behind fits. tree_again p formed number ts behind fits ∙ numbered ts behind (behind_tree p formed number ts) (number + length (tree_lines p ts)) (nodes_count ts number))
-      (λ number lines taken e. let b = tree_back p formed number lines taken e in (b.lines_are, b.fits))
+      (λ ts number behind fits. tree_again p formed number ts behind fits
+      ∙ numbered ts behind (behind_tree p formed number ts) (number + length (tree_lines p ts))
+      (nodes_count ts number))
+      (λ number lines taken e. let b =
+      tree_back p formed number lines taken e in (b.lines_are, b.fits))
 
   pub tails_read : ReadsJust (tail_taken p) (tail_lines p) (FitsTail p)
   tails_read = record {

@@ -18,13 +18,15 @@ abbrev pub line_of : List Token → Line
 line_of tokens = record { text = joined 32 tokens; ended = true }
 
 -- a value is one token
-pub record IsCode {A : Type 0} (read : Token → Result A TreeKind) (spell : A → Token) (Fits : A → Type 0) : Type 0 where
+pub record IsCode {A : Type 0} (read : Token → Result A TreeKind) (spell : A → Token)
+    (Fits : A → Type 0) : Type 0 where
   pub back : (token : Token) (a : A) → read token ≡ Ok a → (token ≡ spell a) × Fits a
   pub again : (a : A) → Fits a → read (spell a) ≡ Ok a
   pub token : (a : A) → Fits a → IsToken (spell a)
 
 -- a value is one line
-pub record IsLineCode {A : Type 0} (read : Line → Result A TreeKind) (spell : A → List Token) (Fits : A → Type 0) : Type 0 where
+pub record IsLineCode {A : Type 0} (read : Line → Result A TreeKind) (spell : A → List Token)
+    (Fits : A → Type 0) : Type 0 where
   pub back : (line : Line) (a : A) → read line ≡ Ok a → (line ≡ line_of (spell a)) × Fits a
   pub again : (a : A) → Fits a → read (line_of (spell a)) ≡ Ok a
   pub tokens : (a : A) → Fits a → Each IsToken (spell a)

@@ -6,14 +6,22 @@ use Rattle.problem_rules.specs.Each.{Each}
 use Rattle.problem_rules.specs.Problem.{Problem}
 use Rattle.problem_rules.specs.Validity.{IsValid}
 use Rattle.pns_rules.specs.Nodes.{Step}
-use Rattle.tree_rules.specs.Known.{IsUnit, IsMaterial, IsExclusion, AreUnits, KnowsStep, KnowsColumn, KnowsRow}
+use Rattle.tree_rules.specs.Known.{IsUnit, IsMaterial, IsExclusion, AreUnits, KnowsStep}
+use Rattle.tree_rules.specs.Known.{KnowsColumn, KnowsRow}
 use Rattle.tree_text_rules.specs.Line.{Token, Line, lines_of, word_text}
-use Rattle.tree_text_rules.specs.LineRead.{step_read, end_line_read, option_read, root_read, network_line_read, sizes_read, cost_read, nonbasic_read, place_read, close_read}
-use Rattle.tree_text_rules.specs.Spelling.{unit_name, material_name, exclusion_name, step_line, end_line, option_line, column_text, row_text, which_text, flow_text, place_fields, text_of}
-use Rattle.tree_text_rules.specs.Token.{unit_of, material_of, exclusion_of, number_of, denominator_of, count_of, children_of, options_of, column_of, row_of, which_of, flow_of}
+use Rattle.tree_text_rules.specs.LineRead.{step_read, end_line_read, option_read, root_read}
+use Rattle.tree_text_rules.specs.LineRead.{network_line_read, sizes_read, cost_read, nonbasic_read}
+use Rattle.tree_text_rules.specs.LineRead.{place_read, close_read}
+use Rattle.tree_text_rules.specs.Spelling.{unit_name, material_name, exclusion_name, step_line}
+use Rattle.tree_text_rules.specs.Spelling.{end_line, option_line, column_text, row_text, which_text}
+use Rattle.tree_text_rules.specs.Spelling.{flow_text, place_fields, text_of}
+use Rattle.tree_text_rules.specs.Token.{unit_of, material_of, exclusion_of, number_of}
+use Rattle.tree_text_rules.specs.Token.{denominator_of, count_of, children_of, options_of}
+use Rattle.tree_text_rules.specs.Token.{column_of, row_of, which_of, flow_of}
 use Rattle.tree_text_rules.specs.declared.Word.TheVariants as words
 use Rattle.tree_text_laws.specs.Codes.{IsToken, line_of, IsCode, IsLineCode}
-use Rattle.tree_text_laws.specs.LineFits.{IsCount, IsSomeCount, IsOptionCount, IsDenominator, FitsSizes, FitsEnd, FitsPlace}
+use Rattle.tree_text_laws.specs.LineFits.{IsCount, IsSomeCount, IsOptionCount, IsDenominator}
+use Rattle.tree_text_laws.specs.LineFits.{FitsSizes, FitsEnd, FitsPlace}
 
 -- any value fits
 abbrev pub Any : {A : Type 0} → A → Type 0
@@ -23,11 +31,13 @@ Any a = Unit {0}
 
 -- the text of lines of tokens has these lines
 abbrev pub TextsHaveLines : Type 0
-TextsHaveLines = (lines : List (List Token)) → Each (Each IsToken) lines → lines_of (text_of lines) ≡ map line_of lines
+TextsHaveLines = (lines : List (List Token)) → Each (Each IsToken) lines
+    → lines_of (text_of lines) ≡ map line_of lines
 
 -- and no other text has them
 abbrev pub LinesHaveOneText : Type 0
-LinesHaveOneText = (bytes : List ℕ) (lines : List (List Token)) → lines_of bytes ≡ map line_of lines → bytes ≡ text_of lines
+LinesHaveOneText = (bytes : List ℕ) (lines : List (List Token)) → lines_of bytes ≡ map line_of lines
+    → bytes ≡ text_of lines
 
 -- ---- tokens
 
@@ -62,7 +72,8 @@ ColumnsAreRead = (p : Problem) → IsValid p → ReadsColumns p
 pub record ReadsNodeLines (p : Problem) : Type 0 where
   pub root : IsLineCode root_read (option_line p) (λ us. us ≡ [])
   pub options : IsLineCode (option_read p) (option_line p) (AreUnits p)
-  pub step_back : (line : Line) (s : Step) → step_read p line ≡ Some (Ok s) → (line ≡ line_of (step_line p s)) × KnowsStep p s
+  pub step_back : (line : Line) (s : Step) → step_read p line ≡ Some (Ok s)
+      → (line ≡ line_of (step_line p s)) × KnowsStep p s
   pub step_again : (s : Step) → KnowsStep p s → step_read p (line_of (step_line p s)) ≡ Some (Ok s)
   pub ends : IsLineCode (end_line_read p) (end_line p) (FitsEnd p)
 
@@ -70,8 +81,11 @@ abbrev pub NodeLinesAreRead : Type 0
 NodeLinesAreRead = (p : Problem) → IsValid p → ReadsNodeLines p
 
 pub record ReadsNetworkLines (p : Problem) : Type 0 where
-  pub units : IsLineCode (network_line_read p) (λ us. word_text words.Network ∷ map (unit_name p) us) (AreUnits p)
-  pub sizes : (count : ℕ) → IsLineCode (sizes_read count) (λ c. word_text words.Sizes ∷ signed_decimal c.0 ∷ map signed_decimal c.1) (FitsSizes count)
+  pub units : IsLineCode (network_line_read p)
+      (λ us. word_text words.Network ∷ map (unit_name p) us) (AreUnits p)
+  pub sizes : (count : ℕ)
+      → IsLineCode (sizes_read count)
+      (λ c. word_text words.Sizes ∷ signed_decimal c.0 ∷ map signed_decimal c.1) (FitsSizes count)
   pub cost : IsLineCode cost_read (λ z. word_text words.Cost ∷ signed_decimal z ∷ []) InRange
 
 abbrev pub NetworkLinesAreRead : Type 0
@@ -79,8 +93,10 @@ NetworkLinesAreRead = (p : Problem) → IsValid p → ReadsNetworkLines p
 
 -- the lines of a tail after its first
 pub record ReadsTailLines (p : Problem) : Type 0 where
-  pub nonbasic : IsLineCode (nonbasic_read p) (λ cs. word_text words.Nonbasic ∷ map (column_text p) cs) (Each (KnowsColumn p))
-  pub place : IsLineCode (place_read p) (λ place. word_text words.Place ∷ place_fields p place) (FitsPlace p)
+  pub nonbasic : IsLineCode (nonbasic_read p)
+      (λ cs. word_text words.Nonbasic ∷ map (column_text p) cs) (Each (KnowsColumn p))
+  pub place : IsLineCode (place_read p) (λ place. word_text words.Place ∷ place_fields p place)
+      (FitsPlace p)
   pub end : IsLineCode close_read (λ u. word_text words.End ∷ []) Any
 
 abbrev pub TailLinesAreRead : Type 0

@@ -10,16 +10,24 @@ abbrev pub lines_said : List (List Token) → List Line
 lines_said lines = map line_of lines
 
 -- from any number on, a reading takes exactly the lines of a value, and leaves those that follow
-pub record TakesJust {A : Type 0} (read : ℕ → List Line → Result (Taken A) Fault) (spell : A → List (List Token)) (Fits : A → Type 0) : Type 0 where
-  pub takes : (a : A) (number : ℕ) (behind : List Line) → Fits a → read number (lines_said (spell a) ++ behind) ≡ Ok (record { what = a; number = number + length (spell a); behind = behind })
-  pub lines_are : (number : ℕ) (lines : List Line) (taken : Taken A) → read number lines ≡ Ok taken → lines ≡ lines_said (spell taken.what) ++ taken.behind
-  pub number_is : (number : ℕ) (lines : List Line) (taken : Taken A) → read number lines ≡ Ok taken → taken.number ≡ number + length (spell taken.what)
-  pub fits : (number : ℕ) (lines : List Line) (taken : Taken A) → read number lines ≡ Ok taken → Fits taken.what
+pub record TakesJust {A : Type 0} (read : ℕ → List Line → Result (Taken A) Fault)
+    (spell : A → List (List Token)) (Fits : A → Type 0) : Type 0 where
+  pub takes : (a : A) (number : ℕ) (behind : List Line) → Fits a
+      → read number (lines_said (spell a) ++ behind)
+      ≡ Ok (record { what = a; number = number + length (spell a); behind = behind })
+  pub lines_are : (number : ℕ) (lines : List Line) (taken : Taken A) → read number lines ≡ Ok taken
+      → lines ≡ lines_said (spell taken.what) ++ taken.behind
+  pub number_is : (number : ℕ) (lines : List Line) (taken : Taken A) → read number lines ≡ Ok taken
+      → taken.number ≡ number + length (spell taken.what)
+  pub fits : (number : ℕ) (lines : List Line) (taken : Taken A) → read number lines ≡ Ok taken
+      → Fits taken.what
 
 -- from any number on, a reading gives a value for exactly its lines, after which the text ends
-pub record ReadsJust {A : Type 0} (read : ℕ → List Line → Result A Fault) (spell : A → List (List Token)) (Fits : A → Type 0) : Type 0 where
+pub record ReadsJust {A : Type 0} (read : ℕ → List Line → Result A Fault)
+    (spell : A → List (List Token)) (Fits : A → Type 0) : Type 0 where
   pub reads : (a : A) (number : ℕ) → Fits a → read number (lines_said (spell a)) ≡ Ok a
-  pub lines_are : (number : ℕ) (lines : List Line) (a : A) → read number lines ≡ Ok a → lines ≡ lines_said (spell a)
+  pub lines_are : (number : ℕ) (lines : List Line) (a : A) → read number lines ≡ Ok a
+      → lines ≡ lines_said (spell a)
   pub fits : (number : ℕ) (lines : List Line) (a : A) → read number lines ≡ Ok a → Fits a
 
 -- the first line, if there is one, is no step

@@ -1,7 +1,9 @@
 //! The laws. Each function does nothing when it runs; a call gives a proof its law.
 ghost use Rattle.tree_text_laws.specs.Laws.{SpelledTextsRead, ReadTextsAreSpelled, TextsTell};
-ghost use Rattle.tree_text_laws.specs.Laws.{NetworksAreTaken, ClaimsAreTaken, EndsAreTaken, TreesAreTaken};
-ghost use Rattle.tree_text_laws.specs.Laws.{TailsAreRead, RestsAreRead, SpelledHeadsRead, ReadHeadsAreSpelled};
+ghost use Rattle.tree_text_laws.specs.Laws.{NetworksAreTaken, ClaimsAreTaken, EndsAreTaken};
+ghost use Rattle.tree_text_laws.specs.Laws.{TreesAreTaken};
+ghost use Rattle.tree_text_laws.specs.Laws.{TailsAreRead, RestsAreRead, SpelledHeadsRead};
+ghost use Rattle.tree_text_laws.specs.Laws.{ReadHeadsAreSpelled};
 
 use problem_rules::valid_is_well_formed;
 

@@ -1,6 +1,8 @@
 //! The laws. Each function does nothing when it runs; a call gives a proof its law.
-ghost use Rattle.tree_text_laws.specs.LineLaws.{TextsHaveLines, LinesHaveOneText, NumbersAreRead, NamesAreRead};
-ghost use Rattle.tree_text_laws.specs.LineLaws.{ColumnsAreRead, NodeLinesAreRead, NetworkLinesAreRead, TailLinesAreRead};
+ghost use Rattle.tree_text_laws.specs.LineLaws.{TextsHaveLines, LinesHaveOneText, NumbersAreRead};
+ghost use Rattle.tree_text_laws.specs.LineLaws.{NamesAreRead};
+ghost use Rattle.tree_text_laws.specs.LineLaws.{ColumnsAreRead, NodeLinesAreRead};
+ghost use Rattle.tree_text_laws.specs.LineLaws.{NetworkLinesAreRead, TailLinesAreRead};
 
 use problem_rules::valid_is_well_formed;
 

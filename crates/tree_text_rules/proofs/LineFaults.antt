@@ -1,12 +1,15 @@
--- Each kind of fault beside its neighbours in the order: lines that have several faults tell the least number.
+-- Each kind of fault next to its neighbours in the order: lines that have several faults give the
+-- least number.
 use Rattle.std.proofs.Common.{List, [], ◌∷◌, codes, refl, ℕ}
 use Rattle.tree_text_rules.specs.Line.{word_named}
 use Rattle.tree_text_rules.specs.Read.{nodes_taken}
 use Rattle.tree_text_rules.specs.declared.TreeKind.{TreeKind}
-use Rattle.tree_text_rules.specs.declared.TreeKind.TheVariants.{BadLine, UnknownName, BadNumber, Order, WrongCount, MoreNodes, FewerNodes}
+use Rattle.tree_text_rules.specs.declared.TreeKind.TheVariants.{BadLine, UnknownName, BadNumber}
+use Rattle.tree_text_rules.specs.declared.TreeKind.TheVariants.{Order, WrongCount, MoreNodes}
+use Rattle.tree_text_rules.specs.declared.TreeKind.TheVariants.{FewerNodes}
 use Rattle.tree_text_rules.proofs.Plant.{Told}
 
--- where a step or an end must come
+-- at the place of a step or an end
 parts : List (List ℕ × TreeKind)
 parts =
     (codes "x", BadLine) ∷
@@ -60,7 +63,7 @@ parts_told : Told (codes "unknown" ∷ codes "node" ∷ []) (codes "end" ∷ [])
 unfolding parts word_named nodes_taken
 parts_told = refl
 
--- where a child's line must come
+-- at the place of a child's line
 children : List (List ℕ × TreeKind)
 children =
     (codes "end", FewerNodes) ∷
@@ -74,11 +77,12 @@ children =
     (codes "node U2 U1", Order) ∷
     []
 
-children_told : Told (codes "unknown" ∷ codes "node" ∷ codes "branch A 1" ∷ []) (codes "open" ∷ codes "end" ∷ []) 5 children
+children_told : Told (codes "unknown" ∷ codes "node" ∷ codes "branch A 1" ∷ [])
+    (codes "open" ∷ codes "end" ∷ []) 5 children
 unfolding children word_named nodes_taken
 children_told = refl
 
--- where the line of the second child must come
+-- at the place of the line of the second child
 seconds : List (List ℕ × TreeKind)
 seconds =
     (codes "end", FewerNodes) ∷
@@ -88,11 +92,13 @@ seconds =
     (codes "node U9", UnknownName) ∷
     []
 
-seconds_told : Told (codes "unknown" ∷ codes "node" ∷ codes "either U3" ∷ codes "node U3" ∷ codes "open" ∷ []) (codes "open" ∷ codes "end" ∷ []) 7 seconds
+seconds_told : Told
+    (codes "unknown" ∷ codes "node" ∷ codes "either U3" ∷ codes "node U3" ∷ codes "open" ∷ [])
+    (codes "open" ∷ codes "end" ∷ []) 7 seconds
 unfolding seconds word_named nodes_taken
 seconds_told = refl
 
--- behind the second child
+-- after the second child
 thirds : List (List ℕ × TreeKind)
 thirds =
     (codes "node", MoreNodes) ∷
@@ -100,19 +106,22 @@ thirds =
     (codes "either U1", BadLine) ∷
     []
 
-thirds_told : Told (codes "unknown" ∷ codes "node" ∷ codes "either U3" ∷ codes "node U3" ∷ codes "open" ∷ codes "node" ∷ codes "open" ∷ []) (codes "open" ∷ codes "end" ∷ []) 9 thirds
+thirds_told : Told
+    (codes "unknown" ∷ codes "node" ∷ codes "either U3" ∷ codes "node U3" ∷ codes "open"
+    ∷ codes "node" ∷ codes "open" ∷ []) (codes "open" ∷ codes "end" ∷ []) 9 thirds
 unfolding thirds word_named nodes_taken
 thirds_told = refl
 
--- where the root's line must come
+-- at the place of the root's line
 roots : List (List ℕ × TreeKind)
-roots = (codes "node U1", BadLine) ∷ (codes "node Q", BadLine) ∷ (codes "end", FewerNodes) ∷ (codes "open", BadLine) ∷ []
+roots = (codes "node U1", BadLine) ∷ (codes "node Q", BadLine) ∷ (codes "end", FewerNodes)
+    ∷ (codes "open", BadLine) ∷ []
 
 roots_told : Told (codes "unknown" ∷ []) (codes "open" ∷ codes "end" ∷ []) 3 roots
 unfolding roots word_named nodes_taken
 roots_told = refl
 
--- where the sizes must come
+-- at the place of the sizes
 sizes : List (List ℕ × TreeKind)
 sizes =
     (codes "cost 1", BadLine) ∷
@@ -124,11 +133,12 @@ sizes =
     (codes "sizes 1 x", BadNumber) ∷
     []
 
-sizes_told : Told (codes "network U1" ∷ []) (codes "cost 1" ∷ codes "node" ∷ codes "open" ∷ codes "end" ∷ []) 3 sizes
+sizes_told : Told (codes "network U1" ∷ [])
+    (codes "cost 1" ∷ codes "node" ∷ codes "open" ∷ codes "end" ∷ []) 3 sizes
 unfolding sizes word_named nodes_taken
 sizes_told = refl
 
--- where the tail must come
+-- at the place of the tail
 tails : List (List ℕ × TreeKind)
 tails =
     (codes "node", MoreNodes) ∷
@@ -146,7 +156,7 @@ tails_told : Told (codes "unknown" ∷ codes "node" ∷ codes "open" ∷ []) (co
 unfolding tails word_named nodes_taken
 tails_told = refl
 
--- where the nonbasic columns must come
+-- at the place of the nonbasic columns
 columns : List (List ℕ × TreeKind)
 columns =
     (codes "node", MoreNodes) ∷
@@ -158,11 +168,12 @@ columns =
     (codes "nonbasic t:U1", UnknownName) ∷
     []
 
-columns_told : Told (codes "unknown" ∷ codes "node" ∷ codes "open" ∷ codes "past 0" ∷ []) (codes "place cost 1" ∷ codes "end" ∷ []) 6 columns
+columns_told : Told (codes "unknown" ∷ codes "node" ∷ codes "open" ∷ codes "past 0" ∷ [])
+    (codes "place cost 1" ∷ codes "end" ∷ []) 6 columns
 unfolding columns word_named nodes_taken
 columns_told = refl
 
--- where the place must come
+-- at the line of the place
 places : List (List ℕ × TreeKind)
 places =
     (codes "node", MoreNodes) ∷
@@ -181,6 +192,8 @@ places =
     (codes "place entry x:U1 x:U1 cost cost left", BadLine) ∷
     []
 
-places_told : Told (codes "unknown" ∷ codes "node" ∷ codes "open" ∷ codes "past 0" ∷ codes "nonbasic" ∷ []) (codes "end" ∷ []) 7 places
+places_told : Told
+    (codes "unknown" ∷ codes "node" ∷ codes "open" ∷ codes "past 0" ∷ codes "nonbasic" ∷ [])
+    (codes "end" ∷ []) 7 places
 unfolding places word_named nodes_taken
 places_told = refl

@@ -1,11 +1,12 @@
--- The names of a plant, small texts about it, and what is told of them.
+-- The names of a plant, small texts about it, and what is reported of them.
 use Rattle.std.proofs.Common.{◌≡◌, ◌++◌, ℕ, pos, List, [], ◌∷◌, map, flat_map, codes, Err}
 use Rattle.problem_rules.specs.Problem.{Problem, Material, OperatingUnit, intermediate}
 use Rattle.tree_text_rules.specs.declared.TreeKind.{TreeKind}
 use Rattle.tree_text_rules.specs.Read.{Fault, read_text}
 
 abbrev material : List ℕ → Material
-material name = record { name = name; kind = intermediate; price = pos 0; lower = pos 0; upper = pos 0 }
+material name =
+    record { name = name; kind = intermediate; price = pos 0; lower = pos 0; upper = pos 0 }
 
 abbrev unit : List ℕ → OperatingUnit
 unit name = record {
@@ -22,7 +23,8 @@ unit name = record {
 
 abbrev pub plant : Problem
 plant = record {
-  materials = map material (codes "A" ∷ codes "B" ∷ codes "C" ∷ codes "E" ∷ codes "F" ∷ codes "P" ∷ []);
+  materials =
+      map material (codes "A" ∷ codes "B" ∷ codes "C" ∷ codes "E" ∷ codes "F" ∷ codes "P" ∷ []);
   units = map unit (codes "U1" ∷ codes "U2" ∷ codes "U3" ∷ codes "U4" ∷ codes "U5" ∷ []);
   exclusions = record { name = codes "X"; units = 0 ∷ 1 ∷ [] } ∷ [];
   payout = pos 1;
@@ -32,7 +34,7 @@ plant = record {
 abbrev pub lines : List (List ℕ) → List ℕ
 lines texts = flat_map (λ text. text ++ 10 ∷ []) texts
 
--- a text of these lines behind the first
+-- a text of the first line and these lines
 abbrev pub body : List (List ℕ) → List ℕ
 body texts = lines (codes "file_type=PNS_tree_v1" ∷ texts)
 
@@ -40,6 +42,8 @@ body texts = lines (codes "file_type=PNS_tree_v1" ∷ texts)
 abbrev pub First : List (List ℕ × Fault) → Type 0
 First rows = map (λ row. read_text plant (row.0)) rows ≡ map (λ row. Err (row.1)) rows
 
--- each line of the table, behind these lines and before those, has this kind of fault
+-- each line of the table, between these lines and those, has this kind of fault
 abbrev pub Told : List (List ℕ) → List (List ℕ) → ℕ → List (List ℕ × TreeKind) → Type 0
-Told front back number rows = map (λ row. read_text plant (body (front ++ row.0 ∷ back))) rows ≡ map (λ row. Err (number, row.1)) rows
+Told front back number rows =
+    map (λ row. read_text plant (body (front ++ row.0 ∷ back))) rows
+    ≡ map (λ row. Err (number, row.1)) rows

@@ -1,5 +1,6 @@
--- Texts of a plant of five units: each is spelled as it stands, and it reads as it was.
-use Rattle.std.proofs.Common.{◌≡◌, ◌++◌, ℕ, pos, negsuc, List, [], ◌∷◌, map, codes, refl, Ok, Some, None}
+-- Texts of a plant of five units: each is spelled just so, and reads back.
+use Rattle.std.proofs.Common.{◌≡◌, ◌++◌, ℕ, pos, negsuc, List, [], ◌∷◌, map, codes, refl, Ok, Some}
+use Rattle.std.proofs.Common.{None}
 use Rattle.std.specs.Fmt.{digits}
 use Rattle.pns_rules.specs.Nodes.{raw, rival, starve, loose, sole}
 use Rattle.integer_laws.specs.declared.which.Which.TheVariants as whiches
@@ -23,17 +24,41 @@ abbrev IsTextOf : List ℕ → Certificate → Type 0
 IsTextOf text c = (read_text plant text ≡ Ok c) × (tree_text plant c.claim c.tree c.tail ≡ text)
 
 abbrev claimed : Claim
-claimed = network (record { units = 0 ∷ 2 ∷ []; sizes = pos 20000000 ∷ pos 20000000 ∷ []; d = pos 1; cost = pos 75000000000000000000 })
+claimed =
+    network
+    (record {
+      units = 0 ∷ 2 ∷ [];
+      sizes = pos 20000000 ∷ pos 20000000 ∷ [];
+      d = pos 1;
+      cost =
+          pos 75000000000000000000;
+    })
 
 abbrev bound_leaf : List ℕ → ℕ → ℕ → TreeNode Leaf
-bound_leaf option y z = record { option = option; steps = []; end = leaf (bounded (pos 1) (pos 0 ∷ pos y ∷ pos z ∷ [])) }
+bound_leaf option y z =
+    record {
+      option = option;
+      steps = [];
+      end =
+          leaf (bounded (pos 1) (pos 0 ∷ pos y ∷ pos z ∷ []));
+    }
 
 abbrev solved : Tree
 solved =
-    record { option = []; steps = starve 3 ∷ loose (4 ∷ []) ∷ sole 5 2 ∷ []; end = branch (at_material 2 3) }
+    record {
+      option = [];
+      steps = starve 3 ∷ loose (4 ∷ []) ∷ sole 5 2 ∷ [];
+      end =
+          branch (at_material 2 3);
+    }
     ∷ bound_leaf (0 ∷ []) 3000000 3000000
     ∷ bound_leaf (1 ∷ []) 4000000 4000000
-    ∷ record { option = 0 ∷ 1 ∷ []; steps = []; end = leaf (bounded (pos 1) (pos 0 ∷ pos 0 ∷ pos 3000000 ∷ pos 3000000 ∷ [])) }
+    ∷ record {
+      option = 0 ∷ 1 ∷ [];
+      steps = [];
+      end =
+          leaf (bounded (pos 1) (pos 0 ∷ pos 0 ∷ pos 3000000 ∷ pos 3000000 ∷ []));
+    }
     ∷ []
 
 abbrev solved_text : List ℕ
@@ -62,13 +87,22 @@ solved_is = (refl, refl)
 
 -- a tree that branches in two at U3, at U1 and at U2
 abbrev halves_claim : Claim
-halves_claim = network (record { units = 2 ∷ 3 ∷ []; sizes = pos 20000000 ∷ pos 20000000 ∷ []; d = pos 1; cost = pos 65000000000000000000 })
+halves_claim =
+    network
+    (record {
+      units = 2 ∷ 3 ∷ [];
+      sizes = pos 20000000 ∷ pos 20000000 ∷ [];
+      d = pos 1;
+      cost =
+          pos 65000000000000000000;
+    })
 
 abbrev halved : List ℕ → ℕ → TreeNode Leaf
 halved option u = record { option = option; steps = []; end = branch (either u) }
 
 abbrev shut_leaf : List ℕ → List ℕ → TreeNode Leaf
-shut_leaf option ys = record { option = option; steps = []; end = leaf (bounded (pos 1) (map pos ys)) }
+shut_leaf option ys =
+    record { option = option; steps = []; end = leaf (bounded (pos 1) (map pos ys)) }
 
 abbrev halves : Tree
 halves =
@@ -112,7 +146,11 @@ halves_are = (refl, refl)
 -- each form of a step, an end and a claim
 abbrev forms : Tree
 forms =
-    record { option = []; steps = raw 0 ∷ rival 1 ∷ starve 0 ∷ loose [] ∷ loose (0 ∷ 4 ∷ []) ∷ []; end = branch (at_material 5 5) }
+    record {
+      option = [];
+      steps = raw 0 ∷ rival 1 ∷ starve 0 ∷ loose [] ∷ loose (0 ∷ 4 ∷ []) ∷ [];
+      end = branch (at_material 5 5);
+    }
     ∷ record { option = 0 ∷ []; steps = []; end = leaf (dead 1) }
     ∷ record { option = []; steps = []; end = leaf (clash 0) }
     ∷ record { option = []; steps = []; end = leaf (refuted []) }
@@ -142,37 +180,73 @@ forms_text claim tail = body (claim ++
     ∷ tail
     )
 
-forms_are : IsTextOf (forms_text (codes "infeasible" ∷ []) (codes "end" ∷ [])) (record { claim = infeasible; tree = forms; tail = whole })
+forms_are : IsTextOf (forms_text (codes "infeasible" ∷ []) (codes "end" ∷ []))
+    (record { claim = infeasible; tree = forms; tail = whole })
 unfolding digits nodes_taken word_named
 forms_are = (refl, refl)
 
-spent_is : IsTextOf (forms_text (codes "unknown" ∷ []) (codes "spent 4294967295 340282366920938463463374607431768211455" ∷ codes "end" ∷ []))
-    (record { claim = unknown; tree = forms; tail = spent 4294967295 340282366920938463463374607431768211455 })
+spent_is : IsTextOf
+    (forms_text (codes "unknown" ∷ [])
+    (codes "spent 4294967295 340282366920938463463374607431768211455" ∷ codes "end" ∷ []))
+    (record {
+      claim = unknown;
+      tree = forms;
+      tail =
+          spent 4294967295 340282366920938463463374607431768211455;
+    })
 unfolding digits nodes_taken word_named
 spent_is = (refl, refl)
 
-empty_network : IsTextOf (forms_text (codes "network" ∷ codes "sizes 7" ∷ codes "cost -170141183460469231731687303715884105727" ∷ []) (codes "end" ∷ []))
-    (record { claim = network (record { units = []; sizes = []; d = pos 7; cost = negsuc 170141183460469231731687303715884105726 }); tree = forms; tail = whole })
+empty_network : IsTextOf
+    (forms_text
+    (codes "network" ∷ codes "sizes 7" ∷ codes "cost -170141183460469231731687303715884105727" ∷ [])
+    (codes "end" ∷ []))
+    (record {
+      claim =
+          network
+          (record {
+            units = [];
+            sizes = [];
+            d = pos 7;
+            cost =
+                negsuc 170141183460469231731687303715884105726;
+          });
+      tree = forms;
+      tail = whole;
+    })
 unfolding digits nodes_taken word_named
 empty_network = (refl, refl)
 
 -- a tail with this place
 abbrev past_text : List ℕ → List ℕ
-past_text place = body (codes "unknown" ∷ codes "node" ∷ codes "open" ∷ codes "past 0" ∷ codes "nonbasic x:U1 s:U2 t:A w:P right scale" ∷ place ∷ codes "end" ∷ [])
+past_text place =
+    body (codes "unknown" ∷ codes "node" ∷ codes "open" ∷ codes "past 0"
+    ∷ codes "nonbasic x:U1 s:U2 t:A w:P right scale" ∷ place ∷ codes "end" ∷ [])
 
 abbrev past_at : Place → Certificate
 past_at place = record {
   claim = unknown;
   tree = record { option = []; steps = []; end = leaf untried } ∷ [];
-  tail = past 0 (columns.X 0 ∷ columns.S 1 ∷ columns.T 0 ∷ columns.W 5 ∷ columns.Right ∷ columns.Scale ∷ []) place;
+  tail =
+      past 0 (columns.X 0 ∷ columns.S 1 ∷ columns.T 0 ∷ columns.W 5 ∷ columns.Right ∷ columns.Scale
+      ∷ []) place;
 }
 
 -- each form of a place
 abbrev places_of : List (List ℕ × Place)
-places_of =
-    (codes "place entry s:U1 x:U1 cost right left", places.Entry (columns.S 0) (columns.X 0) None columns.Right whiches.Left)
-    ∷ (codes "place entry right scale t:B w:B right", places.Entry columns.Right columns.Scale (Some (columns.T 1)) (columns.W 1) whiches.Right)
-    ∷ (codes "place entry x:U3 x:U3 x:U3 scale difference", places.Entry (columns.X 2) (columns.X 2) (Some (columns.X 2)) columns.Scale whiches.Difference)
+places_of = (
+  codes "place entry s:U1 x:U1 cost right left",
+  places.Entry (columns.S 0) (columns.X 0) None columns.Right whiches.Left,
+)
+    ∷ (
+      codes "place entry right scale t:B w:B right",
+      places.Entry columns.Right columns.Scale (Some (columns.T 1)) (columns.W 1) whiches.Right,
+    )
+    ∷ (
+      codes "place entry x:U3 x:U3 x:U3 scale difference",
+      places.Entry (columns.X 2) (columns.X 2) (Some (columns.X 2)) columns.Scale
+          whiches.Difference,
+    )
     ∷ (codes "place flow U5 lcm", places.Flow 4 flows.Lcm)
     ∷ (codes "place flow U5 shift", places.Flow 4 flows.Shift)
     ∷ (codes "place flow U5 scaled", places.Flow 4 flows.Scaled)
@@ -183,13 +257,15 @@ places_of =
     ∷ (codes "place refute w:F 3", places.Refute (columns.W 4) 3)
     ∷ []
 
-places_read : map (λ row. read_text plant (past_text (row.0))) places_of ≡ map (λ row. Ok (past_at (row.1))) places_of
+places_read : map (λ row. read_text plant (past_text (row.0))) places_of
+    ≡ map (λ row. Ok (past_at (row.1))) places_of
 unfolding nodes_taken word_named
 places_read = refl
 
 abbrev text_for : Certificate → List ℕ
 text_for c = tree_text plant c.claim c.tree c.tail
 
-places_spelled : map (λ row. text_for (past_at (row.1))) places_of ≡ map (λ row. past_text (row.0)) places_of
+places_spelled : map (λ row. text_for (past_at (row.1))) places_of
+    ≡ map (λ row. past_text (row.0)) places_of
 unfolding digits
 places_spelled = refl

@@ -1,11 +1,17 @@
--- The lines of a tree's text and their tokens. A line ends by a line feed alone; what stands behind the last line feed is a line
--- that has not ended, and none where it is empty. Tokens are parted by one space, so a space at an end of a line or beside
--- another makes a token without bytes, which no line has.
-use Rattle.std.specs.Prelude.{◌==◌, ◌&&◌, ℕ, Bool, true, false, not, List, [], ◌∷◌, length, codes, Option, Some, None, if◌then◌else◌}
+-- The lines of a tree's text and their tokens. Only a line feed ends a line. What follows the last
+-- line feed, if it is not empty, is a line that has not ended. One space separates two tokens. So a
+-- space at an end of a line or next to another space makes a token without bytes, which no line
+-- has.
+use Rattle.std.specs.Prelude.{◌==◌, ◌&&◌, ℕ, Bool, true, false, not, List, [], ◌∷◌, length, codes}
+use Rattle.std.specs.Prelude.{Option, Some, None, if◌then◌else◌}
 use Rattle.std.specs.List.{list_all, slice_split}
 use Rattle.std.specs.Str.{bytes_eq}
 use Rattle.tree_text_rules.specs.declared.Word.{Word}
-use Rattle.tree_text_rules.specs.declared.Word.TheVariants.{Network, Sizes, Cost, Infeasible, Unknown, Node, Raw, Rival, Starve, Loose, Sole, Dead, Clash, Refuted, Bound, Branch, Either, Open, Spent, Past, Nonbasic, Place, End}
+use Rattle.tree_text_rules.specs.declared.Word.TheVariants.{Network, Sizes, Cost, Infeasible}
+use Rattle.tree_text_rules.specs.declared.Word.TheVariants.{Unknown, Node, Raw, Rival, Starve}
+use Rattle.tree_text_rules.specs.declared.Word.TheVariants.{Loose, Sole, Dead, Clash, Refuted}
+use Rattle.tree_text_rules.specs.declared.Word.TheVariants.{Bound, Branch, Either, Open, Spent}
+use Rattle.tree_text_rules.specs.declared.Word.TheVariants.{Past, Nonbasic, Place, End}
 
 abbrev pub Token : Type 0
 Token = List ℕ
@@ -17,7 +23,7 @@ pub record Line : Type 0 where
 abbrev pub is_feed : ℕ → Bool
 is_feed c = c == 10
 
--- what stands behind the last line feed
+-- what follows the last line feed
 abbrev pub last_line : List ℕ → List Line
 last_line [] = []
 last_line (c ∷ cs) = record { text = c ∷ cs; ended = false } ∷ []
@@ -25,7 +31,8 @@ last_line (c ∷ cs) = record { text = c ∷ cs; ended = false } ∷ []
 abbrev pub lines_from : List (List ℕ) → List Line
 lines_from [] = []
 lines_from (piece ∷ []) = last_line piece
-lines_from (piece ∷ next ∷ pieces) = record { text = piece; ended = true } ∷ lines_from (next ∷ pieces)
+lines_from (piece ∷ next ∷ pieces) =
+    record { text = piece; ended = true } ∷ lines_from (next ∷ pieces)
 
 abbrev pub lines_of : List ℕ → List Line
 lines_of bytes = lines_from (slice_split is_feed bytes)
@@ -115,7 +122,7 @@ abbrev pub behind_first : List Token → List Token
 behind_first [] = []
 behind_first (token ∷ tokens) = tokens
 
--- the first word of a line, and the tokens behind it
+-- the first word of a line, and the tokens after it
 abbrev pub word_of : Line → Option Word
 word_of line = first_word (tokens_of line)
 

@@ -1,6 +1,8 @@
--- What a line stands for by the place where it comes, or which fault it has. A line that has not its form has no other fault
--- than that, but that a node's line too many and a node's line that is missing are told before.
-use Rattle.std.specs.Prelude.{◌==◌, ℕ, ℤ, Bool, true, List, [], ◌∷◌, length, codes, Option, Some, None, Result, Ok, Err, if◌then◌else◌}
+-- What a line stands for at its place, or which fault it has. A line without the form of its place
+-- has no other fault. But a node's line too many, and a node's line that is missing, are reported
+-- before that.
+use Rattle.std.specs.Prelude.{◌==◌, ℕ, ℤ, Bool, true, List, [], ◌∷◌, length, codes, Option, Some}
+use Rattle.std.specs.Prelude.{None, Result, Ok, Err, if◌then◌else◌}
 use Rattle.std.specs.Str.{bytes_eq}
 use Rattle.problem_rules.specs.Problem.{Problem}
 use Rattle.pns_rules.specs.Nodes as nodes
@@ -11,9 +13,13 @@ use Rattle.tree_rules.specs.Ways as ways
 use Rattle.tree_rules.specs.Tree as trees
 use Rattle.tree_rules.specs.Leaf as leaves
 use Rattle.tree_text_rules.specs.Line.{Token, Line, word_of, fields_of, is_formed, file_type}
-use Rattle.tree_text_rules.specs.Token.{both, mapped, each, judged, unit_of, material_of, exclusion_of, units_of, number_of, denominator_of, count_of, children_of, options_of, column_of, row_of, which_of, flow_of}
+use Rattle.tree_text_rules.specs.Token.{both, mapped, each, judged, unit_of, material_of}
+use Rattle.tree_text_rules.specs.Token.{exclusion_of, units_of, number_of, denominator_of, count_of}
+use Rattle.tree_text_rules.specs.Token.{children_of, options_of, column_of, row_of, which_of}
+use Rattle.tree_text_rules.specs.Token.{flow_of}
 use Rattle.tree_text_rules.specs.declared.TreeKind.{TreeKind}
-use Rattle.tree_text_rules.specs.declared.TreeKind.TheVariants.{FileType, BadLine, WrongCount, MoreNodes, FewerNodes}
+use Rattle.tree_text_rules.specs.declared.TreeKind.TheVariants.{FileType, BadLine, WrongCount}
+use Rattle.tree_text_rules.specs.declared.TreeKind.TheVariants.{MoreNodes, FewerNodes}
 use Rattle.tree_text_rules.specs.declared.Word.{Word}
 use Rattle.tree_text_rules.specs.declared.Word.TheVariants as words
 
@@ -21,37 +27,41 @@ use Rattle.tree_text_rules.specs.declared.Word.TheVariants as words
 abbrev pub formed : {A : Type 0} → Line → Result A TreeKind → Result A TreeKind
 formed line read = if is_formed line then read else Err BadLine
 
--- the one token, or the two, behind the first word
+-- the one token, or the two, after the first word
 abbrev pub one : {A : Type 0} → (Token → Result A TreeKind) → List Token → Result A TreeKind
 one read (token ∷ []) = read token
 one read tokens = Err BadLine
 
-abbrev pub two : {A B : Type 0} → (Token → Result A TreeKind) → (Token → Result B TreeKind) → List Token → Result (A × B) TreeKind
+abbrev pub two : {A B : Type 0} → (Token → Result A TreeKind) → (Token → Result B TreeKind)
+    → List Token → Result (A × B) TreeKind
 two read read' (token ∷ next ∷ []) = both (read token) (read' next)
 two read read' tokens = Err BadLine
 
 -- one token and then any number
-abbrev pub one_and_more : {A B : Type 0} → (Token → Result A TreeKind) → (Token → Result B TreeKind) → List Token → Result (A × List B) TreeKind
+abbrev pub one_and_more : {A B : Type 0} → (Token → Result A TreeKind) → (Token → Result B TreeKind)
+    → List Token → Result (A × List B) TreeKind
 one_and_more read read' (token ∷ tokens) = both (read token) (each read' tokens)
 one_and_more read read' [] = Err BadLine
 
--- nothing behind the first word
+-- nothing after the first word
 abbrev pub alone : {A : Type 0} → A → List Token → Result A TreeKind
 alone a [] = Ok a
 alone a (token ∷ tokens) = Err BadLine
 
 -- ---- nodes
 
--- where a step may come: a step, or none where the line is another
+-- at the place of a step: a step, or none if the line is another
 abbrev pub step_by : Problem → Option Word → List Token → Option (Result nodes.Step TreeKind)
 step_by p (Some words.Raw) fields = Some (mapped nodes.raw (one (unit_of p) fields))
 step_by p (Some words.Rival) fields = Some (mapped nodes.rival (one (unit_of p) fields))
 step_by p (Some words.Starve) fields = Some (mapped nodes.starve (one (material_of p) fields))
 step_by p (Some words.Loose) fields = Some (mapped nodes.loose (units_of p fields))
-step_by p (Some words.Sole) fields = Some (mapped (λ found. nodes.sole found.0 found.1) (two (material_of p) (unit_of p) fields))
+step_by p (Some words.Sole) fields =
+    Some (mapped (λ found. nodes.sole found.0 found.1) (two (material_of p) (unit_of p) fields))
 step_by p word fields = None
 
-abbrev pub formed_step : Line → Option (Result nodes.Step TreeKind) → Option (Result nodes.Step TreeKind)
+abbrev pub formed_step : Line → Option (Result nodes.Step TreeKind)
+    → Option (Result nodes.Step TreeKind)
 formed_step line None = None
 formed_step line (Some read) = Some (formed line read)
 
@@ -59,19 +69,27 @@ abbrev pub step_read : Problem → Line → Option (Result nodes.Step TreeKind)
 step_read p line = formed_step line (step_by p (word_of line) (fields_of line))
 
 abbrev pub end_by : Problem → Option Word → List Token → Result (trees.End leaves.Leaf) TreeKind
-end_by p (Some words.Dead) fields = mapped (λ x. trees.leaf (leaves.dead x)) (one (material_of p) fields)
-end_by p (Some words.Clash) fields = mapped (λ k. trees.leaf (leaves.clash k)) (one (exclusion_of p) fields)
-end_by p (Some words.Refuted) fields = mapped (λ ys. trees.leaf (leaves.refuted ys)) (each number_of fields)
-end_by p (Some words.Bound) fields = mapped (λ found. trees.leaf (leaves.bounded found.0 found.1)) (one_and_more number_of number_of fields)
-end_by p (Some words.Branch) fields = mapped (λ found. trees.branch (ways.at_material found.0 found.1)) (two (material_of p) children_of fields)
-end_by p (Some words.Either) fields = mapped (λ u. trees.branch (ways.either u)) (one (unit_of p) fields)
+end_by p (Some words.Dead) fields =
+    mapped (λ x. trees.leaf (leaves.dead x)) (one (material_of p) fields)
+end_by p (Some words.Clash) fields =
+    mapped (λ k. trees.leaf (leaves.clash k)) (one (exclusion_of p) fields)
+end_by p (Some words.Refuted) fields =
+    mapped (λ ys. trees.leaf (leaves.refuted ys)) (each number_of fields)
+end_by p (Some words.Bound) fields =
+    mapped (λ found. trees.leaf (leaves.bounded found.0 found.1))
+    (one_and_more number_of number_of fields)
+end_by p (Some words.Branch) fields =
+    mapped (λ found. trees.branch (ways.at_material found.0 found.1))
+    (two (material_of p) children_of fields)
+end_by p (Some words.Either) fields =
+    mapped (λ u. trees.branch (ways.either u)) (one (unit_of p) fields)
 end_by p (Some words.Open) fields = alone (trees.leaf leaves.untried) fields
 end_by p word fields = Err BadLine
 
 abbrev pub end_line_read : Problem → Line → Result (trees.End leaves.Leaf) TreeKind
 end_line_read p line = formed line (end_by p (word_of line) (fields_of line))
 
--- where a node's line must come
+-- at the place of a node's line
 abbrev pub option_by : Problem → Option Word → List Token → Bool → Result (List ℕ) TreeKind
 option_by p (Some words.Node) fields true = units_of p fields
 option_by p (Some words.Spent) fields is_formed = Err FewerNodes
@@ -82,7 +100,7 @@ option_by p word fields is_formed = Err BadLine
 abbrev pub option_read : Problem → Line → Result (List ℕ) TreeKind
 option_read p line = option_by p (word_of line) (fields_of line) (is_formed line)
 
--- where the root's line must come, which has no names
+-- at the place of the root's line, which has no names
 abbrev pub root_by : Option Word → List Token → Bool → Result (List ℕ) TreeKind
 root_by (Some words.Node) fields true = alone [] fields
 root_by (Some words.Spent) fields is_formed = Err FewerNodes
@@ -119,7 +137,9 @@ network_line_read p line = formed line (network_by p (word_of line) (fields_of l
 
 -- as many sizes as units
 abbrev pub sizes_by : ℕ → Option Word → List Token → Result (ℤ × List ℤ) TreeKind
-sizes_by count (Some words.Sizes) fields = judged (λ found. length found.1 == count) WrongCount (one_and_more denominator_of number_of fields)
+sizes_by count (Some words.Sizes) fields =
+    judged (λ found. length found.1 == count) WrongCount
+    (one_and_more denominator_of number_of fields)
 sizes_by count word fields = Err BadLine
 
 abbrev pub sizes_read : ℕ → Line → Result (ℤ × List ℤ) TreeKind
@@ -134,7 +154,7 @@ cost_read line = formed line (cost_by (word_of line) (fields_of line))
 
 -- ---- tails
 
--- what is read of a line of the tail, where a node's line is one too many
+-- what is read of a line of the tail; here a node's line is one too many
 abbrev pub behind_nodes : {A : Type 0} → Option Word → Result A TreeKind → Result A TreeKind
 behind_nodes (Some words.Node) read = Err MoreNodes
 behind_nodes word read = read
@@ -147,35 +167,42 @@ pub data TailOpening : Type 0 where
 
 abbrev pub tail_opening_by : Option Word → List Token → Result TailOpening TreeKind
 tail_opening_by (Some words.End) fields = alone whole fields
-tail_opening_by (Some words.Spent) fields = mapped (λ found. spent found.0 found.1) (two count_of options_of fields)
+tail_opening_by (Some words.Spent) fields =
+    mapped (λ found. spent found.0 found.1) (two count_of options_of fields)
 tail_opening_by (Some words.Past) fields = mapped past (one count_of fields)
 tail_opening_by word fields = Err BadLine
 
 abbrev pub tail_opening_read : Line → Result TailOpening TreeKind
-tail_opening_read line = behind_nodes (word_of line) (formed line (tail_opening_by (word_of line) (fields_of line)))
+tail_opening_read line =
+    behind_nodes (word_of line) (formed line (tail_opening_by (word_of line) (fields_of line)))
 
 abbrev pub nonbasic_by : Problem → Option Word → List Token → Result (List Column) TreeKind
 nonbasic_by p (Some words.Nonbasic) fields = each (column_of p) fields
 nonbasic_by p word fields = Err BadLine
 
 abbrev pub nonbasic_read : Problem → Line → Result (List Column) TreeKind
-nonbasic_read p line = behind_nodes (word_of line) (formed line (nonbasic_by p (word_of line) (fields_of line)))
+nonbasic_read p line =
+    behind_nodes (word_of line) (formed line (nonbasic_by p (word_of line) (fields_of line)))
 
 abbrev pub entry_of : Problem → List Token → Result Place TreeKind
 entry_of p (leave ∷ enter ∷ row ∷ column ∷ which ∷ []) =
     mapped (λ found. places.Entry found.0 found.1.0 found.1.1.0 found.1.1.1.0 found.1.1.1.1)
-    (both (column_of p leave) (both (column_of p enter) (both (row_of p row) (both (column_of p column) (which_of which)))))
+    (both (column_of p leave)
+    (both (column_of p enter)
+    (both (row_of p row) (both (column_of p column) (which_of which)))))
 entry_of p fields = Err BadLine
 
 abbrev pub place_of : Problem → List Token → Result Place TreeKind
 place_of p [] = Err BadLine
 place_of p (word ∷ fields) =
     if bytes_eq word (codes "entry") then entry_of p fields
-    else if bytes_eq word (codes "flow") then mapped (λ found. places.Flow found.0 found.1) (two (unit_of p) flow_of fields)
+    else if bytes_eq word (codes "flow") then mapped (λ found. places.Flow found.0 found.1)
+    (two (unit_of p) flow_of fields)
     else if bytes_eq word (codes "cost") then mapped places.Cost (one count_of fields)
     else if bytes_eq word (codes "flowsum") then mapped places.FlowSum (one count_of fields)
     else if bytes_eq word (codes "bound") then mapped places.Bound (one count_of fields)
-    else if bytes_eq word (codes "refute") then mapped (λ found. places.Refute found.0 found.1) (two (column_of p) count_of fields)
+    else if bytes_eq word (codes "refute") then mapped (λ found. places.Refute found.0 found.1)
+    (two (column_of p) count_of fields)
     else Err BadLine
 
 abbrev pub place_by : Problem → Option Word → List Token → Result Place TreeKind
@@ -183,7 +210,8 @@ place_by p (Some words.Place) fields = place_of p fields
 place_by p word fields = Err BadLine
 
 abbrev pub place_read : Problem → Line → Result Place TreeKind
-place_read p line = behind_nodes (word_of line) (formed line (place_by p (word_of line) (fields_of line)))
+place_read p line =
+    behind_nodes (word_of line) (formed line (place_by p (word_of line) (fields_of line)))
 
 -- the last line
 abbrev pub close_by : Option Word → List Token → Result (Unit {0}) TreeKind
@@ -191,9 +219,12 @@ close_by (Some words.End) fields = alone tt fields
 close_by word fields = Err BadLine
 
 abbrev pub close_read : Line → Result (Unit {0}) TreeKind
-close_read line = behind_nodes (word_of line) (formed line (close_by (word_of line) (fields_of line)))
+close_read line =
+    behind_nodes (word_of line) (formed line (close_by (word_of line) (fields_of line)))
 
 -- ---- the first line of a text
 
 abbrev pub file_type_read : Line → Result (Unit {0}) TreeKind
-file_type_read line = if line.ended then (if bytes_eq line.text file_type then Ok tt else Err FileType) else Err FileType
+file_type_read line =
+    if line.ended then (if bytes_eq line.text file_type then Ok tt else Err FileType) else Err
+    FileType

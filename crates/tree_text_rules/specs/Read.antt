@@ -1,7 +1,8 @@
--- The claim, tree and tail that a text stands for, or its first fault: the least line that has one, with its kind. A line that is
--- missing is a bad one at the number behind the last. Each reading of a part gives what it read, and the number and the lines
--- that are still to come.
-use Rattle.std.specs.Prelude.{◌+◌, ℕ, zero, suc, List, [], ◌∷◌, ◌++◌, length, Option, Some, None, Result, Ok, Err}
+-- The claim, tree and tail that a text stands for, or its first fault: the least line that has one,
+-- with its kind. A line that is missing is a bad one, with the number after the last. Each reading
+-- of a part gives what it read, and the number and the lines that are still to come.
+use Rattle.std.specs.Prelude.{◌+◌, ℕ, zero, suc, List, [], ◌∷◌, ◌++◌, length, Option, Some, None}
+use Rattle.std.specs.Prelude.{Result, Ok, Err}
 use Rattle.problem_rules.specs.Problem.{Problem}
 use Rattle.pns_rules.specs.Nodes as nodes
 use Rattle.tree_rules.specs.Tree as trees
@@ -18,23 +19,25 @@ use Rattle.tree_text_rules.specs.declared.TreeKind.TheVariants.{FileType, BadLin
 abbrev pub Fault : Type 0
 Fault = ℕ × TreeKind
 
--- what was read, the number of the line behind it, and the lines from there on
+-- what was read, the number of the line after it, and the lines from there on
 pub record Taken (A : Type 0) : Type 0 where
   pub what : A
   pub number : ℕ
   pub behind : List Line
 
--- a line, and what is read of the lines behind it
+-- a line, and what is read of the lines after it
 abbrev pub on_line : {A B : Type 0} → ℕ → Result A TreeKind → (A → Result B Fault) → Result B Fault
 on_line number (Ok a) read = read a
 on_line number (Err kind) read = Err (number, kind)
 
--- the first line, and what is read of the lines behind it
-abbrev pub first_line : {A B : Type 0} → (Line → Result A TreeKind) → ℕ → List Line → (A → List Line → Result B Fault) → Result B Fault
+-- the first line, and what is read of the lines after it
+abbrev pub first_line : {A B : Type 0} → (Line → Result A TreeKind) → ℕ → List Line
+    → (A → List Line → Result B Fault) → Result B Fault
 first_line judge number [] read = Err (number, BadLine)
 first_line judge number (line ∷ lines) read = on_line number (judge line) (λ a. read a lines)
 
-abbrev pub then_read : {A B : Type 0} → Result (Taken A) Fault → (A → ℕ → List Line → Result B Fault) → Result B Fault
+abbrev pub then_read : {A B : Type 0} → Result (Taken A) Fault
+    → (A → ℕ → List Line → Result B Fault) → Result B Fault
 then_read (Ok taken) read = read taken.what taken.number taken.behind
 then_read (Err fault) read = Err fault
 
@@ -45,20 +48,31 @@ abbrev pub sizes_taken : List ℕ → ℕ → List Line → Result (Taken claims
 sizes_taken units number lines =
     first_line (reads.sizes_read (length units)) number lines (λ found lines.
     first_line reads.cost_read (suc number) lines (λ cost lines.
-    Ok (record { what = record { units = units; sizes = found.1; d = found.0; cost = cost }; number = suc (suc number); behind = lines })))
+    Ok (record {
+      what = record { units = units; sizes = found.1; d = found.0; cost = cost };
+      number = suc (suc number);
+      behind = lines;
+    })))
 
 -- the three lines of a network
 abbrev pub network_taken : Problem → ℕ → List Line → Result (Taken claims.Network) Fault
-network_taken p number lines = first_line (reads.network_line_read p) number lines (λ units lines. sizes_taken units (suc number) lines)
+network_taken p number lines =
+    first_line (reads.network_line_read p) number lines
+    (λ units lines. sizes_taken units (suc number) lines)
 
 abbrev pub claim_behind : reads.Opening → ℕ → List Line → Result (Taken claims.Claim) Fault
 claim_behind (reads.network units) number lines =
-    then_read (sizes_taken units number lines) (λ w number lines. Ok (record { what = claims.network w; number = number; behind = lines }))
-claim_behind reads.infeasible number lines = Ok (record { what = claims.infeasible; number = number; behind = lines })
-claim_behind reads.unknown number lines = Ok (record { what = claims.unknown; number = number; behind = lines })
+    then_read (sizes_taken units number lines)
+    (λ w number lines. Ok (record { what = claims.network w; number = number; behind = lines }))
+claim_behind reads.infeasible number lines =
+    Ok (record { what = claims.infeasible; number = number; behind = lines })
+claim_behind reads.unknown number lines =
+    Ok (record { what = claims.unknown; number = number; behind = lines })
 
 abbrev pub claim_taken : Problem → ℕ → List Line → Result (Taken claims.Claim) Fault
-claim_taken p number lines = first_line (reads.opening_read p) number lines (λ opening lines. claim_behind opening (suc number) lines)
+claim_taken p number lines =
+    first_line (reads.opening_read p) number lines
+    (λ opening lines. claim_behind opening (suc number) lines)
 
 -- ---- nodes
 
@@ -73,7 +87,7 @@ with_step head step = record { option = head.option; steps = head.steps ++ step 
 abbrev pub with_end : Head → trees.End leaves.Leaf → trees.TreeNode leaves.Leaf
 with_end head end = record { option = head.option; steps = head.steps; end = end }
 
--- the steps that come next, behind those of the head; they end before the first line that is no step
+-- the steps that come next, after those of the head; they end before the first line that is no step
 abbrev pub steps_taken : Problem → Head → ℕ → List Line → Result (Taken Head) Fault
 steps_taken p head number [] = Ok (record { what = head; number = number; behind = [] })
 steps_taken p head number (line ∷ lines) = elim (reads.step_read p line) [
@@ -83,42 +97,58 @@ steps_taken p head number (line ∷ lines) = elim (reads.step_read p line) [
 
 -- a node's line and its steps
 abbrev pub head_taken : Problem → ℕ → List Line → Result (Taken Head) Fault
-head_taken p number lines = first_line (reads.option_read p) number lines (λ option lines. steps_taken p (record { option = option; steps = [] }) (suc number) lines)
+head_taken p number lines =
+    first_line (reads.option_read p) number lines
+    (λ option lines. steps_taken p (record { option = option; steps = [] }) (suc number) lines)
 
 -- the line of an end
 abbrev pub end_taken : Problem → ℕ → List Line → Result (Taken (trees.End leaves.Leaf)) Fault
-end_taken p number lines = first_line (reads.end_line_read p) number lines (λ end lines. Ok (record { what = end; number = suc number; behind = lines }))
+end_taken p number lines =
+    first_line (reads.end_line_read p) number lines
+    (λ end lines. Ok (record { what = end; number = suc number; behind = lines }))
 
-abbrev pub with_node : trees.TreeNode leaves.Leaf → Result (Taken Tree) Fault → Result (Taken Tree) Fault
-with_node t (Ok taken) = Ok (record { what = t ∷ taken.what; number = taken.number; behind = taken.behind })
+abbrev pub with_node : trees.TreeNode leaves.Leaf → Result (Taken Tree) Fault
+    → Result (Taken Tree) Fault
+with_node t (Ok taken) =
+    Ok (record { what = t ∷ taken.what; number = taken.number; behind = taken.behind })
 with_node t (Err fault) = Err fault
 
--- So many subtrees, behind the node that was begun, where there is one.
+-- So many subtrees, after the node that was begun, if there is one.
 unfoldable pub nodes_taken : Problem → Option Head → ℕ → ℕ → List Line → Result (Taken Tree) Fault
 nodes_taken p None zero number lines = Ok (record { what = []; number = number; behind = lines })
 nodes_taken p None (suc count) number [] = Err (number, BadLine)
 nodes_taken p None (suc count) number (line ∷ lines) =
-    on_line number (reads.option_read p line) (λ option. nodes_taken p (Some (record { option = option; steps = [] })) count (suc number) lines)
+    on_line number (reads.option_read p line)
+    (λ option. nodes_taken p (Some (record { option = option; steps = [] })) count (suc number)
+    lines)
 nodes_taken p (Some head) count number [] = Err (number, BadLine)
 nodes_taken p (Some head) count number (line ∷ lines) = elim (reads.step_read p line) [
-  | Some read ↦ on_line number read (λ step. nodes_taken p (Some (with_step head step)) count (suc number) lines)
+  | Some read
+      ↦ on_line number read
+      (λ step. nodes_taken p (Some (with_step head step)) count (suc number) lines)
   | None ↦ on_line number (reads.end_line_read p line) (λ end.
-      with_node (with_end head end) (nodes_taken p None (trees.children end + count) (suc number) lines))
+      with_node (with_end head end)
+      (nodes_taken p None (trees.children end + count) (suc number) lines))
 ]
 
 -- one whole tree
 abbrev pub tree_taken : Problem → ℕ → List Line → Result (Taken Tree) Fault
-tree_taken p number lines = first_line reads.root_read number lines (λ option lines. nodes_taken p (Some (record { option = option; steps = [] })) 0 (suc number) lines)
+tree_taken p number lines =
+    first_line reads.root_read number lines
+    (λ option lines. nodes_taken p (Some (record { option = option; steps = [] })) 0 (suc number)
+    lines)
 
 -- ---- tails
 
--- nothing stands behind the last line
+-- nothing comes after the last line
 abbrev pub nothing_behind : {A : Type 0} → A → ℕ → List Line → Result A Fault
 nothing_behind a number [] = Ok a
 nothing_behind a number (line ∷ lines) = Err (number, AfterEnd)
 
 abbrev pub close_taken : tails.Tail → ℕ → List Line → Result tails.Tail Fault
-close_taken tail number lines = first_line reads.close_read number lines (λ closed lines. nothing_behind tail (suc number) lines)
+close_taken tail number lines =
+    first_line reads.close_read number lines
+    (λ closed lines. nothing_behind tail (suc number) lines)
 
 abbrev pub past_taken : Problem → ℕ → ℕ → List Line → Result tails.Tail Fault
 past_taken p node number lines =
@@ -128,12 +158,15 @@ past_taken p node number lines =
 
 abbrev pub tail_behind : Problem → reads.TailOpening → ℕ → List Line → Result tails.Tail Fault
 tail_behind p reads.whole number lines = nothing_behind tails.whole number lines
-tail_behind p (reads.spent next options) number lines = close_taken (tails.spent next options) number lines
+tail_behind p (reads.spent next options) number lines =
+    close_taken (tails.spent next options) number lines
 tail_behind p (reads.past node) number lines = past_taken p node number lines
 
 -- a tail and the last line, to the end of the text
 abbrev pub tail_taken : Problem → ℕ → List Line → Result tails.Tail Fault
-tail_taken p number lines = first_line reads.tail_opening_read number lines (λ opening lines. tail_behind p opening (suc number) lines)
+tail_taken p number lines =
+    first_line reads.tail_opening_read number lines
+    (λ opening lines. tail_behind p opening (suc number) lines)
 
 -- ---- the text
 
@@ -157,6 +190,7 @@ abbrev pub lines_taken : Problem → List Line → Result Certificate Fault
 lines_taken p [] = Err (1, FileType)
 lines_taken p (line ∷ lines) = on_line 1 (reads.file_type_read line) (λ read. rest_taken p 2 lines)
 
--- the claim, tree and tail that a text stands for, or its first fault: what a reader of tree texts is to answer
+-- the claim, tree and tail that a text stands for, or its first fault: the answer of a reader of
+-- tree texts
 abbrev pub read_text : Problem → List ℕ → Result Certificate Fault
 read_text p bytes = lines_taken p (lines_of bytes)

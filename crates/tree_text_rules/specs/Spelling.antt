@@ -1,6 +1,7 @@
--- The one text of a claim, a tree and a tail, and of its parts, as lists of lines. A line is its tokens, parted by a space and
--- with a line feed behind; units of a set stand in file order.
-use Rattle.std.specs.Prelude.{ℕ, ℤ, List, [], ◌∷◌, ◌++◌, map, flat_map, codes, decimal, Option, Some, None}
+-- The one text of a claim, a tree and a tail, and of its parts, as lists of lines. A line is its
+-- tokens, separated by one space, and then a line feed. Units of a set are in file order.
+use Rattle.std.specs.Prelude.{ℕ, ℤ, List, [], ◌∷◌, ◌++◌, map, flat_map, codes, decimal, Option}
+use Rattle.std.specs.Prelude.{Some, None}
 use Rattle.std.specs.Fmt.{signed_decimal}
 use Rattle.problem_rules.specs.Problem.{Problem, unit_at, material_at, exclusion_at}
 use Rattle.pns_rules.specs.Nodes as nodes
@@ -44,9 +45,11 @@ abbrev pub end_line : Problem → trees.End leaves.Leaf → List Token
 end_line p (trees.leaf (leaves.dead x)) = word_text words.Dead ∷ material_name p x ∷ []
 end_line p (trees.leaf (leaves.clash k)) = word_text words.Clash ∷ exclusion_name p k ∷ []
 end_line p (trees.leaf (leaves.refuted ys)) = word_text words.Refuted ∷ map signed_decimal ys
-end_line p (trees.leaf (leaves.bounded d ys)) = word_text words.Bound ∷ signed_decimal d ∷ map signed_decimal ys
+end_line p (trees.leaf (leaves.bounded d ys)) =
+    word_text words.Bound ∷ signed_decimal d ∷ map signed_decimal ys
 end_line p (trees.leaf leaves.untried) = word_text words.Open ∷ []
-end_line p (trees.branch (ways.at_material x c)) = word_text words.Branch ∷ material_name p x ∷ decimal c ∷ []
+end_line p (trees.branch (ways.at_material x c)) =
+    word_text words.Branch ∷ material_name p x ∷ decimal c ∷ []
 end_line p (trees.branch (ways.either u)) = word_text words.Either ∷ unit_name p u ∷ []
 
 abbrev pub option_line : Problem → List ℕ → List Token
@@ -72,7 +75,8 @@ sizes_lines d sizes cost =
     ∷ []
 
 abbrev pub network_lines : Problem → claims.Network → List (List Token)
-network_lines p w = (word_text words.Network ∷ map (unit_name p) w.units) ∷ sizes_lines w.d w.sizes w.cost
+network_lines p w = (word_text words.Network ∷ map (unit_name p) w.units)
+    ∷ sizes_lines w.d w.sizes w.cost
 
 abbrev pub claim_lines : Problem → claims.Claim → List (List Token)
 claim_lines p (claims.network w) = network_lines p w
@@ -107,7 +111,8 @@ flow_text flows.Total = codes "total"
 
 abbrev pub place_fields : Problem → Place → List Token
 place_fields p (places.Entry leave enter row column which) =
-    codes "entry" ∷ column_text p leave ∷ column_text p enter ∷ row_text p row ∷ column_text p column ∷ which_text which ∷ []
+    codes "entry" ∷ column_text p leave ∷ column_text p enter ∷ row_text p row
+    ∷ column_text p column ∷ which_text which ∷ []
 place_fields p (places.Flow unit which) = codes "flow" ∷ unit_name p unit ∷ flow_text which ∷ []
 place_fields p (places.Cost at) = codes "cost" ∷ decimal at ∷ []
 place_fields p (places.FlowSum at) = codes "flowsum" ∷ decimal at ∷ []
@@ -127,7 +132,8 @@ abbrev pub spent_lines : ℕ → ℕ → List (List Token)
 spent_lines next options = (word_text words.Spent ∷ decimal next ∷ decimal options ∷ []) ∷ end_lines
 
 abbrev pub past_lines : Problem → ℕ → List Column → Place → List (List Token)
-past_lines p node nonbasic place = (word_text words.Past ∷ decimal node ∷ []) ∷ (place_lines p nonbasic place ++ end_lines)
+past_lines p node nonbasic place =
+    (word_text words.Past ∷ decimal node ∷ []) ∷ (place_lines p nonbasic place ++ end_lines)
 
 -- a tail and the last line
 abbrev pub tail_lines : Problem → tails.Tail → List (List Token)

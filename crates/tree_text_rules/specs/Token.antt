@@ -1,6 +1,8 @@
--- What a token stands for by its place in a line, or what is wrong with it. Of several tokens the fault with the least number is
--- told.
-use Rattle.std.specs.Prelude.{◌==◌, ◌&&◌, ◌-◌, ◌^◌, ℕ, ℤ, pos, negsuc, Bool, true, false, nat_le, nat_lt, List, [], ◌∷◌, codes, drop, nat_eq, Option, Some, None, option_map, position, Result, Ok, Err, if◌then◌else◌}
+-- What a token stands for at its place in a line, or what is wrong with it. Of several tokens the
+-- fault with the least number is reported.
+use Rattle.std.specs.Prelude.{◌==◌, ◌&&◌, ◌-◌, ◌^◌, ℕ, ℤ, pos, negsuc, Bool, true, false, nat_le}
+use Rattle.std.specs.Prelude.{nat_lt, List, [], ◌∷◌, codes, drop, nat_eq, Option, Some, None}
+use Rattle.std.specs.Prelude.{option_map, position, Result, Ok, Err, if◌then◌else◌}
 use Rattle.std.specs.List.{starts_with}
 use Rattle.std.specs.Str.{bytes_eq}
 use Rattle.problem_rules.specs.Problem.{Problem, material_names, unit_names, exclusion_names}
@@ -13,7 +15,9 @@ use Rattle.flow_rules.specs.declared.place.FlowStep.{FlowStep}
 use Rattle.flow_rules.specs.declared.place.FlowStep.TheVariants as flows
 use Rattle.tree_text_rules.specs.Line.{Token}
 use Rattle.tree_text_rules.specs.declared.TreeKind.{TreeKind}
-use Rattle.tree_text_rules.specs.declared.TreeKind.TheVariants.{FileType, BadLine, UnknownName, BadNumber, Order, WrongCount, MoreNodes, FewerNodes, AfterEnd}
+use Rattle.tree_text_rules.specs.declared.TreeKind.TheVariants.{FileType, BadLine, UnknownName}
+use Rattle.tree_text_rules.specs.declared.TreeKind.TheVariants.{BadNumber, Order, WrongCount}
+use Rattle.tree_text_rules.specs.declared.TreeKind.TheVariants.{MoreNodes, FewerNodes, AfterEnd}
 
 -- ---- several values on one line
 
@@ -43,9 +47,10 @@ mapped f (Err kind) = Err kind
 
 abbrev pub each : {A : Type 0} → (Token → Result A TreeKind) → List Token → Result (List A) TreeKind
 each read [] = Ok []
-each read (token ∷ tokens) = mapped (λ found. found.0 ∷ found.1) (both (read token) (each read tokens))
+each read (token ∷ tokens) =
+    mapped (λ found. found.0 ∷ found.1) (both (read token) (each read tokens))
 
--- what was read, where a test holds
+-- what was read, if it passes the test, else this kind of fault
 abbrev pub judged : {A : Type 0} → (A → Bool) → TreeKind → Result A TreeKind → Result A TreeKind
 judged test kind (Ok a) = if test a then Ok a else Err kind
 judged test kind (Err other) = Err other
@@ -60,10 +65,12 @@ abbrev pub unit_of : Problem → Token → Result ℕ TreeKind
 unit_of p token = told UnknownName (position (λ name. bytes_eq name token) (unit_names p.units))
 
 abbrev pub material_of : Problem → Token → Result ℕ TreeKind
-material_of p token = told UnknownName (position (λ name. bytes_eq name token) (material_names p.materials))
+material_of p token =
+    told UnknownName (position (λ name. bytes_eq name token) (material_names p.materials))
 
 abbrev pub exclusion_of : Problem → Token → Result ℕ TreeKind
-exclusion_of p token = told UnknownName (position (λ name. bytes_eq name token) (exclusion_names p.exclusions))
+exclusion_of p token =
+    told UnknownName (position (λ name. bytes_eq name token) (exclusion_names p.exclusions))
 
 abbrev pub is_above_all : ℕ → List ℕ → Bool
 is_above_all x [] = true
@@ -73,7 +80,7 @@ abbrev pub is_rising : List ℕ → Bool
 is_rising [] = true
 is_rising (x ∷ xs) = is_above_all x xs && is_rising xs
 
--- a set of units, which stand in file order
+-- a set of units, in file order
 abbrev pub units_of : Problem → List Token → Result (List ℕ) TreeKind
 units_of p tokens = judged is_rising Order (each (unit_of p) tokens)
 
@@ -83,14 +90,16 @@ units_of p tokens = judged is_rising Order (each (unit_of p) tokens)
 abbrev pub greatest : ℕ
 greatest = 170141183460469231731687303715884105727
 
--- below 0: the digits behind the minus sign, which stand for 1 or more
+-- below 0: the digits after the minus sign, which stand for 1 or more
 abbrev pub negative_of : Option ℕ → Option ℤ
 negative_of None = None
 negative_of (Some n) = if nat_le 1 n then Some (negsuc (n - 1)) else None
 
 abbrev pub whole_number : Token → Option ℤ
 whole_number [] = None
-whole_number (c ∷ cs) = if c == 45 then negative_of (whole_within greatest cs) else option_map pos (whole_within greatest (c ∷ cs))
+whole_number (c ∷ cs) =
+    if c == 45 then negative_of (whole_within greatest cs) else option_map pos
+    (whole_within greatest (c ∷ cs))
 
 -- a whole number in range
 abbrev pub number_of : Token → Result ℤ TreeKind
@@ -133,7 +142,9 @@ column_of p token =
 
 -- the row of a basis column, or the cost row
 abbrev pub row_of : Problem → Token → Result (Option Column) TreeKind
-row_of p token = if bytes_eq token (codes "cost") then Ok None else mapped (λ column. Some column) (column_of p token)
+row_of p token =
+    if bytes_eq token (codes "cost") then Ok None else mapped (λ column. Some column)
+    (column_of p token)
 
 abbrev pub which_of : Token → Result Which TreeKind
 which_of token =

@@ -1,21 +1,23 @@
-//! The text PNS_tree_v1 of branch trees as definitions: its lines, the claim, tree and tail that a text without a fault stands
-//! for, the first fault of one that has any, and the one text of a claim, a tree and a tail.
+//! The text PNS_tree_v1 of branch trees as definitions.
 //!
-//! `specs/` states the format: `Line` (lines, tokens, first words), `Spelling` (the lines of each value, and the whole text),
-//! `Token` (what a token stands for by its place), `LineRead` (what a line stands for) and `Read` (`read_text`: what a text
-//! stands for, or its first fault with its line; and the same for parts of a text). `proofs/` reads and spells small texts by
-//! computation.
+//! A text without a fault stands for a claim, a tree and a tail, and each of these has one text. In
+//! `specs/`: `Line` (lines, tokens, first words); `Spelling` (the lines of each value, and the
+//! whole text); `Token` (what a token stands for at its place); `LineRead` (what a line stands
+//! for); and `Read`. There `read_text` gives what a text stands for, or its first fault with its
+//! line, and other definitions do the same for parts of a text. `proofs/` reads and spells small
+//! texts by computation.
 #![tactic(auto)]
 
-/// A fault of a tree's text. The variants stand in the order of their numbers, 1 to 9. The least line that has a fault is told,
-/// and on it the least number, but that `MoreNodes` and `FewerNodes` come before `BadLine`.
+/// A fault of a tree's text. The variants are in the order of their numbers, 1 to 9. The least line
+/// that has a fault is reported, and of its faults the one with the least number. But `MoreNodes`
+/// and `FewerNodes` come before `BadLine`.
 #[derive(Clone, Copy, Debug, PartialEq, Eq)]
 pub enum TreeKind {
     /// The first line is another text than `file_type=PNS_tree_v1`, or is missing.
     FileType,
     /// A line that is none of the forms that may come there, or a missing line.
     BadLine,
-    /// A name that the problem has not.
+    /// A name that the problem does not have.
     UnknownName,
     /// A text in a number's place that is no number, or one out of its range.
     BadNumber,
@@ -25,9 +27,9 @@ pub enum TreeKind {
     WrongCount,
     /// A node's line where a line of the tail must come.
     MoreNodes,
-    /// A line of the tail where a node's line must come.
+    /// A line of the tail in the place of a node's line.
     FewerNodes,
-    /// A byte behind the last line.
+    /// A byte after the last line.
     AfterEnd,
 }
 

@@ -1,5 +1,6 @@
 -- The tree of what a search keeps.
-use Rattle.std.proofs.Common.{◌≡◌, ℕ, ◌+◌, ◌<◌, ℤ, ◌*ℤ◌, ◌≤ℤ◌, Bool, true, List, [], ◌∷◌, length, refl, sym, subst, arith, inl, inr, Option, Some, None}
+use Rattle.std.proofs.Common.{◌≡◌, ℕ, ◌+◌, ◌<◌, ℤ, ◌*ℤ◌, ◌≤ℤ◌, Bool, true, List, [], ◌∷◌, length}
+use Rattle.std.proofs.Common.{refl, sym, subst, arith, inl, inr, Option, Some, None}
 use Rattle.std.specs.List.{slice_get}
 use Rattle.std.proofs.lemmas.Bool.{cases_eq}
 use Rattle.std.proofs.lemmas.Int.{ints}
@@ -29,36 +30,54 @@ use Rattle.search_tree.specs.Laws.{IsCell}
 use Rattle.search_tree.proofs.CountLemmas.{preorder_has_all}
 use Rattle.search_tree.proofs.PassLemmas.{passes, nodes_are_cells, cells_stand, aligned_start}
 use Rattle.turn_laws.specs.Values.{IsPositive, IsUnder}
-use Rattle.turn_laws.specs.Kept.{IsFromLast, ReachesLast, LeafIsKept, EndIsKept, LastIsOfUse, IsKeptFor}
+use Rattle.turn_laws.specs.Kept.{IsFromLast, ReachesLast, LeafIsKept, EndIsKept, LastIsOfUse}
+use Rattle.turn_laws.specs.Kept.{IsKeptFor}
 use Rattle.turn_laws.specs.Turns.{CanBranch, IsLeastOpen}
 use Rattle.turn_laws.proofs.OrderLemmas.{no_dearer_self, no_dearer_trans, no_dearer_may}
 
-pub networks_cost_more : (p : Problem) → IsValid p → (v : CostOver) (n : Node) → IsPositive v → IsUnder p v n → (s : ℕ → Bool) → IsBetween (shape_of p) n.inside n.outside s
-    → (z : ℕ → ℤ) (d : ℤ) → IsFlows (net_of p) s z d → (v.cost *ℤ d) ≤ℤ (cost (net_of p) s z d *ℤ v.d)
+pub networks_cost_more : (p : Problem) → IsValid p → (v : CostOver) (n : Node) → IsPositive v
+    → IsUnder p v n → (s : ℕ → Bool) → IsBetween (shape_of p) n.inside n.outside s
+    → (z : ℕ → ℤ) (d : ℤ) → IsFlows (net_of p) s z d
+    → (v.cost *ℤ d) ≤ℤ (cost (net_of p) s z d *ℤ v.d)
 networks_cost_more p valid v n pv under s between z d flows =
     let a = under z d (flows_are_relaxed p valid n s between z d flows) in
-    let b = mul-le_right (relaxed_cost (net_of p) n z d) (cost (net_of p) s z d) v.d (relaxed_costs_less p valid n s between z d flows) (let q = pv in omega (arith, ints)) in
+    let b =
+    mul-le_right (relaxed_cost (net_of p) n z d) (cost (net_of p) s z d) v.d
+    (relaxed_costs_less p valid n s between z d flows) (let q = pv in omega (arith, ints)) in
     omega (arith, ints, a, b)
 
-module _ (p : Problem) (start : Node) (claim : Claim) (undercut : Option CostOver) (last : Option Node) (cells : List Cell) (order : List ℕ) (kept : IsKeptFor p start claim undercut last cells) (preorder : IsPreorder cells (0 ∷ []) order) where
-  cell_of : (k : ℕ) (n : Node) (e : End Leaf) → Stands (shape_of p) (start ∷ []) (tree_of cells order) k n e → IsCell cells n e
+module _ (p : Problem) (start : Node) (claim : Claim) (undercut : Option CostOver)
+    (last : Option Node) (cells : List Cell) (order : List ℕ)
+    (kept : IsKeptFor p start claim undercut last cells)
+    (preorder : IsPreorder cells (0 ∷ []) order) where
+  cell_of : (k : ℕ) (n : Node) (e : End Leaf)
+      → Stands (shape_of p) (start ∷ []) (tree_of cells order) k n e → IsCell cells n e
   cell_of k n e s =
-      nodes_are_cells (shape_of p) (LeafPasses true p (claimed_cost claim)) start cells kept.grown.linked kept.grown.fits (start ∷ []) (0 ∷ []) order
-      (aligned_start (shape_of p) (LeafPasses true p (claimed_cost claim)) start cells kept.grown.linked kept.grown.fits) preorder k n e s
+      nodes_are_cells (shape_of p) (LeafPasses true p (claimed_cost claim)) start cells
+      kept.grown.linked kept.grown.fits (start ∷ []) (0 ∷ []) order
+      (aligned_start (shape_of p) (LeafPasses true p (claimed_cost claim)) start cells
+      kept.grown.linked kept.grown.fits) preorder k n e s
 
-  end_at : (k : ℕ) (n : Node) (e : End Leaf) → Stands (shape_of p) (start ∷ []) (tree_of cells order) k n e → EndIsKept p last n e
+  end_at : (k : ℕ) (n : Node) (e : End Leaf)
+      → Stands (shape_of p) (start ∷ []) (tree_of cells order) k n e → EndIsKept p last n e
   end_at k n e s =
       let c = cell_of k n e s in
-      subst (λ (m : Node). EndIsKept p last m e) c.node_is (subst (λ (f : End Leaf). EndIsKept p last (place_of (cell_at cells c.number)) f) c.end_is (kept.ends c.number c.there))
+      subst (λ (m : Node). EndIsKept p last m e) c.node_is
+      (subst (λ (f : End Leaf). EndIsKept p last (place_of (cell_at cells c.number)) f) c.end_is
+      (kept.ends c.number c.there))
 
-  open_at : (m : Node) (l : Leaf) → LeafIsKept p last m l → IsUntried l → IsNever (IsDead (shape_of p) m) → IsFromLast p last m
+  open_at : (m : Node) (l : Leaf) → LeafIsKept p last m l → IsUntried l
+      → IsNever (IsDead (shape_of p) m) → IsFromLast p last m
   open_at m l k e = subst (λ (w : Leaf). LeafIsKept p last m w) e k
 
   of_use : (l : Option Node) → l ≡ last → (n : Node) → ReachesLast p l n → MayUndercut p undercut n
   of_use None e n r = absurd r
-  of_use (Some w) e n r = no_dearer_may p undercut n w kept.undercut_positive r (subst (λ (o : Option Node). LastIsOfUse p undercut o) (sym e) kept.of_use)
+  of_use (Some w) e n r =
+      no_dearer_may p undercut n w kept.undercut_positive r
+      (subst (λ (o : Option Node). LastIsOfUse p undercut o) (sym e) kept.of_use)
 
-  in_turn : (l : Option Node) → l ≡ last → (n m : Node) → ReachesLast p l n → IsFromLast p l m → IsNoDearer p n m
+  in_turn : (l : Option Node) → l ≡ last → (n m : Node) → ReachesLast p l n → IsFromLast p l m
+      → IsNoDearer p n m
   in_turn None e n m r f = absurd r
   in_turn (Some w) e n m r f = no_dearer_trans p n w m r f
 
@@ -67,48 +86,74 @@ module _ (p : Problem) (start : Node) (claim : Claim) (undercut : Option CostOve
     reduced = λ k w n s. (end_at k n (branch w) s).reduced;
     splits = λ k w n s. (end_at k n (branch w) s).splits;
     of_use = λ k w n s. of_use last refl n (end_at k n (branch w) s).reached;
-    in_turn = λ k w n s j m l t u no_dead. in_turn last refl n m (end_at k n (branch w) s).reached (open_at m l (end_at j m (leaf l) t) u no_dead);
+    in_turn =
+        λ k w n s j m l t u no_dead. in_turn last refl n m (end_at k n (branch w) s).reached
+        (open_at m l (end_at j m (leaf l) t) u no_dead);
   }
 
-  pub whole_is_accepted : ClaimPasses true p claim → (claim ≡ unknown → ⊥) → ((i : ℕ) → i < length cells → (cell_at cells i).end ≡ leaf untried → ⊥) → IsAccepted p start claim (tree_of cells order)
+  pub whole_is_accepted : ClaimPasses true p claim → (claim ≡ unknown → ⊥)
+      → ((i : ℕ) → i < length cells → (cell_at cells i).end ≡ leaf untried → ⊥)
+      → IsAccepted p start claim (tree_of cells order)
   whole_is_accepted passing known shut =
       partial_is_accepted p start claim (tree_of cells order)
       (record {
         claimed = passing;
         passes =
-            passes (shape_of p) (LeafPasses true p (claimed_cost claim)) start cells kept.grown.linked kept.grown.fits (start ∷ []) (0 ∷ []) order
-            (aligned_start (shape_of p) (LeafPasses true p (claimed_cost claim)) start cells kept.grown.linked kept.grown.fits) preorder;
+            passes (shape_of p) (LeafPasses true p (claimed_cost claim)) start cells
+            kept.grown.linked kept.grown.fits (start ∷ []) (0 ∷ []) order
+            (aligned_start (shape_of p) (LeafPasses true p (claimed_cost claim)) start cells
+            kept.grown.linked kept.grown.fits) preorder;
       })
       known (λ k n s. let c = cell_of k n (leaf untried) s in shut c.number c.there c.end_is)
 
-  pub open_stands : (at place : ℕ) → slice_get order place ≡ Some at → (cell_at cells at).end ≡ leaf untried → IsOpenAt p IsUntried start (tree_of cells order) place (place_of (cell_at cells at))
+  pub open_stands : (at place : ℕ) → slice_get order place ≡ Some at
+      → (cell_at cells at).end ≡ leaf untried
+      → IsOpenAt p IsUntried start (tree_of cells order) place (place_of (cell_at cells at))
   open_stands at place h untried_there = record {
     what = untried;
-    stands = subst (λ (e : End Leaf). Stands (shape_of p) (start ∷ []) (tree_of cells order) place (place_of (cell_at cells at)) e) untried_there
-        (cells_stand (shape_of p) (LeafPasses true p (claimed_cost claim)) start cells kept.grown.linked kept.grown.fits (start ∷ []) (0 ∷ []) order
-        (aligned_start (shape_of p) (LeafPasses true p (claimed_cost claim)) start cells kept.grown.linked kept.grown.fits) preorder place at h);
+    stands =
+        subst
+        (λ (e : End Leaf). Stands (shape_of p) (start ∷ []) (tree_of cells order) place
+        (place_of (cell_at cells at)) e) untried_there
+        (cells_stand (shape_of p) (LeafPasses true p (claimed_cost claim)) start cells
+        kept.grown.linked kept.grown.fits (start ∷ []) (0 ∷ []) order
+        (aligned_start (shape_of p) (LeafPasses true p (claimed_cost claim)) start cells
+        kept.grown.linked kept.grown.fits) preorder place at h);
     is_open = refl;
   }
 
   -- the cell of an open leaf
-  open_cell : (k : ℕ) (n : Node) → IsOpenAt p IsUntried start (tree_of cells order) k n → IsCell cells n (leaf untried)
-  open_cell k n o = cell_of k n (leaf untried) (subst (λ (l : Leaf). Stands (shape_of p) (start ∷ []) (tree_of cells order) k n (leaf l)) o.is_open o.stands)
+  open_cell : (k : ℕ) (n : Node) → IsOpenAt p IsUntried start (tree_of cells order) k n
+      → IsCell cells n (leaf untried)
+  open_cell k n o =
+      cell_of k n (leaf untried)
+      (subst (λ (l : Leaf). Stands (shape_of p) (start ∷ []) (tree_of cells order) k n (leaf l))
+      o.is_open o.stands)
 
-  module _ (at place count budget : ℕ) (w : Way) (stands : slice_get order place ≡ Some at) (can : CanBranch p cells at w)
-      (least : IsLeastOpen p cells at) (of_use_here : MayUndercut p undercut (place_of (cell_at cells at)))
-      (pending : (j : ℕ) → j < length cells → (cell_at cells j).end ≡ leaf untried → IsPending p (place_of (cell_at cells j)))
-      (count_is : IsNextCount (shape_of p) (place_of (cell_at cells at)) count) (over : budget < length cells + count) where
+  module _ (at place count budget : ℕ) (w : Way) (stands : slice_get order place ≡ Some at)
+      (can : CanBranch p cells at w)
+      (least : IsLeastOpen p cells at)
+      (of_use_here : MayUndercut p undercut (place_of (cell_at cells at)))
+      (pending : (j : ℕ) → j < length cells → (cell_at cells j).end ≡ leaf untried
+      → IsPending p (place_of (cell_at cells j)))
+      (count_is : IsNextCount (shape_of p) (place_of (cell_at cells at)) count)
+      (over : budget < length cells + count) where
     pending_at : (n : Node) → IsCell cells n (leaf untried) → IsPending p n
-    pending_at n c = subst (λ (m : Node). IsPending p m) c.node_is (pending c.number c.there c.end_is)
+    pending_at n c =
+        subst (λ (m : Node). IsPending p m) c.node_is (pending c.number c.there c.end_is)
 
     abbrev here : Node
     here = place_of (cell_at cells at)
 
     dearer_at : (n : Node) → IsCell cells n (leaf untried) → IsNoDearer p here n
-    dearer_at n c = subst (λ (m : Node). IsNoDearer p here m) c.node_is (elim (cases_eq c.number at) [
-      | inl e ↦ subst (λ i. IsNoDearer p here (place_of (cell_at cells i))) (sym e) (no_dearer_self p here)
-      | inr ne ↦ least c.number c.there ne c.end_is (pending c.number c.there c.end_is).reduced.live.no_dead
-    ])
+    dearer_at n c =
+        subst (λ (m : Node). IsNoDearer p here m) c.node_is (elim (cases_eq c.number at) [
+          | inl e ↦ subst (λ i. IsNoDearer p here (place_of (cell_at cells i))) (sym e)
+              (no_dearer_self p here)
+          | inr ne
+              ↦ least c.number c.there ne c.end_is
+              (pending c.number c.there c.end_is).reduced.live.no_dead
+        ])
 
     pub kept_is_spent : IsSpent p IsUntried undercut start (tree_of cells order) place count budget
     kept_is_spent = record {

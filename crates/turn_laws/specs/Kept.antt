@@ -48,10 +48,12 @@ LastIsOfUse p undercut (Some l) = MayUndercut p undercut l
 
 -- the search from `start` with this claim, in which a leaf of the node `last` was branched last,
 -- for networks that undercut a cost
-pub record IsKeptFor (p : Problem) (start : Node) (claim : Claim) (undercut : Option CostOver) (last : Option Node) (cells : List Cell) : Type 0 where
+pub record IsKeptFor (p : Problem) (start : Node) (claim : Claim) (undercut : Option CostOver)
+    (last : Option Node) (cells : List Cell) : Type 0 where
   pub grown : IsGrown true p start claim cells
   pub sound : (i : ℕ) → i < length cells → IsSound (shape_of p) (place_of (cell_at cells i))
-  pub ends : (i : ℕ) → i < length cells → EndIsKept p last (place_of (cell_at cells i)) (cell_at cells i).end
+  pub ends : (i : ℕ) → i < length cells
+      → EndIsKept p last (place_of (cell_at cells i)) (cell_at cells i).end
   pub claim_positive : IsPositiveCost (claimed_cost claim)
   pub undercut_positive : IsPositiveCost undercut
   pub of_use : LastIsOfUse p undercut last

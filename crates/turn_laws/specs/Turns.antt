@@ -25,11 +25,13 @@ pub record CanBranch (p : Problem) (cells : List Cell) (at : ℕ) (w : Way) : Ty
 -- the leaf costs no more than any other open leaf
 abbrev pub IsLeastOpen : Problem → List Cell → ℕ → Type 0
 IsLeastOpen p cells at =
-    (j : ℕ) → j < length cells → (j ≡ at → ⊥) → (cell_at cells j).end ≡ leaf untried → IsNever (IsDead (shape_of p) (place_of (cell_at cells j)))
+    (j : ℕ) → j < length cells → (j ≡ at → ⊥) → (cell_at cells j).end ≡ leaf untried
+    → IsNever (IsDead (shape_of p) (place_of (cell_at cells j)))
     → IsNoDearer p (place_of (cell_at cells at)) (place_of (cell_at cells j))
 
 -- a child of the node: a leaf that passes at the node to which its steps lead
-pub record IsFreshChild (p : Problem) (claimed : Option CostOver) (n : Node) (w : Way) (c : Cell) : Type 0 where
+pub record IsFreshChild (p : Problem) (claimed : Option CostOver) (n : Node) (w : Way)
+    (c : Cell) : Type 0 where
   pub follows : Follows (shape_of p) (child_at (shape_of p) n w c.option) c
   pub sound : IsSound (shape_of p) (place_of c)
   pub what : Leaf
@@ -37,13 +39,23 @@ pub record IsFreshChild (p : Problem) (claimed : Option CostOver) (n : Node) (w 
   pub passes : LeafPasses true p claimed (place_of c) what
 
 -- the children have all options of the way, in order
-pub record AreChildren (p : Problem) (claimed : Option CostOver) (n : Node) (w : Way) (children : List Cell) : Type 0 where
+pub record AreChildren (p : Problem) (claimed : Option CostOver) (n : Node) (w : Way)
+    (children : List Cell) : Type 0 where
   pub options_are : map (λ (c : Cell). c.option) children ≡ options_at (shape_of p) n w
   pub each : (k : ℕ) → k < length children → IsFreshChild p claimed n w (cell_at children k)
 
 -- the cell with another first child, end and key
 abbrev pub with_end : Cell → ℕ → End Leaf → ℕ → Cell
-with_end c first end key = record { option = c.option; steps = c.steps; node = c.node; first = first; end = end; key = key }
+with_end c first end key =
+    record {
+      option = c.option;
+      steps = c.steps;
+      node = c.node;
+      first = first;
+      end = end;
+      key =
+          key;
+    }
 
 -- the children, as many as the way has, follow the other cells, and the leaf is a branch
 pub record IsBranched (old children new : List Cell) (at : ℕ) (w : Way) : Type 0 where
@@ -52,7 +64,8 @@ pub record IsBranched (old children new : List Cell) (at : ℕ) (w : Way) : Type
   pub others : (j : ℕ) → j < length old → (j ≡ at → ⊥) → cell_at new j ≡ cell_at old j
   pub key : ℕ
   pub at_is : cell_at new at ≡ with_end (cell_at old at) (length old) (branch w) key
-  pub children_are : (k : ℕ) → k < length children → cell_at new (length old + k) ≡ cell_at children k
+  pub children_are : (k : ℕ) → k < length children
+      → cell_at new (length old + k) ≡ cell_at children k
 
 -- ---- open leaves are shut
 
@@ -68,4 +81,5 @@ pub record IsShut (p : Problem) (claimed : Option CostOver) (old new : Cell) : T
 -- each cell stays or is shut
 pub record AreShut (p : Problem) (claimed : Option CostOver) (old new : List Cell) : Type 0 where
   pub len : length new ≡ length old
-  pub each : (j : ℕ) → j < length old → (cell_at new j ≡ cell_at old j) ⊎ IsShut p claimed (cell_at old j) (cell_at new j)
+  pub each : (j : ℕ) → j < length old → (cell_at new j ≡ cell_at old j)
+      ⊎ IsShut p claimed (cell_at old j) (cell_at new j)

@@ -13,7 +13,8 @@ IsPositive v = pos 1 ≤ℤ v.d
 
 -- no relaxed flows of the node cost less than v
 abbrev pub IsUnder : Problem → CostOver → Node → Type 0
-IsUnder p v n = (z : ℕ → ℤ) (d : ℤ) → IsRelaxed (net_of p) n z d → (v.cost *ℤ d) ≤ℤ (relaxed_cost (net_of p) n z d *ℤ v.d)
+IsUnder p v n = (z : ℕ → ℤ) (d : ℤ) → IsRelaxed (net_of p) n z d
+    → (v.cost *ℤ d) ≤ℤ (relaxed_cost (net_of p) n z d *ℤ v.d)
 
 -- v is the least cost of relaxed flows of the node
 pub record IsValueOf (p : Problem) (n : Node) (v : CostOver) : Type 0 where

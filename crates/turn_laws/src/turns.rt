@@ -1,4 +1,5 @@
-ghost use Rattle.turn_laws.specs.Laws.{BranchingIsKept, ShuttingIsKept, ReachedIsNoDearer, ReachedMayUndercut, NetworksCostMore, GrowthBranches};
+ghost use Rattle.turn_laws.specs.Laws.{BranchingIsKept, ShuttingIsKept, ReachedIsNoDearer};
+ghost use Rattle.turn_laws.specs.Laws.{ReachedMayUndercut, NetworksCostMore, GrowthBranches};
 
 /// A turn that branches an open leaf which costs no more than any other keeps what a search keeps.
 pub fn branching_is_kept()

@@ -1,5 +1,7 @@
--- Lemmas alone, which the model of a unit set cites: the number of the list of a mask is the mask.
-use Rattle.std.proofs.Common.{◌≡◌, ℕ, zero, suc, ◌+◌, ◌*◌, ◌/◌, ◌%◌, ◌^◌, ◌<◌, ◌==◌, Bool, true, false, cond, List, [], ◌∷◌, ◌++◌, sym, ap, ◌∙◌, arith, eqb-true, mod-eq_of_lt, one-add, zero-add, refl}
+-- Lemmas that the model of a unit set cites: the number of the list of a mask is the mask.
+use Rattle.std.proofs.Common.{◌≡◌, ℕ, zero, suc, ◌+◌, ◌*◌, ◌/◌, ◌%◌, ◌^◌, ◌<◌, ◌==◌, Bool, true}
+use Rattle.std.proofs.Common.{false, cond, List, [], ◌∷◌, ◌++◌, sym, ap, ◌∙◌, arith, eqb-true}
+use Rattle.std.proofs.Common.{mod-eq_of_lt, one-add, zero-add, refl}
 use Rattle.std.proofs.lemmas.Bool.{eqb-false}
 use Rattle.std.proofs.lemmas.Nat.Bits.{bit_at-lt}
 use Rattle.std.proofs.Math.Pow.{field, mod-mod-pow}
@@ -21,8 +23,10 @@ mask_of-append : (xs ys : List ℕ) → mask_of (xs ++ ys) ≡ mask_of xs + mask
 mask_of-append [] ys = sym (zero-add (mask_of ys))
 mask_of-append (x ∷ xs) ys = omega (arith, mask_of-append xs ys)
 
-bit_of_mask : (n k : ℕ) (b : Bool) → (bit_at n k == 1) ≡ b → mask_of (cond b (k ∷ []) []) ≡ bit_at n k * 2 ^ k
-bit_of_mask n k true e = let one : bit_at n k ≡ 1 = eqb-true (bit_at n k) 1 e in rw one (omega arith)
+bit_of_mask : (n k : ℕ) (b : Bool) → (bit_at n k == 1) ≡ b
+    → mask_of (cond b (k ∷ []) []) ≡ bit_at n k * 2 ^ k
+bit_of_mask n k true e = let one : bit_at n k ≡ 1 =
+    eqb-true (bit_at n k) 1 e in rw one (omega arith)
 bit_of_mask n k false e =
     let lt = bit_at-lt n k in
     let ne : bit_at n k ≡ 1 → ⊥ = eqb-false (bit_at n k) 1 e in

@@ -1,10 +1,12 @@
-//! Sets of operating units below 128 and of materials below 256, as masks that are copied freely, and the nodes and steps
-//! that are made of them.
+//! Sets of units and of materials as masks, exact as rising lists.
 //!
-//! Contracts see a [`UnitSet`] and a [`MatSet`] as the rising list of its numbers: `with`, `without`, `has`, `union`,
-//! `meet`, `minus`, `within`, `count` and `least` are those of the lists, `take_least` takes the first number of the list,
-//! two sets are equal exactly where their lists are, and `first_option` and `next_option` walk the sets between a base and
-//! the base with free units in numeric order.
+//! Units are below 128 and materials below 256; sets are copied freely. Contracts see a [`UnitSet`]
+//! or a [`MatSet`] as the rising list of its numbers. `with`, `without`, `has`, `union`, `meet`,
+//! `minus`, `within`, `count` and `least` are those of the lists, and `take_least` takes the first
+//! number of the list. Two sets are equal exactly if their lists are. `first_option` and
+//! `next_option` go through the sets between a base and the base with free units in numeric order.
+//! The nodes and steps of a search are made of such sets.
+//!
 //! No call refuses, and none takes memory.
 #![tactic(auto)]
 

@@ -1,5 +1,7 @@
-ghost use Rattle.std.specs.Prelude.{◌≡◌, ◌<◌, ◌==◌, ◌↔◌, List, [], ◌∷◌, length, not, IsTrue, IfSome, MatchOption};
-ghost use Rattle.number_sets.specs.Sets.{has, first, with_number, kept, union, meet, minus, IsWithin, IsSet};
+ghost use Rattle.std.specs.Prelude.{◌≡◌, ◌<◌, ◌==◌, ◌↔◌, List, [], ◌∷◌, length, not, IsTrue};
+ghost use Rattle.std.specs.Prelude.{IfSome, MatchOption};
+ghost use Rattle.number_sets.specs.Sets.{has, first, with_number, kept, union, meet, minus};
+ghost use Rattle.number_sets.specs.Sets.{IsWithin, IsSet};
 ghost use Rattle.unit_sets.specs.Halves.{halves, IsHalves};
 
 use crate::UnitSet;
@@ -25,7 +27,11 @@ impl Model for MatSet {
 
     ghost inverse = { λ xs. record { low = lows xs; high = highs xs } };
 
-    ghost inverse_ok = { λ a h i. record { low = lows-halves a.low a.high h.low.below i; high = highs-halves a.low a.high h.low.below i } };
+    ghost inverse_ok = { λ a h i. record {
+      low = lows-halves a.low a.high h.low.below i;
+      high =
+          highs-halves a.low a.high h.low.below i;
+    } };
 }
 
 impl PartialEq for MatSet {
@@ -149,11 +155,14 @@ impl MatSet {
         }
     }
 
-    /// Takes the least number out of the set and gives it. `None` exactly for the empty set, which stays as it is.
+    /// Takes the least number out of the set and gives it. It is `None` exactly if the set is
+    /// empty; then the set stays as it is.
     ///
-    /// A caller's proof is told as well what `rises` tells of the set as it was, and so of the numbers that are left.
+    /// The contract also says, as that of `rises`, that the numbers of the set before the call and
+    /// of the set after it rise and are below 256.
     pub fn take_least(&mut self) -> Option<u32>
-        ensures taken { MatchOption result ((self.old ≡ []) × (self.new ≡ [])) (λ x. self.old ≡ x ∷ self.new) }
+        ensures taken { MatchOption result ((self.old ≡ []) × (self.new ≡ []))
+            (λ x. self.old ≡ x ∷ self.new) }
         ensures below { IfSome result (λ x. x < 256) }
         ensures rises { IsSet 256 self.old }
         ensures left { IsSet 256 self.new }
@@ -172,7 +181,7 @@ impl MatSet {
         self.low.is_empty() && self.high.is_empty()
     }
 
-    /// Tells a caller's proof that the numbers of a set rise and are below 256.
+    /// Gives a caller's proof that the numbers of a set rise and are below 256.
     pub fn rises(self)
         ensures { IsSet 256 self }
     {

@@ -3,7 +3,8 @@ ghost use Rattle.std.specs.Iterator.{YieldsFirst, item_count};
 use crate::{MatSet, UnitSet};
 use std::marker::Model;
 
-/// The numbers of a set of units, the least first. Contracts see it as the list of those that are left.
+/// The numbers of a set of units, the least first. Contracts see it as the list of the numbers that
+/// are left.
 #[derive(Debug, Drop)]
 pub struct UnitNumbers {
     pub(crate) left: UnitSet,
@@ -45,7 +46,8 @@ impl IntoIterator for UnitSet {
     }
 }
 
-/// The numbers of a set of materials, the least first. Contracts see it as the list of those that are left.
+/// The numbers of a set of materials, the least first. Contracts see it as the list of the numbers
+/// that are left.
 #[derive(Debug, Drop)]
 pub struct MatNumbers {
     pub(crate) left: MatSet,

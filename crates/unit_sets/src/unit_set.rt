@@ -1,5 +1,7 @@
-ghost use Rattle.std.specs.Prelude.{◌≡◌, ◌<◌, ◌≤◌, ◌==◌, ◌↔◌, ℕ, List, [], ◌∷◌, length, nat_lt, not, IsTrue, IfSome, IfNone, MatchOption};
-ghost use Rattle.number_sets.specs.Sets.{has, first, with_number, kept, union, meet, minus, mask_of, IsWithin, Avoids, IsSet};
+ghost use Rattle.std.specs.Prelude.{◌≡◌, ◌<◌, ◌≤◌, ◌==◌, ◌↔◌, ℕ, List, [], ◌∷◌, length, nat_lt};
+ghost use Rattle.std.specs.Prelude.{not, IsTrue, IfSome, IfNone, MatchOption};
+ghost use Rattle.number_sets.specs.Sets.{has, first, with_number, kept, union, meet, minus};
+ghost use Rattle.number_sets.specs.Sets.{mask_of, IsWithin, Avoids, IsSet};
 ghost use Rattle.number_sets.specs.Options.{IsBetween, IsFirstOption, IsNextOption, IsLastOption};
 
 use std::marker::Model;
@@ -56,7 +58,7 @@ impl UnitSet {
         UnitSet { bits: 0 }
     }
 
-    /// The set whose number is `bits`, where unit u counts 2^u.
+    /// The set whose number is `bits`; unit u counts 2^u.
     pub fn from_bits(bits: u128) -> UnitSet
         ensures { mask_of result ≡ bits }
     {
@@ -75,7 +77,7 @@ impl UnitSet {
         }
     }
 
-    /// The number of the set, where unit u counts 2^u.
+    /// The number of the set; unit u counts 2^u.
     pub fn bits(self) -> u128
         ensures { result ≡ mask_of self }
     {
@@ -162,11 +164,14 @@ impl UnitSet {
         }
     }
 
-    /// Takes the least number out of the set and gives it. `None` exactly for the empty set, which stays as it is.
+    /// Takes the least number out of the set and gives it. It is `None` exactly if the set is
+    /// empty; then the set stays as it is.
     ///
-    /// A caller's proof is told as well what `rises` tells of the set as it was, and so of the numbers that are left.
+    /// The contract also says, as that of `rises`, that the numbers of the set before the call and
+    /// of the set after it rise and are below 128.
     pub fn take_least(&mut self) -> Option<u32>
-        ensures taken { MatchOption result ((self.old ≡ []) × (self.new ≡ [])) (λ u. self.old ≡ u ∷ self.new) }
+        ensures taken { MatchOption result ((self.old ≡ []) × (self.new ≡ []))
+            (λ u. self.old ≡ u ∷ self.new) }
         ensures below { IfSome result (λ u. u < 128) }
         ensures rises { IsSet 128 self.old }
         ensures left { IsSet 128 self.new }
@@ -186,15 +191,15 @@ impl UnitSet {
         self.bits == 0
     }
 
-    /// Tells a caller's proof that the numbers of a set rise and are below 128.
+    /// Gives a caller's proof that the numbers of a set rise and are below 128.
     pub fn rises(self)
         ensures { IsSet 128 self }
     {
         let _bits = self.bits;
     }
 
-    /// The least non-empty set between the base and the base with free numbers, by the numbers of the sets. `None` exactly
-    /// where both are empty.
+    /// The least non-empty set between the base and the base with free numbers, by the numbers of
+    /// the sets. `None` exactly if both are empty.
     pub fn first_option(base: UnitSet, free: UnitSet) -> Option<UnitSet>
         requires { Avoids (has base) (has free) }
         ensures first { IfSome result (IsFirstOption base free) }
@@ -211,8 +216,8 @@ impl UnitSet {
         }
     }
 
-    /// The set that comes after this one, by the numbers of the sets, among those between the base and the base with free
-    /// numbers. `None` exactly at the last.
+    /// The set that comes next after this one, by the numbers of the sets, among those between the
+    /// base and the base with free numbers. `None` exactly if this is the last.
     pub fn next_option(self, base: UnitSet, free: UnitSet) -> Option<UnitSet>
         requires apart { Avoids (has base) (has free) }
         requires between { IsBetween base free self }
@@ -221,7 +226,7 @@ impl UnitSet {
     {
         base.rises();
         free.rises();
-        // With all other bits set, 1 more is carried to the lowest free bit that is not set.
+        // With all other bits set, adding 1 carries to the lowest free bit that is not set.
         let filled = self.bits | !free.bits;
         if filled == u128::MAX {
             return None;

@@ -1,4 +1,5 @@
-use Rattle.flow_rules.proofs.LastLemmas.{bound_is_last, cost_is_last, reduced_is_last, balance_is_last}
+use Rattle.flow_rules.proofs.LastLemmas.{bound_is_last, cost_is_last, reduced_is_last}
+use Rattle.flow_rules.proofs.LastLemmas.{balance_is_last}
 use Rattle.flow_rules.proofs.sums_are_last.Goals as goal
 
 pub returns-clause-bound : goal.returns-clause-bound

@@ -1,4 +1,5 @@
-use Rattle.head_rules.proofs.FaultLemmas.{passing_has_no_fault, fault_is_one, charged_has_no_fault, charge_fault_is_one}
+use Rattle.head_rules.proofs.FaultLemmas.{passing_has_no_fault, fault_is_one, charged_has_no_fault}
+use Rattle.head_rules.proofs.FaultLemmas.{charge_fault_is_one}
 use Rattle.head_rules.proofs.one_fault.Goals as goal
 
 pub returns-clause-passing : goal.returns-clause-passing

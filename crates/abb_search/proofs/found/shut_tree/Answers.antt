@@ -13,8 +13,10 @@ from_nodes-requires c =
     let cells = c.args.growing.now.pool.payloads in
     record {
       tree = subst (λ (t : Tree). IsTree t) (sym of.nodes_are)
-          (c.preorder_is_tree.ensures.tree (shut_cells ms cells) c.in_ok-preorder.preorder.order.items (shut_linked ms cells c.requires.linked)
-          (ap (λ (d : Cell). d.option) (shut_at ms cells 0 c.requires.linked.some) ∙ c.requires.root) of.is_preorder);
+          (c.preorder_is_tree.ensures.tree (shut_cells ms cells)
+          c.in_ok-preorder.preorder.order.items (shut_linked ms cells c.requires.linked)
+          (ap (λ (d : Cell). d.option) (shut_at ms cells 0 c.requires.linked.some)
+          ∙ c.requires.root) of.is_preorder);
     }
 
 pub returns-clause-tree : goal.returns-clause-tree

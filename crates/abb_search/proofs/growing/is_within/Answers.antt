@@ -11,6 +11,8 @@ returns c =
     let v = c.args.value.now in
     let h1 : SFits w128 c.cost.result = search rules in
     let h2 : SFits w128 c.d.result = search rules in
-    same_costs c.is_at_most.result (numerator v) (numerator v) (denominator v) (denominator v) (to_z w128 (of_z w128 c.cost.result)) a.cost (to_z w128 (of_z w128 c.d.result)) a.d
-    refl refl (to_z-of_z w128 c.cost.result h1 ∙ c.cost.ensures) (to_z-of_z w128 c.d.result h2 ∙ c.d.ensures)
+    same_costs c.is_at_most.result (numerator v) (numerator v) (denominator v) (denominator v)
+    (to_z w128 (of_z w128 c.cost.result)) a.cost (to_z w128 (of_z w128 c.d.result)) a.d
+    refl refl (to_z-of_z w128 c.cost.result h1 ∙ c.cost.ensures)
+    (to_z-of_z w128 c.d.result h2 ∙ c.d.ensures)
     c.is_at_most.ensures

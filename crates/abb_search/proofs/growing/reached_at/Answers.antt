@@ -10,12 +10,15 @@ pub returns-in-None : goal.returns-in-None
 returns-in-None c = record {
   value = c.value-value.result;
   value_is = c.value-value.ensures;
-  reached_is = reached_value c.value-value.result (interval_of (ready_at c.args.growing.now c.args.leaf)) (sym c.interval_at.ensures ∙ ap option_copied c.in-None.is);
+  reached_is =
+      reached_value c.value-value.result (interval_of (ready_at c.args.growing.now c.args.leaf))
+      (sym c.interval_at.ensures ∙ ap option_copied c.in-None.is);
 }
 
 pub returns-in-Some : goal.returns-in-Some
 returns-in-Some c =
-    let is : interval_of (ready_at c.args.growing.now c.args.leaf) ≡ Some c.in-Some.interval.now = sym c.interval_at.ensures ∙ ap option_copied c.in-Some.is in
+    let is : interval_of (ready_at c.args.growing.now c.args.leaf) ≡ Some c.in-Some.interval.now =
+    sym c.interval_at.ensures ∙ ap option_copied c.in-Some.is in
     record {
       value = c.value-value.result;
       value_is = c.value-value.ensures;

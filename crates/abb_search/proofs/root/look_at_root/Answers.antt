@@ -15,8 +15,12 @@ returns-clause-root g c =
     let l = c.in_ok-looked.looked in
     record {
       looked = l;
-      is_looked = subst (λ (n : starts.Node). IsLooked g.E.Evaluator.past c.args.site.now (node_of n) [] l) c.copy_of-node.ensures
-          (subst (λ (o : List ℕ). IsLooked g.E.Evaluator.past c.args.site.now (node_of c.copy_of-node.result) o l) c.empty.ensures c.in_ok-looked.ensures.looked);
+      is_looked =
+          subst (λ (n : starts.Node). IsLooked g.E.Evaluator.past c.args.site.now (node_of n) [] l)
+          c.copy_of-node.ensures
+          (subst
+          (λ (o : List ℕ). IsLooked g.E.Evaluator.past c.args.site.now
+          (node_of c.copy_of-node.result) o l) c.empty.ensures c.in_ok-looked.ensures.looked);
       start_is = refl;
       budget_is = refl;
       nodes_are = refl;
@@ -38,8 +42,14 @@ returns-clause-solved g c = λ none.
     let p = c.args.site.now in
     let l = c.in_ok-looked.looked in
     let seen = c.in_ok-looked.ensures.looked.seen in
-    let root = solved_one p (record { cell = l.cell; value = l.value }) c.place-root.result l.ready c.reserve.new.self c.place-root.new.hand l.network c.place-root.ensures.placed
+    let root =
+    solved_one p (record { cell = l.cell; value = l.value }) c.place-root.result l.ready
+    c.reserve.new.self c.place-root.new.hand l.network c.place-root.ensures.placed
     (solved_by p l.cell l.network seen.what seen.end_is seen.passes seen.found seen.bounded) in
-    let best = best_is_found c.args.best c.cheaper.result l.network none c.cheaper.ensures.which c.cheaper.ensures.some in
-    subst (λ (cs : List Cell). AreSolvedBy p cs (c.cheaper.result ∷ [])) (sym c.in_ok-pool.ensures.cells)
-    (subst (λ (w : Option claims.Network). AreSolvedBy p (c.place-root.result.cell ∷ []) (w ∷ [])) (sym best) (root, tt))
+    let best =
+    best_is_found c.args.best c.cheaper.result l.network none c.cheaper.ensures.which
+    c.cheaper.ensures.some in
+    subst (λ (cs : List Cell). AreSolvedBy p cs (c.cheaper.result ∷ []))
+    (sym c.in_ok-pool.ensures.cells)
+    (subst (λ (w : Option claims.Network). AreSolvedBy p (c.place-root.result.cell ∷ []) (w ∷ []))
+    (sym best) (root, tt))

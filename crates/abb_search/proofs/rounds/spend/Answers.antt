@@ -26,8 +26,10 @@ returns-in-Some-clause-holds g c = λ undercut growing next.
     let p = c.args.site.now in
     let s = c.args.growing.now in
     let t = c.settle_from.new.growing in
-    subst (λ (o : Option Next). RoundHolds g.E.Evaluator.past p s t undercut o) (sym c.ends_at.ensures)
-    (round_settled g.E.Evaluator.past p s t undercut c.in_ok-stopped.stopped c.in_ok-stopped.ensures.settles)
+    subst (λ (o : Option Next). RoundHolds g.E.Evaluator.past p s t undercut o)
+    (sym c.ends_at.ensures)
+    (round_settled g.E.Evaluator.past p s t undercut c.in_ok-stopped.stopped
+    c.in_ok-stopped.ensures.settles)
 
 pub returns-clause-holds : goal.returns-clause-holds
 returns-clause-holds g c = λ undercut growing next.
@@ -35,11 +37,16 @@ returns-clause-holds g c = λ undercut growing next.
     let s = c.args.growing.now in
     let at = c.args.leaf in
     let m = choice_of (ready_at s at) in
-    let choice = chosen p c.problem.ensures.valid s growing at next.is_open c.is_pool.ensures.payloads c.is_pool.ensures.leaves m refl in
-    let over = subst (λ n. s.budget < length s.pool.payloads + n) c.requires.options c.requires.over in
+    let choice =
+    chosen p c.problem.ensures.valid s growing at next.is_open c.is_pool.ensures.payloads
+    c.is_pool.ensures.leaves m refl in
+    let over =
+    subst (λ n. s.budget < length s.pool.payloads + n) c.requires.options c.requires.over in
     subst (λ n. IsSpentFor p undercut s c.in_ok-refuted.refuted.items at n) (sym c.requires.options)
-    (spent_for p c.problem.ensures.valid s growing at next.is_open c.is_pool.ensures.payloads c.is_pool.ensures.leaves undercut growing.tree.kept.undercut_positive
-    next.settled next.least next.undercuts c.in_default.ensures.none c.in_ok-refuted.refuted.items c.in_ok-refuted.ensures m choice over)
+    (spent_for p c.problem.ensures.valid s growing at next.is_open c.is_pool.ensures.payloads
+    c.is_pool.ensures.leaves undercut growing.tree.kept.undercut_positive
+    next.settled next.least next.undercuts c.in_default.ensures.none c.in_ok-refuted.refuted.items
+    c.in_ok-refuted.ensures m choice over)
 
 pub returns-clause-same : goal.returns-clause-same
 returns-clause-same g c = same_refl g.E.Evaluator.past c.args.site.now c.args.growing.now

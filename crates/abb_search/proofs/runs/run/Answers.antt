@@ -13,14 +13,19 @@ turns-preserved g c =
     let root = c.args.root in
     let s = c.turns.growing in
     let inv = c.turns.invariant in
-    let more : IsMore Past p s c.step.new.growing = subst (λ (o : Option Found). StepHolds Past p s c.step.new.growing o) c.in-Ok-None.field-0-is c.in-Ok-None.ensures.holds in
+    let more : IsMore Past p s c.step.new.growing =
+    subst (λ (o : Option Found). StepHolds Past p s c.step.new.growing o)
+    c.in-Ok-None.field-0-is c.in-Ok-None.ensures.holds in
     record {
       own = c.step.ensures.own;
       makers = c.step.ensures.makers ∙ inv.makers;
       going = more.going;
       start = more.start ∙ inv.start;
       budget = more.budget ∙ inv.budget;
-      fallen = fallen_trans (cost_of root.best) (cost_of s.best) (cost_of c.step.new.growing.best) (going_positive Past p root c.requires.going) (going_positive Past p s inv.going) more.positive inv.fallen more.fallen;
+      fallen =
+          fallen_trans (cost_of root.best) (cost_of s.best) (cost_of c.step.new.growing.best)
+          (going_positive Past p root c.requires.going) (going_positive Past p s inv.going)
+          more.positive inv.fallen more.fallen;
     }
 
 pub returns-in-Ok-Some-clause-against : goal.returns-in-Ok-Some-clause-against
@@ -31,5 +36,9 @@ returns-in-Ok-Some-clause-against g c =
     let s = c.turns.growing in
     let inv = c.turns.invariant in
     let found = c.in-Ok-Some.found in
-    let end : IsEnd Past p s c.step.new.growing found = subst (λ (o : Option Found). StepHolds Past p s c.step.new.growing o) c.in-Ok-Some.field-0-is c.in-Ok-Some.ensures.holds in
-    against_after Past p (node_of s.start) s.budget root.best s.best found end.is_found (going_positive Past p root c.requires.going) (going_positive Past p s inv.going) inv.fallen end.against
+    let end : IsEnd Past p s c.step.new.growing found =
+    subst (λ (o : Option Found). StepHolds Past p s c.step.new.growing o)
+    c.in-Ok-Some.field-0-is c.in-Ok-Some.ensures.holds in
+    against_after Past p (node_of s.start) s.budget root.best s.best found end.is_found
+    (going_positive Past p root c.requires.going) (going_positive Past p s inv.going) inv.fallen
+    end.against

@@ -16,13 +16,31 @@ returns-clause-holds g c =
     let s = c.args.growing.now in
     let w = c.in_ok-placed.placed in
     let hb = stopped_by s.stop c.in-Some.leaf (sym c.stopped_leaf.ensures ∙ c.in-Some.is) in
-    let going = subst (λ (o : Option StoppedLeaf). GoesOn g.E.Evaluator.past p s o) hb.is c.requires.going in
+    let going =
+    subst (λ (o : Option StoppedLeaf). GoesOn g.E.Evaluator.past p s o) hb.is
+    c.requires.going in
     let at = subst (λ i. IsStoppedAt g.E.Evaluator.past p s i hb.by.stop) hb.at_is going.1 in
-    let new : Growing = record { start = s.start; budget = s.budget; nodes = s.nodes; pool = s.pool; ready = s.ready; best = c.take.new.self; stop = c.take-2.new.self } in
+    let new : Growing =
+    record {
+      start = s.start;
+      budget = s.budget;
+      nodes = s.nodes;
+      pool = s.pool;
+      ready =
+          s.ready;
+      best = c.take.new.self;
+      stop = c.take-2.new.self;
+    } in
     let e : c.past_found.result ≡ past_with s.best (Some hb.by) w.tree w.place
     = c.past_found.ensures
-    ∙ (ap (λ (b : Option claims.Network). past_with b c.take-2.result w.tree w.place) c.take.ensures.value ∙ ap (λ (h : Option StoppedLeaf). past_with s.best h w.tree w.place) (c.take-2.ensures.value ∙ hb.is)) in
+    ∙ (ap (λ (b : Option claims.Network). past_with b c.take-2.result w.tree w.place)
+    c.take.ensures.value
+    ∙ ap (λ (h : Option StoppedLeaf). past_with s.best h w.tree w.place)
+    (c.take-2.ensures.value ∙ hb.is)) in
     subst (λ (f : Option Found). StepHolds g.E.Evaluator.past p s new f) (sym e)
-    (ends_with g.E.Evaluator.past p s new (found.Past s.best w.tree w.place hb.by.stop.nonbasic hb.by.stop.place) going.0
-    (past_found p s going.0 c.in-Some.leaf w.place w.tree c.in_ok-placed.ensures.tree c.in_ok-placed.ensures.sized g.E.Evaluator.past hb.by.stop s.start refl at)
-    (λ (q : found.Past s.best w.tree w.place hb.by.stop.nonbasic hb.by.stop.place ≡ found.Memory). cc) refl refl refl refl refl)
+    (ends_with g.E.Evaluator.past p s new
+    (found.Past s.best w.tree w.place hb.by.stop.nonbasic hb.by.stop.place) going.0
+    (past_found p s going.0 c.in-Some.leaf w.place w.tree c.in_ok-placed.ensures.tree
+    c.in_ok-placed.ensures.sized g.E.Evaluator.past hb.by.stop s.start refl at)
+    (λ (q : found.Past s.best w.tree w.place hb.by.stop.nonbasic hb.by.stop.place ≡ found.Memory).
+    cc) refl refl refl refl refl)

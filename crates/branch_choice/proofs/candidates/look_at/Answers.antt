@@ -9,7 +9,8 @@ use Rattle.branch_choice.proofs.ChoiceLemmas.{decisive_from, within_first, withi
 use Rattle.branch_choice.proofs.candidates.look_at.Goals as goal
 
 pub score-score-requires : goal.score-score-requires
-score-score-requires c = (subst (IsSet 128) c.in-Some.ensures.steps c.loop-unit.invariant.is_set).below.0
+score-score-requires c =
+    (subst (IsSet 128) c.in-Some.ensures.steps c.loop-unit.invariant.is_set).below.0
 
 pub loop-unit-preserved : goal.loop-unit-preserved
 loop-unit-preserved c =
@@ -19,11 +20,15 @@ loop-unit-preserved c =
     let left = c.loop-unit.unit-iterator in
     let inv = c.loop-unit.invariant in
     let before = subst (IsSet 128) c.in-Some.ensures.steps inv.is_set in
-    let here = within_first (has (free_makers g n c.args.x)) left u c.next.new.self inv.within c.in-Some.ensures.steps in
+    let here =
+    within_first (has (free_makers g n c.args.x)) left u c.next.new.self inv.within
+    c.in-Some.ensures.steps in
     let P : Candidate → Type 0 = λ k. IsDecisive g n k.unit in
     record {
       is_set = record { rising = before.rising.1; below = before.below.1 };
-      within = within_rest (has (free_makers g n c.args.x)) left u c.next.new.self inv.within c.in-Some.ensures.steps;
+      within =
+          within_rest (has (free_makers g n c.args.x)) left u c.next.new.self inv.within
+          c.in-Some.ensures.steps;
       decisive = elim c.better-best.ensures [
         | inl e ↦ subst P (sym e) inv.decisive
         | inr e ↦ subst P (sym e) (decisive_from g n c.args.x u c.requires.needed here)

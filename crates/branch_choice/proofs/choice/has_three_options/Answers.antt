@@ -19,8 +19,10 @@ pub returns-then-is_empty-clause-three : goal.returns-then-is_empty-clause-three
 returns-then-is_empty-clause-three c t =
     let g = shape c.args.graph.now in
     let n = node_of c.args.node.now in
-    let none : base_makers g n c.args.x ≡ [] = sym c.options-base.ensures.base ∙ c.if-is_empty.ensures.0 refl in
+    let none : base_makers g n c.args.x ≡ [] =
+    sym c.options-base.ensures.base ∙ c.if-is_empty.ensures.0 refl in
     let law = c.options_are_counted.ensures.none g n c.args.x none in
-    let counted = sym (ap (λ (xs : List ℕ). length xs) c.options-base.ensures.free) ∙ sym c.count.ensures ∙ eqb-true c.count.result 2 t in
+    let counted = sym (ap (λ (xs : List ℕ). length xs) c.options-base.ensures.free)
+    ∙ sym c.count.ensures ∙ eqb-true c.count.result 2 t in
     let four : 2 ^ length (free_makers g n c.args.x) ≡ 4 = ap (λ (m : ℕ). 2 ^ m) counted in
     omega (arith, law, four)

@@ -8,7 +8,9 @@ use Rattle.cert_check.proofs.children.push_children.Given as goal
 abbrev pub invariant-put : goal.invariant-put
 invariant-put l = record {
   within : l.left ≤ length l.options;
-  so_far : stack_of l.stack.items ≡ map (child (shape l.graph) (node_of l.node) l.material) (drop l.left l.options) ++ stack_of l.fn.stack.items;
+  so_far : stack_of l.stack.items
+      ≡ map (child (shape l.graph) (node_of l.node) l.material) (drop l.left l.options)
+      ++ stack_of l.fn.stack.items;
 }
 
 abbrev pub decreases-put : goal.decreases-put

@@ -14,10 +14,27 @@ returns-in-Network-clause-passes c =
     let cost_fits : SFits w128 c.cost.result = search rules in
     let d_is = to_z-of_z w128 c.d.result d_fits ∙ c.d.ensures in
     let cost_is = to_z-of_z w128 c.cost.result cost_fits ∙ c.cost.ensures in
-    let judged : claims.Network = record { units = c.units.result; sizes = c.sizes.result.now; d = to_z w128 (of_z w128 c.d.result); cost = to_z w128 (of_z w128 c.cost.result) } in
-    let same : judged ≡ c.in-Network.network = λ i. record { units = c.units.ensures i; sizes = c.sizes.ensures i; d = d_is i; cost = cost_is i } in
-    subst (λ (q : claims.Claim). OnOk c.judge_network.result (claims.ClaimPasses c.args.partial p q)) (sym (ap claim_of c.in-Network.is))
-    (subst (λ (w : claims.Network). OnOk c.judge_network.result (claims.IsFeasible p w)) same c.judge_network.ensures.passes)
+    let judged : claims.Network =
+    record {
+      units = c.units.result;
+      sizes = c.sizes.result.now;
+      d =
+          to_z w128 (of_z w128 c.d.result);
+      cost = to_z w128 (of_z w128 c.cost.result);
+    } in
+    let same : judged ≡ c.in-Network.network =
+    λ i. record {
+      units = c.units.ensures i;
+      sizes = c.sizes.ensures i;
+      d = d_is i;
+      cost =
+          cost_is i;
+    } in
+    subst
+    (λ (q : claims.Claim). OnOk c.judge_network.result (claims.ClaimPasses c.args.partial p q))
+    (sym (ap claim_of c.in-Network.is))
+    (subst (λ (w : claims.Network). OnOk c.judge_network.result (claims.IsFeasible p w)) same
+    c.judge_network.ensures.passes)
 
 pub returns-in-Network-clause-fails : goal.returns-in-Network-clause-fails
 returns-in-Network-clause-fails c =
@@ -26,9 +43,30 @@ returns-in-Network-clause-fails c =
     let cost_fits : SFits w128 c.cost.result = search rules in
     let d_is = to_z-of_z w128 c.d.result d_fits ∙ c.d.ensures in
     let cost_is = to_z-of_z w128 c.cost.result cost_fits ∙ c.cost.ensures in
-    let judged : claims.Network = record { units = c.units.result; sizes = c.sizes.result.now; d = to_z w128 (of_z w128 c.d.result); cost = to_z w128 (of_z w128 c.cost.result) } in
-    let same : judged ≡ c.in-Network.network = λ i. record { units = c.units.ensures i; sizes = c.sizes.ensures i; d = d_is i; cost = cost_is i } in
-    subst (λ (q : claims.Claim). IfErr c.judge_network.result (λ (why : Why). claims.ClaimFails c.args.partial p q why)) (sym (ap claim_of c.in-Network.is))
-    (subst (λ (w : claims.Network). IfErr c.judge_network.result (λ (why : Why). claims.ClaimFails c.args.partial p (claims.network w) why)) same
-    (weaker_fault (λ (why : Why). (partial : Bool) → claims.ClaimFails partial p (claims.network judged) why) (λ (why : Why). claims.ClaimFails c.args.partial p (claims.network judged) why)
+    let judged : claims.Network =
+    record {
+      units = c.units.result;
+      sizes = c.sizes.result.now;
+      d =
+          to_z w128 (of_z w128 c.d.result);
+      cost = to_z w128 (of_z w128 c.cost.result);
+    } in
+    let same : judged ≡ c.in-Network.network =
+    λ i. record {
+      units = c.units.ensures i;
+      sizes = c.sizes.ensures i;
+      d = d_is i;
+      cost =
+          cost_is i;
+    } in
+    subst
+    (λ (q : claims.Claim). IfErr c.judge_network.result
+    (λ (why : Why). claims.ClaimFails c.args.partial p q why))
+    (sym (ap claim_of c.in-Network.is))
+    (subst
+    (λ (w : claims.Network). IfErr c.judge_network.result
+    (λ (why : Why). claims.ClaimFails c.args.partial p (claims.network w) why)) same
+    (weaker_fault (λ (why : Why). (partial : Bool)
+    → claims.ClaimFails partial p (claims.network judged) why)
+    (λ (why : Why). claims.ClaimFails c.args.partial p (claims.network judged) why)
     c.judge_network.result (λ why f. f c.args.partial) c.judge_network.ensures.fails))

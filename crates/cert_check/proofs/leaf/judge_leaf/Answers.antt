@@ -1,4 +1,5 @@
-use Rattle.std.proofs.Common.{◌∙◌, sym, ap, ap₂, Bool, Option, List, ℤ, SFits, OnOk, IfErr, subst, rules, to_z, of_z}
+use Rattle.std.proofs.Common.{◌∙◌, sym, ap, ap₂, Bool, Option, List, ℤ, SFits, OnOk, IfErr, subst}
+use Rattle.std.proofs.Common.{rules, to_z, of_z}
 use Rattle.std.specs.Int.{w128}
 use Rattle.std.proofs.lemmas.Int.{to_z-of_z}
 use Rattle.problem_rules.specs.Problem.{Problem}
@@ -6,7 +7,8 @@ use Rattle.pgraph.specs.View.{node_of}
 use Rattle.tree_rules.specs.declared.why.Why.{Why}
 use Rattle.tree_rules.specs.Claim as claims
 use Rattle.tree_rules.specs.Tree.{leaf}
-use Rattle.tree_rules.specs.Leaf.{Leaf, dead, clash, refuted, bounded, untried, LeafPasses, LeafFails}
+use Rattle.tree_rules.specs.Leaf.{Leaf, dead, clash, refuted, bounded, untried, LeafPasses}
+use Rattle.tree_rules.specs.Leaf.{LeafFails}
 use Rattle.branch_tree.specs.View.{end_of}
 use Rattle.cert_parts.specs.Shown.{cost_over}
 use Rattle.cert_check.proofs.LeafLemmas.{passes_at, fails_at}
@@ -19,7 +21,8 @@ returns-in-Dead-clause-passes c =
     let k = cost_over c.args.claimed in
     passes_at (end_of c.args.end.now) (dead c.in-Dead.x) (ap end_of c.in-Dead.is)
     (λ (l : Leaf). LeafPasses c.args.partial p k n l)
-    ((partial : Bool) (claimed : Option claims.CostOver) → LeafPasses partial p claimed n (dead c.in-Dead.x))
+    ((partial : Bool) (claimed : Option claims.CostOver)
+    → LeafPasses partial p claimed n (dead c.in-Dead.x))
     c.judge_dead.result (λ q. q c.args.partial k) c.judge_dead.ensures.passes
 
 pub returns-in-Dead-clause-fails : goal.returns-in-Dead-clause-fails
@@ -29,7 +32,8 @@ returns-in-Dead-clause-fails c =
     let k = cost_over c.args.claimed in
     fails_at (end_of c.args.end.now) (dead c.in-Dead.x) (ap end_of c.in-Dead.is)
     (λ (l : Leaf) (why : Why). LeafFails c.args.partial p k n l why)
-    (λ (why : Why). (partial : Bool) (claimed : Option claims.CostOver) → LeafFails partial p claimed n (dead c.in-Dead.x) why)
+    (λ (why : Why). (partial : Bool) (claimed : Option claims.CostOver)
+    → LeafFails partial p claimed n (dead c.in-Dead.x) why)
     c.judge_dead.result (λ why q. q c.args.partial k) c.judge_dead.ensures.fails
 
 pub returns-in-Clash-clause-passes : goal.returns-in-Clash-clause-passes
@@ -39,7 +43,8 @@ returns-in-Clash-clause-passes c =
     let k = cost_over c.args.claimed in
     passes_at (end_of c.args.end.now) (clash c.in-Clash.k) (ap end_of c.in-Clash.is)
     (λ (l : Leaf). LeafPasses c.args.partial p k n l)
-    ((partial : Bool) (claimed : Option claims.CostOver) → LeafPasses partial p claimed n (clash c.in-Clash.k))
+    ((partial : Bool) (claimed : Option claims.CostOver)
+    → LeafPasses partial p claimed n (clash c.in-Clash.k))
     c.judge_clash.result (λ q. q c.args.partial k) c.judge_clash.ensures.passes
 
 pub returns-in-Clash-clause-fails : goal.returns-in-Clash-clause-fails
@@ -49,7 +54,8 @@ returns-in-Clash-clause-fails c =
     let k = cost_over c.args.claimed in
     fails_at (end_of c.args.end.now) (clash c.in-Clash.k) (ap end_of c.in-Clash.is)
     (λ (l : Leaf) (why : Why). LeafFails c.args.partial p k n l why)
-    (λ (why : Why). (partial : Bool) (claimed : Option claims.CostOver) → LeafFails partial p claimed n (clash c.in-Clash.k) why)
+    (λ (why : Why). (partial : Bool) (claimed : Option claims.CostOver)
+    → LeafFails partial p claimed n (clash c.in-Clash.k) why)
     c.judge_clash.result (λ why q. q c.args.partial k) c.judge_clash.ensures.fails
 
 pub returns-in-Refuted-clause-passes : goal.returns-in-Refuted-clause-passes
@@ -57,9 +63,12 @@ returns-in-Refuted-clause-passes c =
     let p = c.args.site.now in
     let n = node_of c.args.node.now in
     let k = cost_over c.args.claimed in
-    passes_at (end_of c.args.end.now) (refuted c.numbers.result.now) (ap end_of c.in-Refuted.is ∙ ap (λ (ys : List ℤ). leaf (refuted ys)) (sym c.numbers.ensures))
+    passes_at (end_of c.args.end.now) (refuted c.numbers.result.now)
+    (ap end_of c.in-Refuted.is
+    ∙ ap (λ (ys : List ℤ). leaf (refuted ys)) (sym c.numbers.ensures))
     (λ (l : Leaf). LeafPasses c.args.partial p k n l)
-    ((partial : Bool) (claimed : Option claims.CostOver) → LeafPasses partial p claimed n (refuted c.numbers.result.now))
+    ((partial : Bool) (claimed : Option claims.CostOver)
+    → LeafPasses partial p claimed n (refuted c.numbers.result.now))
     c.judge_refutation.result (λ q. q c.args.partial k) c.judge_refutation.ensures.passes
 
 pub returns-in-Refuted-clause-fails : goal.returns-in-Refuted-clause-fails
@@ -67,9 +76,12 @@ returns-in-Refuted-clause-fails c =
     let p = c.args.site.now in
     let n = node_of c.args.node.now in
     let k = cost_over c.args.claimed in
-    fails_at (end_of c.args.end.now) (refuted c.numbers.result.now) (ap end_of c.in-Refuted.is ∙ ap (λ (ys : List ℤ). leaf (refuted ys)) (sym c.numbers.ensures))
+    fails_at (end_of c.args.end.now) (refuted c.numbers.result.now)
+    (ap end_of c.in-Refuted.is
+    ∙ ap (λ (ys : List ℤ). leaf (refuted ys)) (sym c.numbers.ensures))
     (λ (l : Leaf) (why : Why). LeafFails c.args.partial p k n l why)
-    (λ (why : Why). (partial : Bool) (claimed : Option claims.CostOver) → LeafFails partial p claimed n (refuted c.numbers.result.now) why)
+    (λ (why : Why). (partial : Bool) (claimed : Option claims.CostOver)
+    → LeafFails partial p claimed n (refuted c.numbers.result.now) why)
     c.judge_refutation.result (λ why q. q c.args.partial k) c.judge_refutation.ensures.fails
 
 pub returns-in-Bound-clause-passes : goal.returns-in-Bound-clause-passes
@@ -78,9 +90,13 @@ returns-in-Bound-clause-passes c =
     let n = node_of c.args.node.now in
     let k = cost_over c.args.claimed in
     let fits : SFits w128 c.d.result = search rules in
-    passes_at (end_of c.args.end.now) (bounded (to_z w128 (of_z w128 c.d.result)) c.ys.result.now) (ap end_of c.in-Bound.is ∙ ap₂ (λ (d : ℤ) (ys : List ℤ). leaf (bounded d ys)) (sym (c.d.ensures) ∙ sym (to_z-of_z w128 c.d.result fits)) (sym c.ys.ensures))
+    passes_at (end_of c.args.end.now) (bounded (to_z w128 (of_z w128 c.d.result)) c.ys.result.now)
+    (ap end_of c.in-Bound.is
+    ∙ ap₂ (λ (d : ℤ) (ys : List ℤ). leaf (bounded d ys))
+    (sym (c.d.ensures) ∙ sym (to_z-of_z w128 c.d.result fits)) (sym c.ys.ensures))
     (λ (l : Leaf). LeafPasses c.args.partial p k n l)
-    ((partial : Bool) → LeafPasses partial p k n (bounded (to_z w128 (of_z w128 c.d.result)) c.ys.result.now))
+    ((partial : Bool)
+    → LeafPasses partial p k n (bounded (to_z w128 (of_z w128 c.d.result)) c.ys.result.now))
     c.judge_bound.result (λ q. q c.args.partial) c.judge_bound.ensures.passes
 
 pub returns-in-Bound-clause-fails : goal.returns-in-Bound-clause-fails
@@ -89,9 +105,13 @@ returns-in-Bound-clause-fails c =
     let n = node_of c.args.node.now in
     let k = cost_over c.args.claimed in
     let fits : SFits w128 c.d.result = search rules in
-    fails_at (end_of c.args.end.now) (bounded (to_z w128 (of_z w128 c.d.result)) c.ys.result.now) (ap end_of c.in-Bound.is ∙ ap₂ (λ (d : ℤ) (ys : List ℤ). leaf (bounded d ys)) (sym (c.d.ensures) ∙ sym (to_z-of_z w128 c.d.result fits)) (sym c.ys.ensures))
+    fails_at (end_of c.args.end.now) (bounded (to_z w128 (of_z w128 c.d.result)) c.ys.result.now)
+    (ap end_of c.in-Bound.is
+    ∙ ap₂ (λ (d : ℤ) (ys : List ℤ). leaf (bounded d ys))
+    (sym (c.d.ensures) ∙ sym (to_z-of_z w128 c.d.result fits)) (sym c.ys.ensures))
     (λ (l : Leaf) (why : Why). LeafFails c.args.partial p k n l why)
-    (λ (why : Why). (partial : Bool) → LeafFails partial p k n (bounded (to_z w128 (of_z w128 c.d.result)) c.ys.result.now) why)
+    (λ (why : Why). (partial : Bool)
+    → LeafFails partial p k n (bounded (to_z w128 (of_z w128 c.d.result)) c.ys.result.now) why)
     c.judge_bound.result (λ why q. q c.args.partial) c.judge_bound.ensures.fails
 
 pub returns-in-Open-clause-passes : goal.returns-in-Open-clause-passes
@@ -103,7 +123,10 @@ returns-in-Open-clause-passes c =
     (λ (l : Leaf). LeafPasses c.args.partial p k n l)
     ((claimed : Option claims.CostOver) → LeafPasses c.args.partial p claimed n untried)
     c.judge_open.result (λ q. q k)
-    (subst (λ (o : Problem). OnOk c.judge_open.result ((claimed : Option claims.CostOver) → LeafPasses c.args.partial o claimed n untried)) c.problem.ensures.same c.judge_open.ensures.passes)
+    (subst
+    (λ (o : Problem). OnOk c.judge_open.result
+    ((claimed : Option claims.CostOver) → LeafPasses c.args.partial o claimed n untried))
+    c.problem.ensures.same c.judge_open.ensures.passes)
 
 pub returns-in-Open-clause-fails : goal.returns-in-Open-clause-fails
 returns-in-Open-clause-fails c =
@@ -112,6 +135,11 @@ returns-in-Open-clause-fails c =
     let k = cost_over c.args.claimed in
     fails_at (end_of c.args.end.now) untried (ap end_of c.in-Open.is)
     (λ (l : Leaf) (why : Why). LeafFails c.args.partial p k n l why)
-    (λ (why : Why). (claimed : Option claims.CostOver) → LeafFails c.args.partial p claimed n untried why)
+    (λ (why : Why). (claimed : Option claims.CostOver)
+    → LeafFails c.args.partial p claimed n untried why)
     c.judge_open.result (λ why q. q k)
-    (subst (λ (o : Problem). IfErr c.judge_open.result (λ why. (claimed : Option claims.CostOver) → LeafFails c.args.partial o claimed n untried why)) c.problem.ensures.same c.judge_open.ensures.fails)
+    (subst
+    (λ (o : Problem). IfErr c.judge_open.result
+    (λ why. (claimed : Option claims.CostOver)
+    → LeafFails c.args.partial o claimed n untried why)) c.problem.ensures.same
+    c.judge_open.ensures.fails)

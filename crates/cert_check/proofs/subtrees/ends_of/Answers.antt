@@ -13,15 +13,22 @@ back-preserved c =
     let k1 : c.back.i - 1 + 1 ≡ suc (c.back.i - 1) = omega arith in
     let low : c.back.i ≤ length c.args.nodes.now = c.back.invariant.within in
     let lt : c.back.i - 1 < length c.args.nodes.now = omega (arith, c.back-test.true) in
-    let count : c.children.result ≡ trees.children c.index-nodes-i.result.end = c.children.ensures ∙ ap (λ (t : trees.TreeNode Leaf). trees.children t.end) c.node.view_is in
-    let behind = subst (λ (n : ℕ). drop c.past-end.result ts ≡ trees.skip n (drop (c.back.i - 1 + 1) ts)) count c.past-end.ensures.behind in
+    let count : c.children.result ≡ trees.children c.index-nodes-i.result.end =
+    c.children.ensures
+    ∙ ap (λ (t : trees.TreeNode Leaf). trees.children t.end) c.node.view_is in
+    let behind =
+    subst (λ (n : ℕ). drop c.past-end.result ts ≡ trees.skip n (drop (c.back.i - 1 + 1) ts))
+    count c.past-end.ensures.behind in
     record {
       within = omega arith;
       same = length-set c.back.ends.items (c.back.i - 1) c.past-end.result ∙ c.back.invariant.same;
-      are = ends_more ts c.back.ends.items (c.back.i - 1) c.past-end.result c.index-nodes-i.result lt
+      are =
+          ends_more ts c.back.ends.items (c.back.i - 1) c.past-end.result c.index-nodes-i.result lt
           c.back.invariant.same
           (node_ahead ts (c.back.i - 1) c.index-nodes-i.result lt c.index-nodes-i.is)
           (subst (λ (n : ℕ). AreEnds ts c.back.ends.items n) k c.back.invariant.are)
-          (subst (λ (n : ℕ). drop c.past-end.result ts ≡ trees.skip (trees.children c.index-nodes-i.result.end) (drop n ts)) k1 behind)
+          (subst
+          (λ (n : ℕ). drop c.past-end.result ts
+          ≡ trees.skip (trees.children c.index-nodes-i.result.end) (drop n ts)) k1 behind)
           c.past-end.ensures.within (omega (arith, c.past-end.ensures.later));
     }

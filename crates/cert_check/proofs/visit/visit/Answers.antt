@@ -18,12 +18,20 @@ returns c =
     let t = c.args.item.now in
     let steps = map step_of c.steps-steps.result.now in
     let steps_is = c.steps-steps.ensures ∙ ap (λ (u : TreeNode Leaf). u.steps) c.item.view_is in
-    let possible = subst (λ (h : Shape). StepsPass h n steps) c.graph.ensures.same c.in-Some.ensures.possible in
-    let leads = subst (λ (h : Shape). m ≡ after_all h n steps) c.graph.ensures.same c.in-Some.ensures.leads in
+    let possible =
+    subst (λ (h : Shape). StepsPass h n steps) c.graph.ensures.same
+    c.in-Some.ensures.possible in
+    let leads =
+    subst (λ (h : Shape). m ≡ after_all h n steps) c.graph.ensures.same
+    c.in-Some.ensures.leads in
     let end_is = ap (λ (u : TreeNode Leaf). u.end) c.item.view_is in
     record {
-      visited = node_visited g n m t steps steps_is possible leads (leaf_passes c.args.judge.now) (rest_of c.args.behind.now)
-          (stack_of c.args.stack.now.items) (stack_of c.visit_end.new.stack.items) (end_of c.item.inside.end) end_is c.in_ok-visit_end.ensures.passes c.in_ok-visit_end.ensures.children;
+      visited =
+          node_visited g n m t steps steps_is possible leads (leaf_passes c.args.judge.now)
+          (rest_of c.args.behind.now)
+          (stack_of c.args.stack.now.items) (stack_of c.visit_end.new.stack.items)
+          (end_of c.item.inside.end) end_is c.in_ok-visit_end.ensures.passes
+          c.in_ok-visit_end.ensures.children;
       reached = reached g n m t steps steps_is possible leads;
       halts = tt;
     }
@@ -37,12 +45,18 @@ returns-in_err-visit_end c =
     let t = c.args.item.now in
     let steps = map step_of c.steps-steps.result.now in
     let steps_is = c.steps-steps.ensures ∙ ap (λ (u : TreeNode Leaf). u.steps) c.item.view_is in
-    let possible = subst (λ (h : Shape). StepsPass h n steps) c.graph.ensures.same c.in-Some.ensures.possible in
-    let leads = subst (λ (h : Shape). m ≡ after_all h n steps) c.graph.ensures.same c.in-Some.ensures.leads in
+    let possible =
+    subst (λ (h : Shape). StepsPass h n steps) c.graph.ensures.same
+    c.in-Some.ensures.possible in
+    let leads =
+    subst (λ (h : Shape). m ≡ after_all h n steps) c.graph.ensures.same
+    c.in-Some.ensures.leads in
     let end_is = ap (λ (u : TreeNode Leaf). u.end) c.item.view_is in
     rw (e.1, e.2) (record {
       visited = tt;
       reached = tt;
-      halts = node_halts g n m t steps steps_is possible leads (leaf_fails c.args.judge.now) (rest_of c.args.behind.now)
+      halts =
+          node_halts g n m t steps steps_is possible leads (leaf_fails c.args.judge.now)
+          (rest_of c.args.behind.now)
           (end_of c.item.inside.end) end_is _ c.in_err-visit_end.ensures.halts;
     })

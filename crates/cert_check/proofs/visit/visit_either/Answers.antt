@@ -17,5 +17,7 @@ returns-clause-stack c =
     ∙ (stack_top c.push.new.self.items c.with_unit.result
     ∙ (ap (λ (m : rules.Node). m ∷ stack_of c.push.new.self.items) (c.with_unit.ensures g)
     ∙ (ap (λ (ns : List Node). inside ∷ stack_of ns) c.in-Ok-push.ensures.items
-    ∙ (ap (λ (ms : List rules.Node). inside ∷ ms) (stack_top c.args.stack.now.items c.without_unit.result)
-    ∙ ap (λ (m : rules.Node). inside ∷ m ∷ stack_of c.args.stack.now.items) (c.without_unit.ensures g)))))
+    ∙ (ap (λ (ms : List rules.Node). inside ∷ ms)
+    (stack_top c.args.stack.now.items c.without_unit.result)
+    ∙ ap (λ (m : rules.Node). inside ∷ m ∷ stack_of c.args.stack.now.items)
+    (c.without_unit.ensures g)))))

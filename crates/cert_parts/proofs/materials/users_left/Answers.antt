@@ -4,4 +4,6 @@ use Rattle.cert_parts.proofs.SetLemmas.{left_is}
 use Rattle.cert_parts.proofs.materials.users_left.Goals as goal
 
 pub returns : goal.returns
-returns c = left_is c.minus.result c.consumers.result c.args.node.now.outside (λ (u : ℕ). (shape c.args.graph.now).uses u c.args.x) c.minus.ensures c.consumers.ensures
+returns c =
+    left_is c.minus.result c.consumers.result c.args.node.now.outside
+    (λ (u : ℕ). (shape c.args.graph.now).uses u c.args.x) c.minus.ensures c.consumers.ensures

@@ -21,11 +21,31 @@ returns-in_default-feasible-clause-fails c = λ partial.
     let s = has c.args.units in
     let fits = c.ranges.d in
     let z = beside c.args.units c.args.sizes.now in
-    let structure : IsStructure (shape_of p) s = subst (λ (g : Shape). IsStructure g s) shapes (c.judge.ensures.meets.0 c.in-Meets.is) in
-    let allowed : IsAllowed (shape_of p) s = subst (λ (g : Shape). IsAllowed g s) shapes c.in_default-clash.ensures in
-    let w : Network = record { units = c.args.units; sizes = c.args.sizes.now; d = c.args.d; cost = c.args.cost } in
-    subst (λ (q : Problem). ClaimFails partial q (network w) causes.Sum) c.problem-problem.ensures.same
-    (inr (structure, inr (allowed, inl (refl, (λ r. not_both (feasible_steps (net_of p) s z c.args.d) c.in_default-feasible.field-0.at r c.in_default-feasible.ensures.past)))))
+    let structure : IsStructure (shape_of p) s =
+    subst (λ (g : Shape). IsStructure g s) shapes (c.judge.ensures.meets.0 c.in-Meets.is) in
+    let allowed : IsAllowed (shape_of p) s =
+    subst (λ (g : Shape). IsAllowed g s) shapes c.in_default-clash.ensures in
+    let w : Network =
+    record {
+      units = c.args.units;
+      sizes = c.args.sizes.now;
+      d = c.args.d;
+      cost =
+          c.args.cost;
+    } in
+    subst (λ (q : Problem). ClaimFails partial q (network w) causes.Sum)
+    c.problem-problem.ensures.same
+    (inr (
+      structure,
+      inr (
+        allowed,
+        inl (
+          refl,
+          (λ r. not_both (feasible_steps (net_of p) s z c.args.d) c.in_default-feasible.field-0.at r
+              c.in_default-feasible.ensures.past),
+        ),
+      ),
+    ))
 
 pub returns-then-not-holds-clause-fails : goal.returns-then-not-holds-clause-fails
 returns-then-not-holds-clause-fails c = λ partial.
@@ -34,11 +54,34 @@ returns-then-not-holds-clause-fails c = λ partial.
     let s = has c.args.units in
     let fits = c.ranges.d in
     let z = beside c.args.units c.args.sizes.now in
-    let structure : IsStructure (shape_of p) s = subst (λ (g : Shape). IsStructure g s) shapes (c.judge.ensures.meets.0 c.in-Meets.is) in
-    let allowed : IsAllowed (shape_of p) s = subst (λ (g : Shape). IsAllowed g s) shapes c.in_default-clash.ensures in
-    let w : Network = record { units = c.args.units; sizes = c.args.sizes.now; d = c.args.d; cost = c.args.cost } in
-    subst (λ (q : Problem). ClaimFails partial q (network w) causes.Flows) c.problem-problem.ensures.same
-    (inr (structure, inr (allowed, inr (c.in-Ok.ensures.in_range, inl (refl, (λ f. both_ways c.in-Ok.holds c.if-not-holds.true ((simp to_z-of_z at c.in-Ok.ensures.value).1 f)))))))
+    let structure : IsStructure (shape_of p) s =
+    subst (λ (g : Shape). IsStructure g s) shapes (c.judge.ensures.meets.0 c.in-Meets.is) in
+    let allowed : IsAllowed (shape_of p) s =
+    subst (λ (g : Shape). IsAllowed g s) shapes c.in_default-clash.ensures in
+    let w : Network =
+    record {
+      units = c.args.units;
+      sizes = c.args.sizes.now;
+      d = c.args.d;
+      cost =
+          c.args.cost;
+    } in
+    subst (λ (q : Problem). ClaimFails partial q (network w) causes.Flows)
+    c.problem-problem.ensures.same
+    (inr (
+      structure,
+      inr (
+        allowed,
+        inr (
+          c.in-Ok.ensures.in_range,
+          inl (
+            refl,
+            (λ f. both_ways c.in-Ok.holds c.if-not-holds.true
+                ((simp to_z-of_z at c.in-Ok.ensures.value).1 f)),
+          ),
+        ),
+      ),
+    ))
 
 pub returns-in_default-cost_of-clause-fails : goal.returns-in_default-cost_of-clause-fails
 returns-in_default-cost_of-clause-fails c = λ partial.
@@ -47,10 +90,20 @@ returns-in_default-cost_of-clause-fails c = λ partial.
     let s = has c.args.units in
     let fits = c.ranges.d in
     let z = beside c.args.units c.args.sizes.now in
-    let structure : IsStructure (shape_of p) s = subst (λ (g : Shape). IsStructure g s) shapes (c.judge.ensures.meets.0 c.in-Meets.is) in
-    let allowed : IsAllowed (shape_of p) s = subst (λ (g : Shape). IsAllowed g s) shapes c.in_default-clash.ensures in
-    let w : Network = record { units = c.args.units; sizes = c.args.sizes.now; d = c.args.d; cost = c.args.cost } in
-    subst (λ (q : Problem). ClaimFails partial q (network w) causes.Sum) c.problem-problem.ensures.same
+    let structure : IsStructure (shape_of p) s =
+    subst (λ (g : Shape). IsStructure g s) shapes (c.judge.ensures.meets.0 c.in-Meets.is) in
+    let allowed : IsAllowed (shape_of p) s =
+    subst (λ (g : Shape). IsAllowed g s) shapes c.in_default-clash.ensures in
+    let w : Network =
+    record {
+      units = c.args.units;
+      sizes = c.args.sizes.now;
+      d = c.args.d;
+      cost =
+          c.args.cost;
+    } in
+    subst (λ (q : Problem). ClaimFails partial q (network w) causes.Sum)
+    c.problem-problem.ensures.same
     (inr (
       structure,
       inr (
@@ -59,7 +112,11 @@ returns-in_default-cost_of-clause-fails c = λ partial.
           c.in-Ok.ensures.in_range,
           inr (
             (simp to_z-of_z at c.in-Ok.ensures.value).0 c.if-not-holds.false,
-            inl (refl, (λ r. not_both (cost_steps (net_of p) s z c.args.d) c.in_default-cost_of.field-0.at r (simp to_z-of_z at c.in_default-cost_of.ensures.past))),
+            inl (
+              refl,
+              (λ r. not_both (cost_steps (net_of p) s z c.args.d) c.in_default-cost_of.field-0.at
+                  r (simp to_z-of_z at c.in_default-cost_of.ensures.past)),
+            ),
           ),
         ),
       ),
@@ -71,13 +128,24 @@ returns-then-are_same-clause-passes c =
     let shapes = c.graph-graph.ensures.same ∙ ap shape_of (sym c.problem-problem.ensures.same) in
     let s = has c.args.units in
     let total_fits : SFits w128 c.in-Ok-cost_of.total = search rules in
-    let total : to_z w128 (of_z w128 c.in-Ok-cost_of.total) ≡ c.in-Ok-cost_of.total = to_z-of_z w128 c.in-Ok-cost_of.total total_fits in
-    let claimed : to_z w128 (of_z w128 c.args.cost) ≡ c.args.cost = to_z-of_z w128 c.args.cost c.ranges.cost in
+    let total : to_z w128 (of_z w128 c.in-Ok-cost_of.total) ≡ c.in-Ok-cost_of.total =
+    to_z-of_z w128 c.in-Ok-cost_of.total total_fits in
+    let claimed : to_z w128 (of_z w128 c.args.cost) ≡ c.args.cost =
+    to_z-of_z w128 c.args.cost c.ranges.cost in
     let fits = c.ranges.d in
     let z = beside c.args.units c.args.sizes.now in
-    let structure : IsStructure (shape_of p) s = subst (λ (g : Shape). IsStructure g s) shapes (c.judge.ensures.meets.0 c.in-Meets.is) in
-    let allowed : IsAllowed (shape_of p) s = subst (λ (g : Shape). IsAllowed g s) shapes c.in_default-clash.ensures in
-    let w : Network = record { units = c.args.units; sizes = c.args.sizes.now; d = c.args.d; cost = c.args.cost } in
+    let structure : IsStructure (shape_of p) s =
+    subst (λ (g : Shape). IsStructure g s) shapes (c.judge.ensures.meets.0 c.in-Meets.is) in
+    let allowed : IsAllowed (shape_of p) s =
+    subst (λ (g : Shape). IsAllowed g s) shapes c.in_default-clash.ensures in
+    let w : Network =
+    record {
+      units = c.args.units;
+      sizes = c.args.sizes.now;
+      d = c.args.d;
+      cost =
+          c.args.cost;
+    } in
     subst (λ (q : Problem). IsFeasible q w) c.problem-problem.ensures.same
     (record {
       structure = structure;
@@ -85,7 +153,8 @@ returns-then-are_same-clause-passes c =
       balances = c.in-Ok.ensures.in_range;
       flows = (simp to_z-of_z at c.in-Ok.ensures.value).0 c.if-not-holds.false;
       costs = (simp to_z-of_z at c.in-Ok-cost_of.ensures.in_range);
-      cost_is = sym (simp to_z-of_z at c.in-Ok-cost_of.ensures.value) ∙ (sym total ∙ (c.are_same.ensures.0 c.if-are_same.true ∙ claimed));
+      cost_is = sym (simp to_z-of_z at c.in-Ok-cost_of.ensures.value)
+          ∙ (sym total ∙ (c.are_same.ensures.0 c.if-are_same.true ∙ claimed));
     })
 
 pub returns-else-are_same-clause-fails : goal.returns-else-are_same-clause-fails
@@ -94,14 +163,26 @@ returns-else-are_same-clause-fails c = λ partial.
     let shapes = c.graph-graph.ensures.same ∙ ap shape_of (sym c.problem-problem.ensures.same) in
     let s = has c.args.units in
     let total_fits : SFits w128 c.in-Ok-cost_of.total = search rules in
-    let total : to_z w128 (of_z w128 c.in-Ok-cost_of.total) ≡ c.in-Ok-cost_of.total = to_z-of_z w128 c.in-Ok-cost_of.total total_fits in
-    let claimed : to_z w128 (of_z w128 c.args.cost) ≡ c.args.cost = to_z-of_z w128 c.args.cost c.ranges.cost in
+    let total : to_z w128 (of_z w128 c.in-Ok-cost_of.total) ≡ c.in-Ok-cost_of.total =
+    to_z-of_z w128 c.in-Ok-cost_of.total total_fits in
+    let claimed : to_z w128 (of_z w128 c.args.cost) ≡ c.args.cost =
+    to_z-of_z w128 c.args.cost c.ranges.cost in
     let fits = c.ranges.d in
     let z = beside c.args.units c.args.sizes.now in
-    let structure : IsStructure (shape_of p) s = subst (λ (g : Shape). IsStructure g s) shapes (c.judge.ensures.meets.0 c.in-Meets.is) in
-    let allowed : IsAllowed (shape_of p) s = subst (λ (g : Shape). IsAllowed g s) shapes c.in_default-clash.ensures in
-    let w : Network = record { units = c.args.units; sizes = c.args.sizes.now; d = c.args.d; cost = c.args.cost } in
-    subst (λ (q : Problem). ClaimFails partial q (network w) causes.Cost) c.problem-problem.ensures.same
+    let structure : IsStructure (shape_of p) s =
+    subst (λ (g : Shape). IsStructure g s) shapes (c.judge.ensures.meets.0 c.in-Meets.is) in
+    let allowed : IsAllowed (shape_of p) s =
+    subst (λ (g : Shape). IsAllowed g s) shapes c.in_default-clash.ensures in
+    let w : Network =
+    record {
+      units = c.args.units;
+      sizes = c.args.sizes.now;
+      d = c.args.d;
+      cost =
+          c.args.cost;
+    } in
+    subst (λ (q : Problem). ClaimFails partial q (network w) causes.Cost)
+    c.problem-problem.ensures.same
     (inr (
       structure,
       inr (
@@ -112,7 +193,13 @@ returns-else-are_same-clause-fails c = λ partial.
             (simp to_z-of_z at c.in-Ok.ensures.value).0 c.if-not-holds.false,
             inr (
               (simp to_z-of_z at c.in-Ok-cost_of.ensures.in_range),
-              inl (refl, (λ e. both_ways c.are_same.result c.if-are_same.false (c.are_same.ensures.1 (total ∙ ((simp to_z-of_z at c.in-Ok-cost_of.ensures.value) ∙ (e ∙ sym claimed)))))),
+              inl (
+                refl,
+                (λ e. both_ways c.are_same.result c.if-are_same.false
+                    (c.are_same.ensures.1
+                    (total
+                    ∙ ((simp to_z-of_z at c.in-Ok-cost_of.ensures.value) ∙ (e ∙ sym claimed))))),
+              ),
             ),
           ),
         ),

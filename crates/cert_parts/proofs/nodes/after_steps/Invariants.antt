@@ -5,4 +5,5 @@ use Rattle.cert_parts.proofs.NodeLemmas.{IsOnWay}
 use Rattle.cert_parts.proofs.nodes.after_steps.Given as goal
 
 abbrev pub invariant-steps : goal.invariant-steps
-invariant-steps l = IsOnWay (shape l.graph) (node_of l.node) (node_of l.at) (map step_of l.steps) l.i
+invariant-steps l = IsOnWay (shape l.graph) (node_of l.node) (node_of l.at) (map step_of
+    l.steps) l.i

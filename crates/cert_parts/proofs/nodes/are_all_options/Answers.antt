@@ -5,4 +5,6 @@ use Rattle.cert_parts.proofs.StepLemmas.{needed_known}
 use Rattle.cert_parts.proofs.nodes.are_all_options.Goals as goal
 
 pub options-base-requires : goal.options-base-requires
-options-base-requires c = needed_known (shape c.args.graph.now) (has c.args.node.now.inside) c.args.x c.is_proper.ensures.proper (sym c.is_needed.ensures ∙ c.if-not-is_needed.false)
+options-base-requires c =
+    needed_known (shape c.args.graph.now) (has c.args.node.now.inside) c.args.x
+    c.is_proper.ensures.proper (sym c.is_needed.ensures ∙ c.if-not-is_needed.false)

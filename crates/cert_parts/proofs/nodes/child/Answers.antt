@@ -4,5 +4,6 @@ use Rattle.cert_parts.proofs.nodes.child.Goals as goal
 
 pub returns : goal.returns
 returns c =
-    child_is (shape c.args.graph.now) c.args.node.now c.args.x c.args.option c.producers.result c.minus.result c.union.result c.union-2.result
+    child_is (shape c.args.graph.now) c.args.node.now c.args.x c.args.option c.producers.result
+    c.minus.result c.union.result c.union-2.result
     c.union.ensures c.producers.ensures c.minus.ensures c.union-2.ensures

@@ -8,7 +8,8 @@ pub returns : goal.returns
 returns c =
     let k = alone_is c.args.set c.args.u c.rises.ensures.rising in
     let d = bytes_decides c.args.set c.with.result in
-    let e : c.with.result ≡ c.args.u ∷ [] = c.with.ensures ∙ ap (λ (xs : List ℕ). with_number c.args.u xs) c.empty.ensures in (
+    let e : c.with.result ≡ c.args.u ∷ [] =
+    c.with.ensures ∙ ap (λ (xs : List ℕ). with_number c.args.u xs) c.empty.ensures in (
       (λ h. k.0 (d.0 (sym c.eq.ensures ∙ h) ∙ e)),
       (λ h. c.eq.ensures ∙ d.1 (k.1 h ∙ sym e)),
     )

@@ -13,13 +13,17 @@ returns-in-Some-2 c =
     let n = node_of c.args.node.now in
     let v = c.args.value in
     let s = c.in-Some.scaled in
-    let h : IsBounded p (Some (cost_over v)) n s.d s.ys = rw c.in-Some.is at c.in_ok-scaled.ensures in
-    let network : IsNetworkAt p v c.in-Some-2.network = rw c.in-Some-2.is at c.in_ok-network.ensures.found in
-    let units : c.in-Some-2.network.units ≡ c.args.node.now.inside = rw c.in-Some-2.is at c.in_ok-network.ensures.units in (
+    let h : IsBounded p (Some (cost_over v)) n s.d s.ys =
+    rw c.in-Some.is at c.in_ok-scaled.ensures in
+    let network : IsNetworkAt p v c.in-Some-2.network =
+    rw c.in-Some-2.is at c.in_ok-network.ensures.found in
+    let units : c.in-Some-2.network.units ≡ c.args.node.now.inside =
+    rw c.in-Some-2.is at c.in_ok-network.ensures.units in (
       refl,
       record {
         value = c.requires.value;
-        no_more = no_more_of_same (numerator v *ℤ denominator v) (numerator v *ℤ denominator v) refl;
+        no_more =
+            no_more_of_same (numerator v *ℤ denominator v) (numerator v *ℤ denominator v) refl;
         bounded = h;
       },
       network,

@@ -1,4 +1,5 @@
-use Rattle.std.proofs.Common.{◌≡◌, ◌∙◌, true, List, ℤ, pos, ◌≤ℤ◌, ◌*ℤ◌, Bool, false, not, refl, sym, ap, subst, rules, SFits}
+use Rattle.std.proofs.Common.{◌≡◌, ◌∙◌, true, List, ℤ, pos, ◌≤ℤ◌, ◌*ℤ◌, Bool, false, not, refl, sym}
+use Rattle.std.proofs.Common.{ap, subst, rules, SFits}
 use Rattle.std.specs.Int.{w128}
 use Rattle.std.proofs.lemmas.Int.{to_z-of_z}
 use Rattle.std.specs.Ordering.{int_cmp, is_eq}
@@ -23,18 +24,24 @@ returns-clause-found c =
     let cost = c.in-Some-cost_of_network.cost in
     let zs = c.list.result.now in
     let fits_d : SFits w128 d = search rules in
-    let fits_cost : SFits w128 cost = fits_from_range _ c.in-Some-cost_of_network.ensures.in_range in
+    let fits_cost : SFits w128 cost =
+    fits_from_range _ c.in-Some-cost_of_network.ensures.in_range in
     let listed : c.in_ok-sizes.sizes.items ≡ c.list-2.result.now = search rules in
     let kept : c.in_ok-sizes.sizes.items ≡ zs = listed ∙ c.list-2.ensures ∙ sym c.list.ensures in
     let found = c.of-found.result in
     let top : numerator found ≡ cost = simp to_z-of_z at c.of-found.ensures.numerator in
     let den : denominator found ≡ d = simp to_z-of_z at c.of-found.ensures.denominator in
     let t : c.ne.result ≡ false = search rules in
-    let same : is_eq (int_cmp (numerator found *ℤ denominator v) (numerator v *ℤ denominator found)) ≡ true = not_false _ (sym c.ne.ensures ∙ t) in
-    let equal = equal_from (numerator found *ℤ denominator v) (numerator v *ℤ denominator found) (int_cmp (numerator found *ℤ denominator v) (numerator v *ℤ denominator found)) refl same in
-    let feasible : IsFeasible p (network_of us d cost zs) = simp to_z-of_z at c.in-Some-cost_of_network.ensures.feasible in
+    let same : is_eq (int_cmp (numerator found *ℤ denominator v) (numerator v *ℤ denominator found))
+    ≡ true = not_false _ (sym c.ne.ensures ∙ t) in
+    let equal =
+    equal_from (numerator found *ℤ denominator v) (numerator v *ℤ denominator found)
+    (int_cmp (numerator found *ℤ denominator v) (numerator v *ℤ denominator found)) refl same in
+    let feasible : IsFeasible p (network_of us d cost zs) =
+    simp to_z-of_z at c.in-Some-cost_of_network.ensures.feasible in
     let positive : pos 1 ≤ℤ d = simp to_z-of_z at c.in-Some-cost_of_network.ensures.positive in
-    let of_is : c.of.result ≡ network_of us d cost c.in_ok-sizes.sizes.items = simp to_z-of_z at c.of.ensures in
+    let of_is : c.of.result ≡ network_of us d cost c.in_ok-sizes.sizes.items =
+    simp to_z-of_z at c.of.ensures in
     let whole : IsNetworkAt p v (network_of us d cost zs) = record {
       feasible = feasible;
       positive = positive;

@@ -18,9 +18,12 @@ returns-in-Ok-clause-in_range c =
     let z = beside c.args.node.now.inside c.args.sizes.now in
     let d = c.args.d in
     let fits = c.ranges.d in
-    let steps : AreInRange (cost_steps (net_of p) s z d) = simp (to_z-of_z, c.problem-problem.ensures.same) at c.in-Ok.ensures.in_range in
-    let value : c.in-Ok.cost ≡ cost (net_of p) s z d = simp (to_z-of_z, c.problem-problem.ensures.same) at c.in-Ok.ensures.value in
+    let steps : AreInRange (cost_steps (net_of p) s z d) =
+    simp (to_z-of_z, c.problem-problem.ensures.same) at c.in-Ok.ensures.in_range in
+    let value : c.in-Ok.cost ≡ cost (net_of p) s z d =
+    simp (to_z-of_z, c.problem-problem.ensures.same) at c.in-Ok.ensures.value in
     let range : InRange c.in-Ok.cost =
-    subst InRange (c.sums_are_last.ensures.cost p s z d ∙ sym value) (last_in_range (pos 0) (cost_steps (net_of p) s z d) (search rules) steps) in
+    subst InRange (c.sums_are_last.ensures.cost p s z d ∙ sym value)
+    (last_in_range (pos 0) (cost_steps (net_of p) s z d) (search rules) steps) in
     let fits_cost : SFits w128 c.in-Ok.cost = fits_from_range _ range in
     simp to_z-of_z range

@@ -16,6 +16,10 @@ returns-in-Some c =
     let g = c.args.goal in
     let l = c.in-Some.low in
     let fits = c.ranges.scale in
-    let h : IsBounded p (Some (cost_over l)) n c.args.scale c.args.multipliers.now = simp to_z-of_z at c.in-Some.ensures in
-    λ t. reaches_less p n c.args.scale c.args.multipliers.now (cost_over g) (cost_over l) (over_one g) (over_one l)
-    (le_from (numerator g *ℤ denominator l) (numerator l *ℤ denominator g) (int_cmp (numerator g *ℤ denominator l) (numerator l *ℤ denominator g)) refl (sym c.le.ensures ∙ t)) h
+    let h : IsBounded p (Some (cost_over l)) n c.args.scale c.args.multipliers.now =
+    simp to_z-of_z at c.in-Some.ensures in
+    λ t. reaches_less p n c.args.scale c.args.multipliers.now (cost_over g) (cost_over l)
+    (over_one g) (over_one l)
+    (le_from (numerator g *ℤ denominator l) (numerator l *ℤ denominator g)
+    (int_cmp (numerator g *ℤ denominator l) (numerator l *ℤ denominator g)) refl
+    (sym c.le.ensures ∙ t)) h

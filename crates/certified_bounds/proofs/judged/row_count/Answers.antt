@@ -7,4 +7,7 @@ use Rattle.flow_rules.specs.Relaxed.{stays}
 use Rattle.certified_bounds.proofs.judged.row_count.Goals as goal
 
 pub returns : goal.returns
-returns c = λ p e. c.count.ensures ∙ ap (λ (xs : List ℕ). length xs) (c.sets_of.ensures.rows_are ∙ ap (λ (g : Shape). listed g.materials (mats g (stays (node_of c.args.node.now)))) e)
+returns c = λ p e. c.count.ensures
+    ∙ ap (λ (xs : List ℕ). length xs)
+    (c.sets_of.ensures.rows_are
+    ∙ ap (λ (g : Shape). listed g.materials (mats g (stays (node_of c.args.node.now)))) e)

@@ -13,9 +13,23 @@ returns c =
     let l = c.in-Some.low in
     let ys = c.quick_low.new.proposals in
     let h : IsBounded p (Some (cost_over l.low)) n l.scale ys = c.in-Some.ensures in
-    let same : c.in_ok-bound.bound ≡ record { low = l.low; scaled = record { d = l.scale; ys = ys }; basis = c.in_ok-basis.basis } = c.in_ok-bound.ensures in
-    let whole : IsLowBound p n (record { low = l.low; scaled = record { d = l.scale; ys = ys }; basis = c.in_ok-basis.basis }) = record {
-      under = bounded_under c.relaxed_duality.ensures p n l.scale ys (cost_over l.low) (over_one l.low) h;
+    let same : c.in_ok-bound.bound
+    ≡ record {
+      low = l.low;
+      scaled = record { d = l.scale; ys = ys };
+      basis =
+          c.in_ok-basis.basis;
+    } = c.in_ok-bound.ensures in
+    let whole : IsLowBound p n
+    (record {
+      low = l.low;
+      scaled = record { d = l.scale; ys = ys };
+      basis =
+          c.in_ok-basis.basis;
+    }) = record {
+      under =
+          bounded_under c.relaxed_duality.ensures p n l.scale ys (cost_over l.low) (over_one l.low)
+          h;
       bounded = h;
     } in
     subst (IsLowBound p n) (sym same) whole

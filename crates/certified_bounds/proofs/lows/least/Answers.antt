@@ -15,10 +15,15 @@ returns c =
     let l = c.in-Some.low in
     let ys = c.short_low.new.proposals in
     let h : IsBounded p (Some (cost_over l.low)) n l.scale ys = c.in-Some.ensures in
-    let same : c.in_ok-bound.bound ≡ record { value = v; low = l.low; scaled = record { d = l.scale; ys = ys } } = c.in_ok-bound.ensures in
-    let whole : IsLeastBound p n (record { value = v; low = l.low; scaled = record { d = l.scale; ys = ys } }) = record {
+    let same : c.in_ok-bound.bound
+    ≡ record { value = v; low = l.low; scaled = record { d = l.scale; ys = ys } } =
+    c.in_ok-bound.ensures in
+    let whole : IsLeastBound p n
+    (record { value = v; low = l.low; scaled = record { d = l.scale; ys = ys } }) = record {
       value = c.requires.value;
-      no_more = no_more_than_least c.relaxed_duality.ensures p n l.scale ys (cost_over l.low) (numerator v) (denominator v) (over_one l.low) h c.requires.value;
+      no_more =
+          no_more_than_least c.relaxed_duality.ensures p n l.scale ys (cost_over l.low)
+          (numerator v) (denominator v) (over_one l.low) h c.requires.value;
       bounded = h;
     } in
     (refl, subst (IsLeastBound p n) (sym same) whole)

@@ -8,4 +8,6 @@ use Rattle.certified_bounds.proofs.number_list.shorten_all.Goals as goal
 pub all-preserved : goal.all-preserved
 all-preserved c =
     let f : SFits w128 c.shortened.result = search rules in
-    simp to_z-of_z (All-set InRange c.all.numbers c.all.number-index c.shortened.result c.shortened.ensures c.all.invariant)
+    simp to_z-of_z
+    (All-set InRange c.all.numbers c.all.number-index c.shortened.result c.shortened.ensures
+    c.all.invariant)

@@ -1,4 +1,5 @@
-use Rattle.std.proofs.Common.{◌≡◌, ℕ, arith, ap, refl, not, ◌==◌, List, length, rules, SFits, pos, get_or}
+use Rattle.std.proofs.Common.{◌≡◌, ℕ, arith, ap, refl, not, ◌==◌, List, length, rules, SFits, pos}
+use Rattle.std.proofs.Common.{get_or}
 use Rattle.std.specs.Int.{w128}
 use Rattle.std.proofs.lemmas.Int.{to_z-of_z}
 use Rattle.number_sets.specs.Sets.{kept}
@@ -6,7 +7,8 @@ use Rattle.number_sets.proofs.SetLemmas.{length_below}
 use Rattle.flow_program.specs.Entry.{entry}
 use Rattle.charges.specs.Bends.{as_owed, knee_at}
 use Rattle.charges.proofs.KneeLemmas.{first_counts}
-use Rattle.charges.proofs.BendLemmas.{bent_room, knee_past, knee_counts, none_counts, is_none, is_more}
+use Rattle.charges.proofs.BendLemmas.{bent_room, knee_past, knee_counts, none_counts, is_none}
+use Rattle.charges.proofs.BendLemmas.{is_more}
 use Rattle.charges.proofs.bending.bent.Goals as goal
 use Rattle.charges.proofs.bending.bent.Goals.{then-counts+in-Ok, else-counts}
 

@@ -1,4 +1,5 @@
-use Rattle.std.proofs.Common.{◌≡◌, ◌<◌, ◌∙◌, sym, ap, subst, SFits, rules, ℕ, List, length, true, pos}
+use Rattle.std.proofs.Common.{◌≡◌, ◌<◌, ◌∙◌, sym, ap, subst, SFits, rules, ℕ, List, length, true}
+use Rattle.std.proofs.Common.{pos}
 use Rattle.std.specs.Int.{w128}
 use Rattle.std.proofs.lemmas.Int.{to_z-of_z}
 use Rattle.integer_laws.specs.Total.{total}
@@ -16,7 +17,8 @@ use Rattle.flow_program.specs.NodeSets.{AreNeeded, AreSetsOf}
 use Rattle.flow_program.proofs.NodeSetLemmas.{listed_had}
 use Rattle.charges.specs.Known.{facts_of}
 use Rattle.charges.specs.Sets.{covers_of}
-use Rattle.charges.proofs.SumLemmas.{past_in_rows, past_in_weights, past_in_paid, past_in_units, all_fit, charge_is}
+use Rattle.charges.proofs.SumLemmas.{past_in_rows, past_in_weights, past_in_paid, past_in_units}
+use Rattle.charges.proofs.SumLemmas.{all_fit, charge_is}
 use Rattle.charges.proofs.charge.charge_of.Goals as goal
 
 pub sets_of-sets-requires : goal.sets_of-sets-requires

@@ -1,4 +1,5 @@
-use Rattle.std.proofs.Common.{◌≡◌, ◌+◌, ◌-◌, ◌<◌, ◌*ℤ◌, ◌∙◌, sym, ap, subst, SFits, rules, get_or, pos, to_z, ℕ, List, length, arith}
+use Rattle.std.proofs.Common.{◌≡◌, ◌+◌, ◌-◌, ◌<◌, ◌*ℤ◌, ◌∙◌, sym, ap, subst, SFits, rules, get_or}
+use Rattle.std.proofs.Common.{pos, to_z, ℕ, List, length, arith}
 use Rattle.std.specs.Int.{w128}
 use Rattle.std.proofs.lemmas.Int.{to_z-of_z}
 use Rattle.number_sets.specs.Sets.{has, IsSet, IsWithin}
@@ -17,7 +18,9 @@ use Rattle.flow_program.proofs.WalkLemmas.{next_of, IsNext, has_next, rest_withi
 use Rattle.charges.specs.declared.unit.Terms.{Terms}
 use Rattle.charges.specs.Known.{facts_of}
 use Rattle.charges.specs.Bends.{knees_in}
-use Rattle.charges.proofs.GroundLemmas.{IsChargeSum, knees_are, column_past, column_fits, column_long, column_adds, charge_sum_begins, charge_unit_past, charge_sum_more, charge_sum_ends}
+use Rattle.charges.proofs.GroundLemmas.{IsChargeSum, knees_are, column_past, column_fits}
+use Rattle.charges.proofs.GroundLemmas.{column_long, column_adds, charge_sum_begins}
+use Rattle.charges.proofs.GroundLemmas.{charge_unit_past, charge_sum_more, charge_sum_ends}
 use Rattle.charges.proofs.charge.with_units.Goals as goal
 
 pub put_rates-materials-requires-clause-unit : goal.put_rates-materials-requires-clause-unit

@@ -1,4 +1,5 @@
-use Rattle.std.proofs.Common.{◌∙◌, ◌<◌, ◌+ℤ◌, ap, refl, SFits, rules, get_or, pos, map, length, cond, Bool}
+use Rattle.std.proofs.Common.{◌∙◌, ◌<◌, ◌+ℤ◌, ap, refl, SFits, rules, get_or, pos, map, length}
+use Rattle.std.proofs.Common.{cond, Bool}
 use Rattle.std.specs.Int.{w128}
 use Rattle.std.proofs.lemmas.Int.{to_z-of_z}
 use Rattle.flow_rules.proofs.LeadingLemmas.{IsFirstPast-left}

@@ -6,7 +6,8 @@ use Rattle.flow_program.specs.Entry.{entry}
 use Rattle.charge_rules.specs.ChargeSteps.{sum_steps}
 use Rattle.charges.specs.Bends.{as_owed, knees_in}
 use Rattle.charges.specs.Columns.{owed_in, owed_steps, bent_steps, charge_in}
-use Rattle.charges.proofs.ColumnLemmas.{bent_past, part_past, column_fit, column_count, column_value}
+use Rattle.charges.proofs.ColumnLemmas.{bent_past, part_past, column_fit, column_count}
+use Rattle.charges.proofs.ColumnLemmas.{column_value}
 use Rattle.charges.proofs.unit.with_unit.Goals as goal
 
 pub returns-in-Err-clause-past : goal.returns-in-Err-clause-past

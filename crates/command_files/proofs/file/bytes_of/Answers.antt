@@ -13,10 +13,12 @@ returns-in-Err-ReadFault-clause-told g c =
     let old = g.F.Shelf.state c.args.shelf.now in
     let new = g.F.Shelf.state c.read_all.new.shelf in
     let name = c.args.name.now in
-    let Q : Status → List ℕ → Type 0 = Says (LongFile old.held name c.args.limit) (λ other. other ≡ name) old new in
+    let Q : Status → List ℕ → Type 0 =
+    Says (LongFile old.held name c.args.limit) (λ other. other ≡ name) old new in
     Ends-map _ Q c.args.out.now _ _
     (only_or_memory_in Q ReadFault (line (codes "read fault " ++ name))
-    (name, refl, (rw c.in-Err-ReadFault.field-0-is at c.in-Err-ReadFault.ensures.fault) refl, refl) ([], inl refl, refl))
+    (name, refl, (rw c.in-Err-ReadFault.field-0-is at c.in-Err-ReadFault.ensures.fault) refl, refl)
+    ([], inl refl, refl))
     c.tell_with.ensures
 
 pub returns-in-Err-TooLong-clause-told : goal.returns-in-Err-TooLong-clause-told
@@ -24,11 +26,17 @@ returns-in-Err-TooLong-clause-told g c =
     let old = g.F.Shelf.state c.args.shelf.now in
     let new = g.F.Shelf.state c.read_all.new.shelf in
     let name = c.args.name.now in
-    let Q : Status → List ℕ → Type 0 = Says (LongFile old.held name c.args.limit) (λ other. other ≡ name) old new in
-    let long = long_file (old.held name) c.args.limit ((rw c.in-Err-TooLong.field-0-is at c.in-Err-TooLong.ensures.too_long) refl) in
+    let Q : Status → List ℕ → Type 0 =
+    Says (LongFile old.held name c.args.limit) (λ other. other ≡ name) old new in
+    let long =
+    long_file (old.held name) c.args.limit
+    ((rw c.in-Err-TooLong.field-0-is at c.in-Err-TooLong.ensures.too_long) refl) in
     Ends-map _ Q c.args.out.now _ _
-    (only_or_memory_in Q TooLong (line (codes "too long " ++ name))
-    ((codes "too long " ++ name) ∷ [], (refl, (long.0, long.1, (long.2, refl))), one_line (codes "too long " ++ name)) ([], inl refl, refl))
+    (only_or_memory_in Q TooLong (line (codes "too long " ++ name)) (
+      (codes "too long " ++ name) ∷ [],
+      (refl, (long.0, long.1, (long.2, refl))),
+      one_line (codes "too long " ++ name),
+    ) ([], inl refl, refl))
     c.tell_with-in-Err-TooLong.ensures
 
 pub returns-in-Err-Memory-clause-told : goal.returns-in-Err-Memory-clause-told
@@ -36,5 +44,7 @@ returns-in-Err-Memory-clause-told g c =
     let old = g.F.Shelf.state c.args.shelf.now in
     let new = g.F.Shelf.state c.read_all.new.shelf in
     let name = c.args.name.now in
-    let Q : Status → List ℕ → Type 0 = Says (LongFile old.held name c.args.limit) (λ other. other ≡ name) old new in
-    Ends-map _ Q c.args.out.now _ _ (only_in Q Memory (line (codes "memory")) ([], inl refl, refl)) c.say_memory.ensures
+    let Q : Status → List ℕ → Type 0 =
+    Says (LongFile old.held name c.args.limit) (λ other. other ≡ name) old new in
+    Ends-map _ Q c.args.out.now _ _ (only_in Q Memory (line (codes "memory")) ([], inl refl, refl))
+    c.say_memory.ensures

@@ -15,8 +15,11 @@ returns-in-Err-clause-told g c =
     let new = g.F.Shelf.state c.bytes_of.new.shelf in
     let name = c.args.name.now in
     let p = c.args.problem.now in
-    let Q : Status → List ℕ → Type 0 = Says (PlanFaults old.held name p) (λ other. other ≡ name) old new in
-    Ends-map _ Q c.args.out.now _ _ (long-faults (PlanFileFault name p) old new name 4194304 (λ file lines h. h)) c.in-Err.ensures.told
+    let Q : Status → List ℕ → Type 0 =
+    Says (PlanFaults old.held name p) (λ other. other ≡ name) old new in
+    Ends-map _ Q c.args.out.now _ _
+    (long-faults (PlanFileFault name p) old new name 4194304 (λ file lines h. h))
+    c.in-Err.ensures.told
 
 pub returns-in-Err-At-clause-told : goal.returns-in-Err-At-clause-told
 returns-in-Err-At-clause-told g c =
@@ -24,13 +27,20 @@ returns-in-Err-At-clause-told g c =
     let new = g.F.Shelf.state c.bytes_of.new.shelf in
     let name = c.args.name.now in
     let p = c.args.problem.now in
-    let Q : Status → List ℕ → Type 0 = Says (PlanFaults old.held name p) (λ other. other ≡ name) old new in
-    let told : read_plan c.args.problem.now c.in-Ok.bytes.items ≡ Err (c.in-Err-At.line, c.in-Err-At.kind) =
-    ap (read_plan c.args.problem.now) (sym c.deref.ensures.value) ∙ (rw c.in-Err-At.field-0-is at c.in-Err-At.ensures.fault) in
+    let Q : Status → List ℕ → Type 0 =
+    Says (PlanFaults old.held name p) (λ other. other ≡ name) old new in
+    let told : read_plan c.args.problem.now c.in-Ok.bytes.items
+    ≡ Err (c.in-Err-At.line, c.in-Err-At.kind) =
+    ap (read_plan c.args.problem.now) (sym c.deref.ensures.value)
+    ∙ (rw c.in-Err-At.field-0-is at c.in-Err-At.ensures.fault) in
     Ends-from _ Q c.args.out.now _ _ _ c.in-Ok.ensures.silent
     (only_or_memory_in Q BadPlan (line (plan_fault_line c.in-Err-At.line c.in-Err-At.kind)) (
       plan_fault_line c.in-Err-At.line c.in-Err-At.kind ∷ [],
-      (c.in-Ok.bytes.items, c.in-Ok.ensures.whole, (c.in-Ok.ensures.within, (c.in-Err-At.line, c.in-Err-At.kind, told, refl))),
+      (
+        c.in-Ok.bytes.items,
+        c.in-Ok.ensures.whole,
+        (c.in-Ok.ensures.within, (c.in-Err-At.line, c.in-Err-At.kind, told, refl)),
+      ),
       one_line (plan_fault_line c.in-Err-At.line c.in-Err-At.kind),
     ) ([], inl refl, refl))
     c.say_plan_fault.ensures
@@ -41,5 +51,7 @@ returns-clause-told g c =
     let new = g.F.Shelf.state c.bytes_of.new.shelf in
     let name = c.args.name.now in
     let p = c.args.problem.now in
-    let Q : Status → List ℕ → Type 0 = Says (PlanFaults old.held name p) (λ other. other ≡ name) old new in
-    Ends-from _ Q c.args.out.now _ _ _ c.in-Ok.ensures.silent (only_in Q Memory (line (codes "memory")) ([], inl refl, refl)) c.say_memory.ensures
+    let Q : Status → List ℕ → Type 0 =
+    Says (PlanFaults old.held name p) (λ other. other ≡ name) old new in
+    Ends-from _ Q c.args.out.now _ _ _ c.in-Ok.ensures.silent
+    (only_in Q Memory (line (codes "memory")) ([], inl refl, refl)) c.say_memory.ensures

@@ -7,7 +7,12 @@ use Rattle.endings.proofs.Ending.{Ends-map}
 use Rattle.command_files.proofs.plan_file.say_plan_fault.Goals as goal
 
 pub returns-in-Ok : goal.returns-in-Ok
-returns-in-Ok g c = Ends-map (Only BadPlan c.as_bytes.result.now) (OrMemory (Only BadPlan (line (plan_fault_line c.args.number c.args.kind)))) c.args.out.now _ _ (λ s t p. inl (p.0, p.1 ∙ c.as_bytes.ensures.value ∙ c.in-Ok.ensures)) c.tell.ensures
+returns-in-Ok g c =
+    Ends-map (Only BadPlan c.as_bytes.result.now)
+    (OrMemory (Only BadPlan (line (plan_fault_line c.args.number c.args.kind)))) c.args.out.now _ _
+    (λ s t p. inl (p.0, p.1 ∙ c.as_bytes.ensures.value ∙ c.in-Ok.ensures)) c.tell.ensures
 
 pub returns : goal.returns
-returns g c = Ends-map _ (OrMemory (Only BadPlan (line (plan_fault_line c.args.number c.args.kind)))) c.args.out.now _ _ (λ s t p. inr p) c.say_memory.ensures
+returns g c =
+    Ends-map _ (OrMemory (Only BadPlan (line (plan_fault_line c.args.number c.args.kind))))
+    c.args.out.now _ _ (λ s t p. inr p) c.say_memory.ensures

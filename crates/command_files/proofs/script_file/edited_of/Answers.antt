@@ -14,8 +14,11 @@ returns-in-Err-clause-told g c =
     let new = g.F.Shelf.state c.bytes_of.new.shelf in
     let name = c.args.name.now in
     let p = c.args.problem.now in
-    let Q : Status → List ℕ → Type 0 = Says (ScriptFaults old.held name p) (λ other. other ≡ name) old new in
-    Ends-map _ Q c.args.out.now _ _ (long-faults (ScriptFault name p) old new name 4194304 (λ file lines h. h)) c.in-Err.ensures.told
+    let Q : Status → List ℕ → Type 0 =
+    Says (ScriptFaults old.held name p) (λ other. other ≡ name) old new in
+    Ends-map _ Q c.args.out.now _ _
+    (long-faults (ScriptFault name p) old new name 4194304 (λ file lines h. h))
+    c.in-Err.ensures.told
 
 pub returns-in-Err-At-clause-told : goal.returns-in-Err-At-clause-told
 returns-in-Err-At-clause-told g c =
@@ -23,13 +26,19 @@ returns-in-Err-At-clause-told g c =
     let new = g.F.Shelf.state c.bytes_of.new.shelf in
     let name = c.args.name.now in
     let p = c.args.problem.now in
-    let Q : Status → List ℕ → Type 0 = Says (ScriptFaults old.held name p) (λ other. other ≡ name) old new in
+    let Q : Status → List ℕ → Type 0 =
+    Says (ScriptFaults old.held name p) (λ other. other ≡ name) old new in
     let told : HasEditFault p c.in-Ok.bytes.items c.in-Err-At.line c.in-Err-At.kind =
-    subst (λ (text : List ℕ). HasEditFault p text c.in-Err-At.line c.in-Err-At.kind) c.deref.ensures.value (rw c.in-Err-At.field-0-is at c.in-Err-At.ensures.fault) in
+    subst (λ (text : List ℕ). HasEditFault p text c.in-Err-At.line c.in-Err-At.kind)
+    c.deref.ensures.value (rw c.in-Err-At.field-0-is at c.in-Err-At.ensures.fault) in
     Ends-from _ Q c.args.out.now _ _ _ c.in-Ok.ensures.silent
     (only_or_memory_in Q BadEdit (line (edit_fault_line c.in-Err-At.line c.in-Err-At.kind)) (
       edit_fault_line c.in-Err-At.line c.in-Err-At.kind ∷ [],
-      (c.in-Ok.bytes.items, c.in-Ok.ensures.whole, (c.in-Ok.ensures.within, (c.in-Err-At.line, c.in-Err-At.kind, told, refl))),
+      (
+        c.in-Ok.bytes.items,
+        c.in-Ok.ensures.whole,
+        (c.in-Ok.ensures.within, (c.in-Err-At.line, c.in-Err-At.kind, told, refl)),
+      ),
       one_line (edit_fault_line c.in-Err-At.line c.in-Err-At.kind),
     ) ([], inl refl, refl))
     c.say_edit_fault.ensures
@@ -40,5 +49,7 @@ returns-clause-told g c =
     let new = g.F.Shelf.state c.bytes_of.new.shelf in
     let name = c.args.name.now in
     let p = c.args.problem.now in
-    let Q : Status → List ℕ → Type 0 = Says (ScriptFaults old.held name p) (λ other. other ≡ name) old new in
-    Ends-from _ Q c.args.out.now _ _ _ c.in-Ok.ensures.silent (only_in Q Memory (line (codes "memory")) ([], inl refl, refl)) c.say_memory.ensures
+    let Q : Status → List ℕ → Type 0 =
+    Says (ScriptFaults old.held name p) (λ other. other ≡ name) old new in
+    Ends-from _ Q c.args.out.now _ _ _ c.in-Ok.ensures.silent
+    (only_in Q Memory (line (codes "memory")) ([], inl refl, refl)) c.say_memory.ensures

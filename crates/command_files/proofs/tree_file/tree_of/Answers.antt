@@ -16,8 +16,11 @@ returns-in-Err-clause-told g c =
     let new = g.F.Shelf.state c.bytes_of.new.shelf in
     let name = c.args.name.now in
     let p = c.args.problem.now in
-    let Q : Status → List ℕ → Type 0 = Says (TreeFaults old.held name p) (λ other. other ≡ name) old new in
-    Ends-map _ Q c.args.out.now _ _ (long-faults (TreeFault name p) old new name 268435456 (λ file lines h. h)) c.in-Err.ensures.told
+    let Q : Status → List ℕ → Type 0 =
+    Says (TreeFaults old.held name p) (λ other. other ≡ name) old new in
+    Ends-map _ Q c.args.out.now _ _
+    (long-faults (TreeFault name p) old new name 268435456 (λ file lines h. h))
+    c.in-Err.ensures.told
 
 pub returns-in-Err-At-clause-told : goal.returns-in-Err-At-clause-told
 returns-in-Err-At-clause-told g c =
@@ -25,13 +28,19 @@ returns-in-Err-At-clause-told g c =
     let new = g.F.Shelf.state c.bytes_of.new.shelf in
     let name = c.args.name.now in
     let p = c.args.problem.now in
-    let Q : Status → List ℕ → Type 0 = Says (TreeFaults old.held name p) (λ other. other ≡ name) old new in
+    let Q : Status → List ℕ → Type 0 =
+    Says (TreeFaults old.held name p) (λ other. other ≡ name) old new in
     let told : read_text p c.in-Ok.bytes.items ≡ Err (c.in-Err-At.line, c.in-Err-At.kind) =
-    ap (read_text p) (sym c.deref.ensures.value) ∙ (rw c.in-Err-At.field-0-is at c.in-Err-At.ensures.fault) in
+    ap (read_text p) (sym c.deref.ensures.value)
+    ∙ (rw c.in-Err-At.field-0-is at c.in-Err-At.ensures.fault) in
     Ends-from _ Q c.args.out.now _ _ _ c.in-Ok.ensures.silent
     (only_or_memory_in Q BadTree (line (tree_fault_line c.in-Err-At.line c.in-Err-At.kind)) (
       tree_fault_line c.in-Err-At.line c.in-Err-At.kind ∷ [],
-      (c.in-Ok.bytes.items, c.in-Ok.ensures.whole, (c.in-Ok.ensures.within, (c.in-Err-At.line, c.in-Err-At.kind, told, refl))),
+      (
+        c.in-Ok.bytes.items,
+        c.in-Ok.ensures.whole,
+        (c.in-Ok.ensures.within, (c.in-Err-At.line, c.in-Err-At.kind, told, refl)),
+      ),
       one_line (tree_fault_line c.in-Err-At.line c.in-Err-At.kind),
     ) ([], inl refl, refl))
     c.say_tree_fault.ensures
@@ -42,7 +51,8 @@ returns-clause-told g c =
     let new = g.F.Shelf.state c.bytes_of.new.shelf in
     let name = c.args.name.now in
     let p = c.args.problem.now in
-    let Q : Status → List ℕ → Type 0 = Says (TreeFaults old.held name p) (λ other. other ≡ name) old new in
+    let Q : Status → List ℕ → Type 0 =
+    Says (TreeFaults old.held name p) (λ other. other ≡ name) old new in
     Ends-from _ Q c.args.out.now _ _ _ c.in-Ok.ensures.silent
     (only_in Q Memory (line (codes "memory")) ([], inl refl, refl)) c.say_memory.ensures
 
@@ -50,6 +60,13 @@ pub returns-in-Ok-read_tree-clause-tree : goal.returns-in-Ok-read_tree-clause-tr
 returns-in-Ok-read_tree-clause-tree g c =
     let p = c.args.problem.now in
     let tail = tail_of c.in-Ok-read_tree.field-0-2 in
-    let read : read_text p c.in-Ok.bytes.items ≡ Ok (record { claim = claim_of c.in-Ok-read_tree.claim; tree = c.in-Ok-read_tree.tree; tail = tail }) =
+    let read : read_text p c.in-Ok.bytes.items
+    ≡ Ok
+    (record {
+      claim = claim_of c.in-Ok-read_tree.claim;
+      tree = c.in-Ok-read_tree.tree;
+      tail =
+          tail;
+    }) =
     ap (read_text p) (sym c.deref.ensures.value) ∙ c.in-Ok-read_tree.ensures.read in
     (c.in-Ok.bytes.items, c.in-Ok.ensures.whole, (c.in-Ok.ensures.within, (tail, read)))

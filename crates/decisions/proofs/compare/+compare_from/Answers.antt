@@ -16,14 +16,17 @@ compare_from-requires t c =
     let turn = c.in-Some.turn in
     let n = turn.position.decided.node in
     let after = c.taking.result.decided.node in
-    let less = fewer_before g n before c.in-Some.ensures.node turn.unit after c.taking.ensures.fewer in
+    let less =
+    fewer_before g n before c.in-Some.ensures.node turn.unit after c.taking.ensures.fewer in
     let measure = c.decreases in (
       omega arith,
       (
         c.taking.ensures.position,
         (
-          within_taken g n before c.in-Some.ensures.node turn.unit after (has c.args.a) c.requires.a c.taking.ensures.node (sym c.has.ensures ∙ c.if-has.true),
-          within_taken g n before c.in-Some.ensures.node turn.unit after (has c.args.b) c.requires.b c.taking.ensures.node (sym c.has-then-has.ensures ∙ c.if-has-2.true),
+          within_taken g n before c.in-Some.ensures.node turn.unit after (has c.args.a) c.requires.a
+              c.taking.ensures.node (sym c.has.ensures ∙ c.if-has.true),
+          within_taken g n before c.in-Some.ensures.node turn.unit after (has c.args.b) c.requires.b
+              c.taking.ensures.node (sym c.has-then-has.ensures ∙ c.if-has-2.true),
         ),
       ),
     )
@@ -35,14 +38,17 @@ compare_from-requires-else-has-3 t c =
     let turn = c.in-Some.turn in
     let n = turn.position.decided.node in
     let after = c.leaving.result.decided.node in
-    let less = fewer_before g n before c.in-Some.ensures.node turn.unit after c.leaving.ensures.fewer in
+    let less =
+    fewer_before g n before c.in-Some.ensures.node turn.unit after c.leaving.ensures.fewer in
     let measure = c.decreases in (
       omega arith,
       (
         c.leaving.ensures.position,
         (
-          within_left g n before c.in-Some.ensures.node turn.unit after (has c.args.a) c.requires.a c.leaving.ensures.node (sym c.has.ensures ∙ c.if-has.false),
-          within_left g n before c.in-Some.ensures.node turn.unit after (has c.args.b) c.requires.b c.leaving.ensures.node (sym c.has-else-has.ensures ∙ c.if-has-3.false),
+          within_left g n before c.in-Some.ensures.node turn.unit after (has c.args.a) c.requires.a
+              c.leaving.ensures.node (sym c.has.ensures ∙ c.if-has.false),
+          within_left g n before c.in-Some.ensures.node turn.unit after (has c.args.b) c.requires.b
+              c.leaving.ensures.node (sym c.has-else-has.ensures ∙ c.if-has-3.false),
         ),
       ),
     )

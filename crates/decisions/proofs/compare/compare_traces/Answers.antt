@@ -9,11 +9,15 @@ use Rattle.decisions.proofs.compare.compare_traces.Goals as goal
 
 pub compare_from-requires-clause-a : goal.compare_from-requires-clause-a
 compare_from-requires-clause-a c =
-    at_start (shape c.args.graph.now) c.start.result.decided.node.inside c.start.result.decided.node.outside c.start.ensures.inside (c.start.ensures.outside ∙ c.empty.ensures) (has c.args.a) c.requires.a
+    at_start (shape c.args.graph.now) c.start.result.decided.node.inside
+    c.start.result.decided.node.outside c.start.ensures.inside
+    (c.start.ensures.outside ∙ c.empty.ensures) (has c.args.a) c.requires.a
 
 pub compare_from-requires-clause-b : goal.compare_from-requires-clause-b
 compare_from-requires-clause-b c =
-    at_start (shape c.args.graph.now) c.start.result.decided.node.inside c.start.result.decided.node.outside c.start.ensures.inside (c.start.ensures.outside ∙ c.empty.ensures) (has c.args.b) c.requires.b
+    at_start (shape c.args.graph.now) c.start.result.decided.node.inside
+    c.start.result.decided.node.outside c.start.ensures.inside
+    (c.start.ensures.outside ∙ c.empty.ensures) (has c.args.b) c.requires.b
 
 pub returns-clause-less : goal.returns-clause-less
 returns-clause-less c =
@@ -21,7 +25,8 @@ returns-clause-less c =
     let a = has c.args.a in
     let b = has c.args.b in (
       c.compare_from.ensures.less,
-      only_less c.compare_from.result (IsBefore g a b) (IsBefore g b a) ((u : ℕ) → a u ≡ b u) c.compare_from.ensures.greater c.compare_from.ensures.equal
+      only_less c.compare_from.result (IsBefore g a b) (IsBefore g b a) ((u : ℕ) → a u ≡ b u)
+          c.compare_from.ensures.greater c.compare_from.ensures.equal
           (λ h k. before_not_after g a b h k) (λ h k. before_apart g a b k h),
     )
 
@@ -31,7 +36,8 @@ returns-clause-greater c =
     let a = has c.args.a in
     let b = has c.args.b in (
       c.compare_from.ensures.greater,
-      only_greater c.compare_from.result (IsBefore g b a) (IsBefore g a b) ((u : ℕ) → a u ≡ b u) c.compare_from.ensures.less c.compare_from.ensures.equal
+      only_greater c.compare_from.result (IsBefore g b a) (IsBefore g a b) ((u : ℕ) → a u ≡ b u)
+          c.compare_from.ensures.less c.compare_from.ensures.equal
           (λ h k. before_not_after g b a h k) (λ h k. before_apart g b a (λ u. sym (k u)) h),
     )
 
@@ -40,7 +46,10 @@ returns-clause-equal c =
     let g = shape c.args.graph.now in
     let a = has c.args.a in
     let b = has c.args.b in (
-      (λ e. same_sets c.args.a c.args.b c.rises.ensures.rising c.rises-2.ensures.rising (c.compare_from.ensures.equal e)),
-      (λ e. only_equal c.compare_from.result ((u : ℕ) → a u ≡ b u) (IsBefore g a b) (IsBefore g b a) c.compare_from.ensures.less c.compare_from.ensures.greater
-          (λ k h. before_apart g a b k h) (λ k h. before_apart g b a (λ u. sym (k u)) h) (λ u. ap (λ xs. has xs u) e)),
+      (λ e. same_sets c.args.a c.args.b c.rises.ensures.rising c.rises-2.ensures.rising
+          (c.compare_from.ensures.equal e)),
+      (λ e. only_equal c.compare_from.result ((u : ℕ) → a u ≡ b u) (IsBefore g a b) (IsBefore g b a)
+          c.compare_from.ensures.less c.compare_from.ensures.greater
+          (λ k h. before_apart g a b k h) (λ k h. before_apart g b a (λ u. sym (k u)) h)
+          (λ u. ap (λ xs. has xs u) e)),
     )

@@ -6,5 +6,6 @@ use Rattle.designs.proofs.folding.run_from.Given as goal
 abbrev pub invariant-taking : goal.invariant-taking
 invariant-taking l = record {
   units : l.units ≡ listed l.i (λ i. has l.network.units (l.first + i));
-  sizes : l.sizes.items ≡ map (λ i. size_in l.network (l.first + i)) (listed l.i (λ i. has l.network.units (l.first + i)));
+  sizes : l.sizes.items ≡ map (λ i. size_in l.network (l.first + i))
+      (listed l.i (λ i. has l.network.units (l.first + i)));
 }

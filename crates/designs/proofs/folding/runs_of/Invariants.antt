@@ -4,4 +4,5 @@ use Rattle.design_rules.specs.Folded.{run_from}
 use Rattle.designs.proofs.folding.runs_of.Given as goal
 
 abbrev pub invariant-running : goal.invariant-running
-invariant-running l = l.runs.items ≡ map (λ t. run_from l.network (l.units + t * l.units + 0) l.units) (range_with_len 0 l.t)
+invariant-running l = l.runs.items ≡ map (λ t. run_from l.network (l.units + t * l.units + 0)
+    l.units) (range_with_len 0 l.t)

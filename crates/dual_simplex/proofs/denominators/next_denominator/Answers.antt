@@ -1,4 +1,5 @@
-use Rattle.std.proofs.Common.{◌≡◌, ◌∙◌, true, false, ap, SFits, ℕ, ℤ, subst, rules, IfSome, IfNone, Some, None}
+use Rattle.std.proofs.Common.{◌≡◌, ◌∙◌, true, false, ap, SFits, ℕ, ℤ, subst, rules, IfSome, IfNone}
+use Rattle.std.proofs.Common.{Some, None}
 use Rattle.std.specs.Int.{w128}
 use Rattle.std.proofs.lemmas.Int.{to_z-of_z}
 use Rattle.int_rows.proofs.RangeLemmas.{fits_from_range}
@@ -26,17 +27,32 @@ returns-clause-found c =
     let b : basis r i ≡ true = search rules in
     let ff : SFits w128 c.entry.result = fits_from_range _ c.entry.ensures.in_range in
     let fg : SFits w128 c.entry-2.result = fits_from_range _ c.entry-2.ensures.in_range in
-    let fo : SFits w128 c.lowest_terms-own.result.1 = fits_from_range _ c.lowest_terms-own.ensures.second_in_range in
-    let at_right : c.entry.result ≡ table r i (columns_of r) = c.entry.ensures.value ∙ ap (λ (k : ℕ). table r i k) c.right_at.ensures in
-    let low : IsLowest c.entry.result c.entry-2.result c.lowest_terms-own.result.0 c.lowest_terms-own.result.1 = simp to_z-of_z at c.lowest_terms-own.ensures.lowest in
-    let low' : IsLowest (table r i (columns_of r)) (table r i i) c.lowest_terms-own.result.0 c.lowest_terms-own.result.1 = subst (λ (x : ℤ). IsLowest x (table r i i) c.lowest_terms-own.result.0 c.lowest_terms-own.result.1) at_right (subst (λ (x : ℤ). IsLowest c.entry.result x c.lowest_terms-own.result.0 c.lowest_terms-own.result.1) c.entry-2.ensures.value low) in
-    let lcm : IfSome c.checked_lcm.result (λ m. IsLcm (unsigned_abs c.args.den) (unsigned_abs c.lowest_terms-own.result.1) (unsigned_abs m)) = simp to_z-of_z at c.checked_lcm.ensures.least in
-    found_next r i c.args.den c.lowest_terms-own.result.0 c.lowest_terms-own.result.1 c.checked_lcm.result c.requires.unit b (c.requires.own i c.requires.unit b) low' lcm c.checked_lcm.ensures.positive
+    let fo : SFits w128 c.lowest_terms-own.result.1 =
+    fits_from_range _ c.lowest_terms-own.ensures.second_in_range in
+    let at_right : c.entry.result ≡ table r i (columns_of r) =
+    c.entry.ensures.value ∙ ap (λ (k : ℕ). table r i k) c.right_at.ensures in
+    let low : IsLowest c.entry.result c.entry-2.result c.lowest_terms-own.result.0
+    c.lowest_terms-own.result.1 = simp to_z-of_z at c.lowest_terms-own.ensures.lowest in
+    let low' : IsLowest (table r i (columns_of r)) (table r i i) c.lowest_terms-own.result.0
+    c.lowest_terms-own.result.1 =
+    subst
+    (λ (x : ℤ). IsLowest x (table r i i) c.lowest_terms-own.result.0
+    c.lowest_terms-own.result.1) at_right
+    (subst
+    (λ (x : ℤ). IsLowest c.entry.result x c.lowest_terms-own.result.0
+    c.lowest_terms-own.result.1) c.entry-2.ensures.value low) in
+    let lcm : IfSome c.checked_lcm.result
+    (λ m. IsLcm (unsigned_abs c.args.den) (unsigned_abs c.lowest_terms-own.result.1)
+    (unsigned_abs m)) = simp to_z-of_z at c.checked_lcm.ensures.least in
+    found_next r i c.args.den c.lowest_terms-own.result.0 c.lowest_terms-own.result.1
+    c.checked_lcm.result c.requires.unit b (c.requires.own i c.requires.unit b) low' lcm
+    c.checked_lcm.ensures.positive
 
 pub returns-clause-basic : goal.returns-clause-basic
 returns-clause-basic c =
     let b : basis c.args.rows.now c.args.unit ≡ true = search rules in
-    elim c.checked_lcm.result as (λ o. IfNone o (basis c.args.rows.now c.args.unit ≡ true)) [ None ↦ b | Some x ↦ tt ]
+    elim c.checked_lcm.result as (λ o. IfNone o (basis c.args.rows.now c.args.unit ≡ true))
+    [ None ↦ b | Some x ↦ tt ]
 
 pub returns-clause-past : goal.returns-clause-past
 returns-clause-past c =
@@ -46,9 +62,23 @@ returns-clause-past c =
     let b : basis r i ≡ true = search rules in
     let ff : SFits w128 c.entry.result = fits_from_range _ c.entry.ensures.in_range in
     let fg : SFits w128 c.entry-2.result = fits_from_range _ c.entry-2.ensures.in_range in
-    let fo : SFits w128 c.lowest_terms-own.result.1 = fits_from_range _ c.lowest_terms-own.ensures.second_in_range in
-    let at_right : c.entry.result ≡ table r i (columns_of r) = c.entry.ensures.value ∙ ap (λ (k : ℕ). table r i k) c.right_at.ensures in
-    let low : IsLowest c.entry.result c.entry-2.result c.lowest_terms-own.result.0 c.lowest_terms-own.result.1 = simp to_z-of_z at c.lowest_terms-own.ensures.lowest in
-    let low' : IsLowest (table r i (columns_of r)) (table r i i) c.lowest_terms-own.result.0 c.lowest_terms-own.result.1 = subst (λ (x : ℤ). IsLowest x (table r i i) c.lowest_terms-own.result.0 c.lowest_terms-own.result.1) at_right (subst (λ (x : ℤ). IsLowest c.entry.result x c.lowest_terms-own.result.0 c.lowest_terms-own.result.1) c.entry-2.ensures.value low) in
-    let past : IfNone c.checked_lcm.result ((m : ℤ) → IsLcm (unsigned_abs c.args.den) (unsigned_abs c.lowest_terms-own.result.1) (unsigned_abs m) → ¬ InRange m) = simp to_z-of_z at c.checked_lcm.ensures.past in
-    missed_next r i c.args.den c.lowest_terms-own.result.0 c.lowest_terms-own.result.1 c.checked_lcm.result c.requires.unit b (c.requires.own i c.requires.unit b) low' past
+    let fo : SFits w128 c.lowest_terms-own.result.1 =
+    fits_from_range _ c.lowest_terms-own.ensures.second_in_range in
+    let at_right : c.entry.result ≡ table r i (columns_of r) =
+    c.entry.ensures.value ∙ ap (λ (k : ℕ). table r i k) c.right_at.ensures in
+    let low : IsLowest c.entry.result c.entry-2.result c.lowest_terms-own.result.0
+    c.lowest_terms-own.result.1 = simp to_z-of_z at c.lowest_terms-own.ensures.lowest in
+    let low' : IsLowest (table r i (columns_of r)) (table r i i) c.lowest_terms-own.result.0
+    c.lowest_terms-own.result.1 =
+    subst
+    (λ (x : ℤ). IsLowest x (table r i i) c.lowest_terms-own.result.0
+    c.lowest_terms-own.result.1) at_right
+    (subst
+    (λ (x : ℤ). IsLowest c.entry.result x c.lowest_terms-own.result.0
+    c.lowest_terms-own.result.1) c.entry-2.ensures.value low) in
+    let past : IfNone c.checked_lcm.result
+    ((m : ℤ)
+    → IsLcm (unsigned_abs c.args.den) (unsigned_abs c.lowest_terms-own.result.1)
+    (unsigned_abs m) → ¬ InRange m) = simp to_z-of_z at c.checked_lcm.ensures.past in
+    missed_next r i c.args.den c.lowest_terms-own.result.0 c.lowest_terms-own.result.1
+    c.checked_lcm.result c.requires.unit b (c.requires.own i c.requires.unit b) low' past

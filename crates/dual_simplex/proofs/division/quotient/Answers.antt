@@ -6,5 +6,7 @@ use Rattle.dual_simplex.proofs.division.quotient.Goals as goal
 
 pub returns-clause-exact : goal.returns-clause-exact
 returns-clause-exact c =
-    ap (λ (z : ℤ). c.args.divisor *ℤ z) (quot_is w128 c.args.number c.args.divisor c.ranges.number c.ranges.divisor (quot_fits w128 c.args.number c.args.divisor c.ranges.number c.requires.positive))
+    ap (λ (z : ℤ). c.args.divisor *ℤ z)
+    (quot_is w128 c.args.number c.args.divisor c.ranges.number c.ranges.divisor
+    (quot_fits w128 c.args.number c.args.divisor c.ranges.number c.requires.positive))
     ∙ quotient_exact c.args.number c.args.divisor c.requires.positive c.requires.divides

@@ -8,7 +8,9 @@ pub loop-j-preserved : goal.loop-j-preserved
 loop-j-preserved c =
     let f : SFits w128 c.multiplier.result = search rules in
     let h : c.loop-j.j < length c.loop-j.ys = omega arith in
-    simp to_z-of_z (put_more c.args.rows.now c.args.c c.loop-j.ys c.loop-j.j c.multiplier.result h c.multiplier.ensures.value c.multiplier.ensures.in_range c.loop-j.invariant)
+    simp to_z-of_z
+    (put_more c.args.rows.now c.args.c c.loop-j.ys c.loop-j.j c.multiplier.result h
+    c.multiplier.ensures.value c.multiplier.ensures.in_range c.loop-j.invariant)
 
 pub returns-clause-in_range : goal.returns-clause-in_range
 returns-clause-in_range c =

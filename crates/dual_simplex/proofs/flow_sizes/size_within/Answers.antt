@@ -9,12 +9,15 @@ use Rattle.dual_simplex.proofs.SizeLemmas.{never_past}
 use Rattle.dual_simplex.proofs.flow_sizes.size_within.Goals as goal
 
 pub checked_size-requires-clause-den : goal.checked_size-requires-clause-den
-checked_size-requires-clause-den c = λ p v. let f = c.ranges.den in simp to_z-of_z (c.requires.den p v)
+checked_size-requires-clause-den c = λ p v. let f =
+    c.ranges.den in simp to_z-of_z (c.requires.den p v)
 
 pub unreachable-requires : goal.unreachable-requires
 unreachable-requires c =
-    let v = reading_of (linear_of c.args.program.now) c.args.rows.now c.requires.size c.requires.own in
-    never_past v c.args.unit (record { unit = c.args.unit; step = step_of c.in-Err.field-0 }) c.requires.unit (c.requires.sizes v) (c.in-Err.ensures.past v)
+    let v =
+    reading_of (linear_of c.args.program.now) c.args.rows.now c.requires.size c.requires.own in
+    never_past v c.args.unit (record { unit = c.args.unit; step = step_of c.in-Err.field-0 })
+    c.requires.unit (c.requires.sizes v) (c.in-Err.ensures.past v)
 
 pub returns-clause-size : goal.returns-clause-size
 returns-clause-size c = λ v.

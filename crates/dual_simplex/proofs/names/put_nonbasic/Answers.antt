@@ -16,6 +16,9 @@ loop-k-preserved c =
       size = put.length ∙ inv.size;
       few = omega (arith, few, count);
       are = put.columns
-          ∙ ap (λ (xs : List Column). xs ++ cond (basis c.args.rows.now c.loop-k.k) [] (column_named c.args.program.now c.loop-k.k ∷ [])) inv.are
+          ∙ ap
+          (λ (xs : List Column). xs
+          ++ cond (basis c.args.rows.now c.loop-k.k) []
+          (column_named c.args.program.now c.loop-k.k ∷ [])) inv.are
           ∙ sym (outside_more (column_named c.args.program.now) (basis c.args.rows.now) c.loop-k.k);
     }

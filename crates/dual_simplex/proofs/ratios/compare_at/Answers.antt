@@ -20,9 +20,20 @@ returns-then-is_basic c =
     let fa : SFits w128 c.args.left.size = fits_from_range _ c.args.left.in_range in
     let fb : SFits w128 c.args.right.size = fits_from_range _ c.args.right.in_range in
     let fl : SFits w128 c.entry.result = fits_from_range _ c.entry.ensures.in_range in
-    let fr : SFits w128 c.entry-then-is_basic.result = fits_from_range _ c.entry-then-is_basic.ensures.in_range in
-    let e : c.compare_ratios-then-is_basic.result ≡ int_cmp (c.args.right.size *ℤ x) (c.args.left.size *ℤ y) = simp to_z-of_z at c.compare_ratios-then-is_basic.ensures in
+    let fr : SFits w128 c.entry-then-is_basic.result =
+    fits_from_range _ c.entry-then-is_basic.ensures.in_range in
+    let e : c.compare_ratios-then-is_basic.result
+    ≡ int_cmp (c.args.right.size *ℤ x) (c.args.left.size *ℤ y) =
+    simp to_z-of_z at c.compare_ratios-then-is_basic.ensures in
     let b : basis r k ≡ true = sym c.is_basic.ensures ∙ c.if-is_basic.true in
-    let vx : x ≡ vector r c.args.left.column c.args.place = (simp to_z-of_z at c.negated-x.ensures.value) ∙ (ap neg_ℤ c.entry.ensures.value ∙ vector_basic r c.args.left.column k c.args.place q b) in
-    let vy : y ≡ vector r c.args.right.column c.args.place = (simp to_z-of_z at c.negated-y.ensures.value) ∙ (ap neg_ℤ c.entry-then-is_basic.ensures.value ∙ vector_basic r c.args.right.column k c.args.place q b) in
-    e ∙ (ap (λ (z : ℤ). int_cmp (c.args.right.size *ℤ z) (c.args.left.size *ℤ y)) vx ∙ ap (λ (z : ℤ). int_cmp (c.args.right.size *ℤ vector r c.args.left.column c.args.place) (c.args.left.size *ℤ z)) vy)
+    let vx : x ≡ vector r c.args.left.column c.args.place =
+    (simp to_z-of_z at c.negated-x.ensures.value)
+    ∙ (ap neg_ℤ c.entry.ensures.value ∙ vector_basic r c.args.left.column k c.args.place q b) in
+    let vy : y ≡ vector r c.args.right.column c.args.place =
+    (simp to_z-of_z at c.negated-y.ensures.value)
+    ∙ (ap neg_ℤ c.entry-then-is_basic.ensures.value
+    ∙ vector_basic r c.args.right.column k c.args.place q b) in
+    e ∙ (ap (λ (z : ℤ). int_cmp (c.args.right.size *ℤ z) (c.args.left.size *ℤ y)) vx
+    ∙ ap
+    (λ (z : ℤ). int_cmp (c.args.right.size *ℤ vector r c.args.left.column c.args.place)
+    (c.args.left.size *ℤ z)) vy)

@@ -14,6 +14,8 @@ returns c =
     let l = c.of-left.result in
     let r = c.of-right.result in
     let left : IsLowest c.args.x c.args.a l.num l.den = simp to_z-of_z at c.of-left.ensures.value in
-    let right : IsLowest c.args.y c.args.b r.num r.den = simp to_z-of_z at c.of-right.ensures.value in
+    let right : IsLowest c.args.y c.args.b r.num r.den =
+    simp to_z-of_z at c.of-right.ensures.value in
     let e : c.cmp.result ≡ int_cmp (l.num *ℤ r.den) (r.num *ℤ l.den) = c.cmp.ensures in
-    e ∙ compared_lowest c.args.x c.args.a c.args.y c.args.b l.num l.den r.num r.den c.requires.a_positive c.requires.b_positive left right
+    e ∙ compared_lowest c.args.x c.args.a c.args.y c.args.b l.num l.den r.num r.den
+    c.requires.a_positive c.requires.b_positive left right

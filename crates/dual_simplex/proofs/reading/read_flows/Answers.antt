@@ -26,7 +26,9 @@ returns-in-Err-check_sizes-clause-past c =
     let v = reading_of p r c.requires.size c.requires.own in
     let e = c.in-Err-check_sizes.past in
     past_flow v (record { unit = e.unit; step = step_of e.which })
-    (formed_out (formed_of v) (rounds p (basis r)) (second_round r) (record { unit = e.unit; step = step_of e.which }) (c.in-Ok.ensures.formed p v) (c.in-Err-check_sizes.ensures.past v))
+    (formed_out (formed_of v) (rounds p (basis r)) (second_round r)
+    (record { unit = e.unit; step = step_of e.which }) (c.in-Ok.ensures.formed p v)
+    (c.in-Err-check_sizes.ensures.past v))
 
 pub check_sizes-requires-clause-den : goal.check_sizes-requires-clause-den
 check_sizes-requires-clause-den c = λ p v.
@@ -45,4 +47,6 @@ returns-clause-read c =
     let v = reading_of p r c.requires.size c.requires.own in
     let f : SFits w128 c.in-Ok.den = fits_from_range _ c.in-Ok.ensures.in_range in
     let len : length c.put_sizes.new.flows ≡ r.units = search rules in
-    simp to_z-of_z (are_read v c.put_sizes.new.flows c.in-Ok.den len (c.in-Ok.ensures.formed p v) (c.in_default.ensures.in_range v) (c.put_sizes.ensures.sizes v) (c.in-Ok.ensures.last p v))
+    simp to_z-of_z
+    (are_read v c.put_sizes.new.flows c.in-Ok.den len (c.in-Ok.ensures.formed p v)
+    (c.in_default.ensures.in_range v) (c.put_sizes.ensures.sizes v) (c.in-Ok.ensures.last p v))

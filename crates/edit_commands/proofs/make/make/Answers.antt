@@ -13,5 +13,6 @@ pub returns : goal.returns
 returns g c =
     let lines : List (List ℕ) = canonical_lines (generated c.args.number c.args.units) in
     let Q : Status → List ℕ → Type 0 = Tells (MakeWork c.args.number c.args.units) in
-    Ends-map _ Q c.args.out.now _ _ (only_or_memory_in Q Done (text_of lines) (lines, (refl, refl), refl) ([], inl refl, refl))
+    Ends-map _ Q c.args.out.now _ _
+    (only_or_memory_in Q Done (text_of lines) (lines, (refl, refl), refl) ([], inl refl, refl))
     (c.say_made.ensures lines c.made_text.ensures)

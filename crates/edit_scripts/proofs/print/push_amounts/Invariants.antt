@@ -4,4 +4,6 @@ use Rattle.edit_scripts.specs.Printing.{appended}
 use Rattle.edit_scripts.proofs.print.push_amounts.Given as goal
 
 abbrev pub invariant-printing : goal.invariant-printing
-invariant-printing l = appended (string_bytes l.text) (map amount_bytes (drop l.amount-index l.amounts)) ≡ appended (string_bytes l.fn.text) (map amount_bytes l.amounts)
+invariant-printing l = appended (string_bytes l.text) (map amount_bytes
+    (drop l.amount-index l.amounts))
+    ≡ appended (string_bytes l.fn.text) (map amount_bytes l.amounts)

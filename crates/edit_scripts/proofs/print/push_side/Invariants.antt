@@ -4,4 +4,5 @@ use Rattle.edit_scripts.specs.Printing.{appended, further_terms}
 use Rattle.edit_scripts.proofs.print.push_side.Given as goal
 
 abbrev pub invariant-printing : goal.invariant-printing
-invariant-printing l = appended (string_bytes l.text) (further_terms (drop l.term-index l.rest)) ≡ appended (string_bytes l.fn.text) (side_tokens l.terms)
+invariant-printing l = appended (string_bytes l.text) (further_terms
+    (drop l.term-index l.rest)) ≡ appended (string_bytes l.fn.text) (side_tokens l.terms)

@@ -3,7 +3,7 @@ use Rattle.script_rules.specs.Read.{lines_read}
 use Rattle.edit_scripts.specs.Walk.{read_on}
 use Rattle.edit_scripts.proofs.read.walk_rest.Given as goal
 
--- what is to come finishes it
+-- the lines that remain complete the script
 abbrev pub invariant-reading : goal.invariant-reading
 invariant-reading l = read_on l.walk l.lines.number l.lines.lines ≡ lines_read l.fn.lines.number l.fn.lines.lines
 

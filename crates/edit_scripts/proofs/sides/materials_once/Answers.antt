@@ -8,10 +8,15 @@ pub listing-init : goal.listing-init
 listing-init c = ap texts c.new-names.ensures.items
 
 pub returns-in_err-push : goal.returns-in_err-push
-returns-in_err-push c = let e = err_from_is_err_and c.from_residual.result c.from_residual.ensures.1 in rw e.1 tt
+returns-in_err-push c = let e =
+    err_from_is_err_and c.from_residual.result c.from_residual.ensures.1 in rw e.1 tt
 
 pub listing-preserved : goal.listing-preserved
-listing-preserved c = listed c.args.terms.now c.listing.term-index _ c.listing.names.items c.push.new.self.items c.listing-test.true c.listing.invariant c.in_ok-push.ensures.items
+listing-preserved c =
+    listed c.args.terms.now c.listing.term-index _ c.listing.names.items c.push.new.self.items
+    c.listing-test.true c.listing.invariant c.in_ok-push.ensures.items
 
 pub returns : goal.returns
-returns c = rw (← all_listed c.args.terms.now c.listing.term-index c.listing.names.items c.deref.result.now c.listing-test.false c.deref.ensures.value c.listing.invariant) c.once.ensures
+returns c =
+    rw (← all_listed c.args.terms.now c.listing.term-index c.listing.names.items c.deref.result.now
+    c.listing-test.false c.deref.ensures.value c.listing.invariant) c.once.ensures

@@ -6,4 +6,6 @@ use Rattle.script_rules.specs.Term.{materials_of}
 use Rattle.edit_scripts.proofs.sides.some_among.Given as goal
 
 abbrev pub invariant-looking : goal.invariant-looking
-invariant-looking l = list_any (is_among l.names) (materials_of (terms_view (drop l.term-index l.terms))) ≡ list_any (is_among l.names) (materials_of (terms_view l.terms))
+invariant-looking l = list_any (is_among l.names) (materials_of
+    (terms_view (drop l.term-index l.terms)))
+    ≡ list_any (is_among l.names) (materials_of (terms_view l.terms))

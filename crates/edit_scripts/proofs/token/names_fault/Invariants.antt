@@ -4,4 +4,5 @@ use Rattle.script_rules.specs.Fault.{lesser, names_fault}
 use Rattle.edit_scripts.proofs.token.names_fault.Given as goal
 
 abbrev pub invariant-looking : goal.invariant-looking
-invariant-looking l = lesser l.found (names_fault (texts (drop l.token-index l.tokens))) ≡ names_fault (texts l.tokens)
+invariant-looking l = lesser l.found (names_fault
+    (texts (drop l.token-index l.tokens))) ≡ names_fault (texts l.tokens)

@@ -8,5 +8,6 @@ use Rattle.endings.proofs.line.push_material_names.Given as goal
 abbrev pub invariant-loop-x : goal.invariant-loop-x
 invariant-loop-x l = record {
   is_set : IsSet 256 l.x-iterator;
-  line : l.bytes.items ++ spaced_names (names_in (has l.x-iterator) 0 (material_names l.materials)) ≡ l.fn.bytes.items ++ spaced_names (names_in (has l.fn.set) 0 (material_names l.materials));
+  line : l.bytes.items ++ spaced_names (names_in (has l.x-iterator) 0 (material_names l.materials))
+      ≡ l.fn.bytes.items ++ spaced_names (names_in (has l.fn.set) 0 (material_names l.materials));
 }

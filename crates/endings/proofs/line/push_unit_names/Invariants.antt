@@ -8,5 +8,6 @@ use Rattle.endings.proofs.line.push_unit_names.Given as goal
 abbrev pub invariant-loop-u : goal.invariant-loop-u
 invariant-loop-u l = record {
   is_set : IsSet 128 l.u-iterator;
-  line : l.bytes.items ++ spaced_names (names_in (has l.u-iterator) 0 (unit_names l.units)) ≡ l.fn.bytes.items ++ spaced_names (names_in (has l.fn.set) 0 (unit_names l.units));
+  line : l.bytes.items ++ spaced_names (names_in (has l.u-iterator) 0 (unit_names l.units))
+      ≡ l.fn.bytes.items ++ spaced_names (names_in (has l.fn.set) 0 (unit_names l.units));
 }

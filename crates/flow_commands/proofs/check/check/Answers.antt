@@ -17,12 +17,23 @@ returns-in-Ok g c =
     let new = g.F.Shelf.state c.say_tree.new.shelf in
     let file = c.args.file.now in
     let tree = c.args.tree.now in
-    let P : Status → List ℕ → Type 0 = Says (OnTree CheckWork mid.held tree c.in-Ok.problem) (λ other. other ≡ tree) mid new in
+    let P : Status → List ℕ → Type 0 =
+    Says (OnTree CheckWork mid.held tree c.in-Ok.problem) (λ other. other ≡ tree) mid new in
     let Q : Status → List ℕ → Type 0 = TwoFilesSay (OnTree CheckWork) file tree old new in
     let ends =
     Ends-from P Q c.args.out.now _ c.say_tree.new.out _ c.in-Ok.ensures.silent
-    (on_both-work (TreeSays CheckWork tree) file tree old mid new c.in-Ok.problem c.in-Ok.ensures.problem (c.problem_of.ensures.keeps.held tree) c.problem_of.ensures.keeps.later) c.say_tree.ensures.ends in
-    record { ends = ends; keeps = keeps_through _ _ _ c.in-Ok.ensures.keeps c.say_tree.ensures.keeps; accepted = done_ends c.accepted_is_best.ensures old new file tree c.args.out.now c.say_tree.new.out _ ends }
+    (on_both-work (TreeSays CheckWork tree) file tree old mid new c.in-Ok.problem
+    c.in-Ok.ensures.problem (c.problem_of.ensures.keeps.held tree)
+    c.problem_of.ensures.keeps.later) c.say_tree.ensures.ends in
+    record {
+      ends = ends;
+      keeps =
+          keeps_through _ _ _ c.in-Ok.ensures.keeps c.say_tree.ensures.keeps;
+      accepted =
+          done_ends c.accepted_is_best.ensures old new file tree c.args.out.now c.say_tree.new.out
+          _
+          ends;
+    }
 
 pub returns-in-Err : goal.returns-in-Err
 returns-in-Err g c =
@@ -31,5 +42,14 @@ returns-in-Err g c =
     let file = c.args.file.now in
     let tree = c.args.tree.now in
     let Q : Status → List ℕ → Type 0 = TwoFilesSay (OnTree CheckWork) file tree old new in
-    let ends = Ends-map _ Q c.args.out.now c.problem_of.new.out _ (on_both-faults (TreeSays CheckWork tree) file tree old new) c.in-Err.ensures.told in
-    record { ends = ends; keeps = c.in-Err.ensures.keeps; accepted = done_ends c.accepted_is_best.ensures old new file tree c.args.out.now c.problem_of.new.out _ ends }
+    let ends =
+    Ends-map _ Q c.args.out.now c.problem_of.new.out _
+    (on_both-faults (TreeSays CheckWork tree) file tree old new) c.in-Err.ensures.told in
+    record {
+      ends = ends;
+      keeps = c.in-Err.ensures.keeps;
+      accepted =
+          done_ends c.accepted_is_best.ensures old new file tree c.args.out.now
+          c.problem_of.new.out _
+          ends;
+    }

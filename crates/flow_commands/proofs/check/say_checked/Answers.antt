@@ -7,4 +7,7 @@ use Rattle.flow_commands.proofs.check.say_checked.Goals as goal
 
 pub returns : goal.returns
 returns g c =
-    subst (λ (p : Problem). Ends (Tells (CheckWork p (claim_of c.args.claim.now) c.args.tree.now)) c.args.out.now c.say_judged.new.out c.say_judged.result) c.of-site.ensures c.say_judged.ensures
+    subst
+    (λ (p : Problem). Ends (Tells (CheckWork p (claim_of c.args.claim.now) c.args.tree.now))
+    c.args.out.now c.say_judged.new.out c.say_judged.result) c.of-site.ensures
+    c.say_judged.ensures

@@ -13,26 +13,32 @@ use Rattle.flow_commands.proofs.check.say_judged.Goals as goal
 
 pub returns-in-Err-Claim : goal.returns-in-Err-Claim
 returns-in-Err-Claim g c =
-    let Q : Status → List ℕ → Type 0 = Tells (CheckWork c.args.site.now (claim_of c.args.claim.now) c.args.tree.now) in
+    let Q : Status → List ℕ → Type 0 =
+    Tells (CheckWork c.args.site.now (claim_of c.args.claim.now) c.args.tree.now) in
     let p = c.args.site.now in
     let claim = claim_of c.args.claim.now in
-    let fails : ClaimFails false p claim c.in-Err-Claim.why = (rw c.in-Err-Claim.field-0-is at c.in-Err-Claim.ensures.refused) in
+    let fails : ClaimFails false p claim c.in-Err-Claim.why =
+    (rw c.in-Err-Claim.field-0-is at c.in-Err-Claim.ensures.refused) in
     let told : List ℕ = claim_line c.in-Err-Claim.why in
     Ends-map _ Q c.args.out.now _ _
     (only_or_memory_in Q Refused (line (codes "refused claim " ++ c.why_word.result.now)) (
       told ∷ [],
       inl (c.in-Err-Claim.why, fails, refl),
-      ap (λ (word : List ℕ). line (codes "refused claim " ++ word)) c.why_word.ensures ∙ one_line told,
+      ap (λ (word : List ℕ). line (codes "refused claim " ++ word)) c.why_word.ensures
+          ∙ one_line told,
     )
     ([], inl refl, refl))
     c.say_of.ensures
 
 pub returns-in-Err-Node : goal.returns-in-Err-Node
 returns-in-Err-Node g c =
-    let Q : Status → List ℕ → Type 0 = Tells (CheckWork c.args.site.now (claim_of c.args.claim.now) c.args.tree.now) in
+    let Q : Status → List ℕ → Type 0 =
+    Tells (CheckWork c.args.site.now (claim_of c.args.claim.now) c.args.tree.now) in
     let p = c.args.site.now in
     let claim = claim_of c.args.claim.now in
-    let refuses : ClaimPasses false p claim × NodeIsFault false p first_node claim c.args.tree.now c.in-Err-Node.node c.in-Err-Node.why = (rw c.in-Err-Node.field-0-is at c.in-Err-Node.ensures.refused) in
+    let refuses : ClaimPasses false p claim
+    × NodeIsFault false p first_node claim c.args.tree.now c.in-Err-Node.node
+    c.in-Err-Node.why = (rw c.in-Err-Node.field-0-is at c.in-Err-Node.ensures.refused) in
     let told : List ℕ = node_line c.in-Err-Node.node c.in-Err-Node.why in
     Ends-map _ Q c.args.out.now _ _
     (only_or_memory_in Q Refused (line told) (
@@ -45,12 +51,16 @@ returns-in-Err-Node g c =
 
 pub returns-in-Ok : goal.returns-in-Ok
 returns-in-Ok g c =
-    let Q : Status → List ℕ → Type 0 = Tells (CheckWork c.args.site.now (claim_of c.args.claim.now) c.args.tree.now) in
+    let Q : Status → List ℕ → Type 0 =
+    Tells (CheckWork c.args.site.now (claim_of c.args.claim.now) c.args.tree.now) in
     Ends-map _ Q c.args.out.now _ _
-    (only_in Q Done (line (codes "accepted")) (codes "accepted" ∷ [], (c.in-Ok.ensures.accepted, refl), one_line (codes "accepted")))
+    (only_in Q Done (line (codes "accepted"))
+    (codes "accepted" ∷ [], (c.in-Ok.ensures.accepted, refl), one_line (codes "accepted")))
     c.say.ensures
 
 pub returns-in-Err-Memory : goal.returns-in-Err-Memory
 returns-in-Err-Memory g c =
-    let Q : Status → List ℕ → Type 0 = Tells (CheckWork c.args.site.now (claim_of c.args.claim.now) c.args.tree.now) in
-    Ends-map _ Q c.args.out.now _ _ (only_in Q Memory (line (codes "memory")) ([], inl refl, refl)) c.say_memory.ensures
+    let Q : Status → List ℕ → Type 0 =
+    Tells (CheckWork c.args.site.now (claim_of c.args.claim.now) c.args.tree.now) in
+    Ends-map _ Q c.args.out.now _ _ (only_in Q Memory (line (codes "memory")) ([], inl refl, refl))
+    c.say_memory.ensures

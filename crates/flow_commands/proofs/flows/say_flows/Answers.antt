@@ -16,8 +16,12 @@ returns-in-Some g c =
     let Q : Status → List ℕ → Type 0 = Tells (FlowsWork names p) in
     let told : List ℕ = breaks_line S3 c.in-Some.name.now in
     Ends-map _ Q c.args.out.now _ _
-    (only_or_memory_in Q Refused (line told)
-    (told ∷ [], subst (λ (o : Option (List ℕ)). FlowNamesSay names p o Refused (told ∷ [])) c.in-Some.ensures (refl, refl), one_line told)
+    (only_or_memory_in Q Refused (line told) (
+      told ∷ [],
+      subst (λ (o : Option (List ℕ)). FlowNamesSay names p o Refused (told ∷ []))
+          c.in-Some.ensures (refl, refl),
+      one_line told,
+    )
     ([], inl refl, refl))
     c.say_breaks.ensures
 
@@ -27,5 +31,7 @@ returns-in-None g c =
     let names = c.args.units.now in
     let Q : Status → List ℕ → Type 0 = Tells (FlowsWork names p) in
     Ends-map _ Q c.args.out.now _ _
-    (Tells-map _ (FlowsWork names p) (λ s lines h. subst (λ (o : Option (List ℕ)). FlowNamesSay names p o s lines) c.in-None.ensures h))
+    (Tells-map _ (FlowsWork names p)
+    (λ s lines h. subst (λ (o : Option (List ℕ)). FlowNamesSay names p o s lines)
+    c.in-None.ensures h))
     c.say_known.ensures

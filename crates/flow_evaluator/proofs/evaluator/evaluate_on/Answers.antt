@@ -17,26 +17,34 @@ least-requires c =
     let p = c.args.site.now in
     let n = node_of c.args.node.now in
     let made : c.in_ok-program.program ≡ program_of (net_of p) n =
-    subst (λ (r : Problem). c.in_ok-program.program ≡ program_of (net_of r) n) c.problem.ensures.same c.in_ok-program.ensures in
+    subst (λ (r : Problem). c.in_ok-program.program ≡ program_of (net_of r) n)
+    c.problem.ensures.same c.in_ok-program.ensures in
     let b = c.args.bench.now in
-    let few_units : length (units (net_of p) n) ≤ length p.units = length_listed (length p.units) (stays n) in
-    let few_rows : length (rows (net_of p) n) ≤ length p.materials = length_listed (length p.materials) (mats (net_of p).graph (stays n)) in
+    let few_units : length (units (net_of p) n) ≤ length p.units =
+    length_listed (length p.units) (stays n) in
+    let few_rows : length (rows (net_of p) n) ≤ length p.materials =
+    length_listed (length p.materials) (mats (net_of p).graph (stays n)) in
     let own : HasRoom b (length (units (net_of p) n)) (length (rows (net_of p) n)) = record {
       units_fit = omega (arith, few_units, c.requires.room.units_fit);
       rows_fit = omega (arith, few_rows, c.requires.room.rows_fit);
     } in
-    record { fits = subst (λ (q : Program). HasRoom b (length q.units) (length q.rows)) (sym made) own }
+    record {
+      fits =
+          subst (λ (q : Program). HasRoom b (length q.units) (length q.rows)) (sym made) own;
+    }
 
 pub returns-clause-evaluated : goal.returns-clause-evaluated
 returns-clause-evaluated c =
     let p = c.args.site.now in
     let n = node_of c.args.node.now in
     let made : c.in_ok-program.program ≡ program_of (net_of p) n =
-    subst (λ (r : Problem). c.in_ok-program.program ≡ program_of (net_of r) n) c.problem.ensures.same c.in_ok-program.ensures in
+    subst (λ (r : Problem). c.in_ok-program.program ≡ program_of (net_of r) n)
+    c.problem.ensures.same c.in_ok-program.ensures in
     let b = c.least.new.self in
     let own = program_of (net_of p) n in
     let place = c.in-Err.place in
-    let at : IsPastOf own b place = subst (λ (r : Program). IsPastOf r b place) made c.in-Err.ensures.past in
+    let at : IsPastOf own b place =
+    subst (λ (r : Program). IsPastOf r b place) made c.in-Err.ensures.past in
     let past : IsPastAt p n b.nonbasic place = record {
       past = c.entry_is_past.ensures (net_of p) n own b place refl at;
       columns = kept_known p n b c.names_are_of_program.ensures.nonbasic at.nonbasic_are;

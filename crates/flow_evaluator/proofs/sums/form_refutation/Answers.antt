@@ -20,10 +20,16 @@ returns-in-Err-clause-past c =
     let own = program_of (net_of p) n in
     let at = c.in-Err.past.at in
     let first : IsFirstPast (bound_steps (net_of p) n (pos 0) (multiplier p n b.ys)) at =
-    subst (λ (ys : List ℤ). IsFirstPast (bound_steps (net_of p) n (pos 0) (multiplier p n ys)) at) c.ys.ensures (subst (λ (r : Problem). IsFirstPast (bound_steps (net_of r) n (pos 0) (multiplier r n c.ys.result.now)) at) c.problem-problem.ensures.same c.in-Err.ensures.past) in
+    subst (λ (ys : List ℤ). IsFirstPast (bound_steps (net_of p) n (pos 0) (multiplier p n ys)) at)
+    c.ys.ensures
+    (subst
+    (λ (r : Problem). IsFirstPast
+    (bound_steps (net_of r) n (pos 0) (multiplier r n c.ys.result.now)) at)
+    c.problem-problem.ensures.same c.in-Err.ensures.past) in
     let whole : IsPastAt p n b.nonbasic (Refute b.row at) = record {
       past = c.refutation_is_past.ensures (net_of p) n own b at refl c.requires.none first;
-      columns = kept_known p n b c.names_are_of_program.ensures.nonbasic c.requires.none.nonbasic_are;
+      columns =
+          kept_known p n b c.names_are_of_program.ensures.nonbasic c.requires.none.nonbasic_are;
       known = column_known p n b.row (c.names_are_of_program.ensures.row own b c.requires.none);
     } in
     subst (λ (k : Column). IsPastAt p n b.nonbasic (Refute k at)) (sym c.row.ensures) whole

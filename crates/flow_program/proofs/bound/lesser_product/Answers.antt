@@ -10,7 +10,8 @@ returns-then-factor-lt0 c =
     let high = c.ranges.high in
     let t = simp to_z-of_z at c.if-factor-lt0.true in
     let below : c.args.factor <ℤ pos 0 = omega (arith, ints) in
-    rw (least_at_high c.args.factor c.args.low c.args.high c.requires below) at (simp to_z-of_z at c.quick_product.ensures)
+    rw (least_at_high c.args.factor c.args.low c.args.high c.requires below) at (simp
+    to_z-of_z at c.quick_product.ensures)
 
 pub returns-else-factor-lt0 : goal.returns-else-factor-lt0
 returns-else-factor-lt0 c =
@@ -19,4 +20,5 @@ returns-else-factor-lt0 c =
     let high = c.ranges.high in
     let t = simp to_z-of_z at c.if-factor-lt0.false in
     let some : pos 0 ≤ℤ c.args.factor = omega (arith, ints) in
-    rw (least_at_low c.args.factor c.args.low c.args.high c.requires some) at (simp to_z-of_z at c.quick_product-else-factor-lt0.ensures)
+    rw (least_at_low c.args.factor c.args.low c.args.high c.requires some) at (simp
+    to_z-of_z at c.quick_product-else-factor-lt0.ensures)

@@ -13,4 +13,5 @@ returns-in-None-clause-past c =
     let a : SFits w128 c.in-Some.least = search rules in
     let h = simp to_z-of_z at c.in-Some.ensures in
     let n = simp to_z-of_z at c.in-None.ensures in
-    second_past c.args.factor c.args.low c.args.high c.args.sum c.args.start c.in-Some.least h.0 h.1 n
+    second_past c.args.factor c.args.low c.args.high c.args.sum c.args.start c.in-Some.least h.0 h.1
+    n

@@ -35,7 +35,9 @@ returns-in-Err-clause-past c =
     let hi : SFits w128 c.args.unit.high = search rules in
     let k : SFits w128 c.in-Some.cost = search rules in
     let h = simp to_z-of_z at c.in-Some.ensures in
-    past_in_rows c.args.d c.args.unit.cost c.args.unit.low c.args.unit.high (entry c.args.ys.now) (entry c.args.rates.now) c.args.materials c.args.sum c.in-Some.cost c.args.start h.0 h.1 c.in-Err.past.at c.in-Err.ensures.from_start (simp to_z-of_z at c.in-Err.ensures.past)
+    past_in_rows c.args.d c.args.unit.cost c.args.unit.low c.args.unit.high (entry c.args.ys.now)
+    (entry c.args.rates.now) c.args.materials c.args.sum c.in-Some.cost c.args.start h.0 h.1
+    c.in-Err.past.at c.in-Err.ensures.from_start (simp to_z-of_z at c.in-Err.ensures.past)
 
 pub returns-in-Err-with_least-clause-past : goal.returns-in-Err-with_least-clause-past
 returns-in-Err-with_least-clause-past c =
@@ -47,7 +49,11 @@ returns-in-Err-with_least-clause-past c =
     let k : SFits w128 c.in-Some.cost = search rules in
     let h = simp to_z-of_z at c.in-Some.ensures in
     let r : SFits w128 c.in-Ok.left = search rules in
-    past_in_least c.args.d c.args.unit.cost c.args.unit.low c.args.unit.high (entry c.args.ys.now) (entry c.args.rates.now) c.args.materials c.args.sum c.in-Some.cost c.args.start h.0 h.1 c.in-Ok.at c.in-Ok.left c.in-Err-with_least.past.at (simp to_z-of_z at c.in-Ok.ensures.in_range) c.in-Ok.ensures.count (simp to_z-of_z at c.in-Ok.ensures.value)
+    past_in_least c.args.d c.args.unit.cost c.args.unit.low c.args.unit.high (entry c.args.ys.now)
+    (entry c.args.rates.now) c.args.materials c.args.sum c.in-Some.cost c.args.start h.0 h.1
+    c.in-Ok.at c.in-Ok.left c.in-Err-with_least.past.at
+    (simp to_z-of_z at c.in-Ok.ensures.in_range) c.in-Ok.ensures.count
+    (simp to_z-of_z at c.in-Ok.ensures.value)
     c.in-Err-with_least.ensures.from_start (simp to_z-of_z at c.in-Err-with_least.ensures.past)
 
 pub returns-in-Ok-with_least-clause-in_range : goal.returns-in-Ok-with_least-clause-in_range
@@ -60,4 +66,8 @@ returns-in-Ok-with_least-clause-in_range c =
     let k : SFits w128 c.in-Some.cost = search rules in
     let h = simp to_z-of_z at c.in-Some.ensures in
     let r : SFits w128 c.in-Ok.left = search rules in
-    column_in_range c.args.d c.args.unit.cost c.args.unit.low c.args.unit.high (entry c.args.ys.now) (entry c.args.rates.now) c.args.materials c.args.sum c.in-Some.cost c.args.start h.0 h.1 c.in-Ok.left (simp to_z-of_z at c.in-Ok.ensures.in_range) (simp to_z-of_z at c.in-Ok.ensures.value) (simp to_z-of_z at c.in-Ok-with_least.ensures.in_range)
+    column_in_range c.args.d c.args.unit.cost c.args.unit.low c.args.unit.high (entry c.args.ys.now)
+    (entry c.args.rates.now) c.args.materials c.args.sum c.in-Some.cost c.args.start h.0 h.1
+    c.in-Ok.left (simp to_z-of_z at c.in-Ok.ensures.in_range)
+    (simp to_z-of_z at c.in-Ok.ensures.value)
+    (simp to_z-of_z at c.in-Ok-with_least.ensures.in_range)

@@ -8,5 +8,6 @@ use Rattle.flow_program.proofs.cost.cost_of.Given as goal
 abbrev pub invariant-loop-u : goal.invariant-loop-u
 invariant-loop-u l = record {
   is_set : IsSet 128 l.u-iterator;
-  so_far : IsCostSum (net_of l.fn.problem) (entry l.size_at) l.fn.d l.fn.set l.sum l.at l.u-iterator;
+  so_far : IsCostSum (net_of l.fn.problem) (entry l.size_at) l.fn.d l.fn.set l.sum l.at
+      l.u-iterator;
 }

@@ -7,5 +7,6 @@ use Rattle.flow_program.proofs.feasibility.balance_of.Given as goal
 abbrev pub invariant-loop-u : goal.invariant-loop-u
 invariant-loop-u l = record {
   is_set : IsSet 128 l.u-iterator;
-  so_far : IsBalanceSoFar l.fn.problem (entry l.fn.size_at) l.fn.j l.fn.units l.sum l.fn.start l.at l.u-iterator;
+  so_far : IsBalanceSoFar l.fn.problem (entry l.fn.size_at) l.fn.j l.fn.units l.sum l.fn.start l.at
+      l.u-iterator;
 }

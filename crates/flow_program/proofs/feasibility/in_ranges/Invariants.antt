@@ -9,5 +9,6 @@ use Rattle.flow_program.proofs.feasibility.in_ranges.Given as goal
 abbrev pub invariant-loop-j : goal.invariant-loop-j
 invariant-loop-j l = record {
   is_set : IsSet 256 l.j-iterator;
-  so_far : IsRangesSoFar (net_of l.fn.problem) (has l.fn.set) (entry l.fn.size_at) l.fn.d l.fn.materials l.hold l.at l.j-iterator;
+  so_far : IsRangesSoFar (net_of l.fn.problem) (has l.fn.set) (entry l.fn.size_at) l.fn.d
+      l.fn.materials l.hold l.at l.j-iterator;
 }

@@ -13,10 +13,16 @@ returns-then-rem_euclid-gt0 c =
     let low : SFits w128 c.args.range.low = search rules in
     let high : SFits w128 c.args.range.high = search rules in
     let q : IsQuotient c.args.number c.args.d c.div_euclid-floor.result c.rem_euclid.result
-    = rw (simp to_z-of_z at c.div_euclid-floor.ensures, simp to_z-of_z at c.rem_euclid.ensures.value) (is_quotient c.args.number c.args.d c.requires) in
+    = rw (
+      simp to_z-of_z at c.div_euclid-floor.ensures,
+      simp to_z-of_z at c.rem_euclid.ensures.value,
+    )
+    (is_quotient c.args.number c.args.d c.requires) in
     let t = simp to_z-of_z at c.if-rem_euclid-gt0.true in
     let sign : pos 0 <ℤ c.rem_euclid.result = omega (arith, ints) in
-    let w = within_above c.args.number c.args.d c.div_euclid-floor.result c.rem_euclid.result q c.args.range.low c.args.range.high sign in
+    let w =
+    within_above c.args.number c.args.d c.div_euclid-floor.result c.rem_euclid.result q
+    c.args.range.low c.args.range.high sign in
     let g = simp to_z-of_z at c.goes_on_from.ensures in
     (λ h. w.0 (g.0 h), λ h. g.1 (w.1 h))
 
@@ -29,9 +35,15 @@ returns-else-rem_euclid-gt0 c =
     let low : SFits w128 c.args.range.low = search rules in
     let high : SFits w128 c.args.range.high = search rules in
     let q : IsQuotient c.args.number c.args.d c.div_euclid-floor.result c.rem_euclid.result
-    = rw (simp to_z-of_z at c.div_euclid-floor.ensures, simp to_z-of_z at c.rem_euclid.ensures.value) (is_quotient c.args.number c.args.d c.requires) in
+    = rw (
+      simp to_z-of_z at c.div_euclid-floor.ensures,
+      simp to_z-of_z at c.rem_euclid.ensures.value,
+    )
+    (is_quotient c.args.number c.args.d c.requires) in
     let t = simp to_z-of_z at c.if-rem_euclid-gt0.false in
     let sign : c.rem_euclid.result ≤ℤ pos 0 = omega (arith, ints) in
-    let w = within_whole c.args.number c.args.d c.div_euclid-floor.result c.rem_euclid.result q c.args.range.low c.args.range.high sign in
+    let w =
+    within_whole c.args.number c.args.d c.div_euclid-floor.result c.rem_euclid.result q
+    c.args.range.low c.args.range.high sign in
     let g = simp to_z-of_z at c.is_in.ensures in
     (λ h. w.0 (g.0 h), λ h. g.1 (w.1 h))

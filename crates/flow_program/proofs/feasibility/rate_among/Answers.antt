@@ -9,8 +9,12 @@ pub returns-then-term-j : goal.returns-then-term-j
 returns-then-term-j c =
     let i : SFits w64 c.term.inside.rate = search rules in
     simp to_z-of_z (ap (λ (s : Term). s.rate) c.term.view_is
-    ∙ rate_found c.args.terms.now c.looking.term-index c.args.j c.term-item.result c.looking-test.true c.term-item.is c.looking.invariant (sym (ap (λ (s : Term). s.material) c.term.view_is) ∙ c.if-term-j.true))
+    ∙ rate_found c.args.terms.now c.looking.term-index c.args.j c.term-item.result
+    c.looking-test.true c.term-item.is c.looking.invariant
+    (sym (ap (λ (s : Term). s.material) c.term.view_is) ∙ c.if-term-j.true))
 
 pub looking-preserved : goal.looking-preserved
 looking-preserved c =
-    rate_skipped c.args.terms.now c.looking.term-index c.args.j c.term-item.result c.looking-test.true c.term-item.is c.looking.invariant (λ e. c.if-term-j.false (ap (λ (s : Term). s.material) c.term.view_is ∙ e))
+    rate_skipped c.args.terms.now c.looking.term-index c.args.j c.term-item.result
+    c.looking-test.true c.term-item.is c.looking.invariant
+    (λ e. c.if-term-j.false (ap (λ (s : Term). s.material) c.term.view_is ∙ e))

@@ -6,4 +6,7 @@ use Rattle.flow_program.proofs.feasibility.units_with.Goals as goal
 pub returns : goal.returns
 returns c =
     λ u. ap (λ (xs : List ℕ). has xs u) c.meet.ensures ∙ has-meet c.union.result c.args.set u
-    ∙ ap (λ b. b && has c.args.set u) (ap (λ (xs : List ℕ). has xs u) c.union.ensures ∙ has-union c.producers.result c.consumers.result u ∙ (λ i. c.producers.ensures i u || c.consumers.ensures i u))
+    ∙ ap (λ b. b && has c.args.set u)
+    (ap (λ (xs : List ℕ). has xs u) c.union.ensures
+    ∙ has-union c.producers.result c.consumers.result u
+    ∙ (λ i. c.producers.ensures i u || c.consumers.ensures i u))

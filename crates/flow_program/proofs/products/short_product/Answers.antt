@@ -12,12 +12,14 @@ overflow_mul-result c =
     let q : SFits w64 c.args.b = search rules in
     let r : SFits w128 c.args.a = search rules in
     let t : SFits w128 c.args.b = search rules in
-    let m = size_mul c.args.a c.args.b (2 ^ 63) (2 ^ 63) (omega (arith, ints)) (omega (arith, ints)) in
+    let m =
+    size_mul c.args.a c.args.b (2 ^ 63) (2 ^ 63) (omega (arith, ints)) (omega (arith, ints)) in
     simp to_z-of_z (fits_small (c.args.a *ℤ c.args.b) (omega arith))
 
 pub returns-clause-in_range : goal.returns-clause-in_range
 returns-clause-in_range c =
     let a = c.ranges.a in
     let b = c.ranges.b in
-    let m = size_mul c.args.a c.args.b (2 ^ 63) (2 ^ 63) (omega (arith, ints)) (omega (arith, ints)) in
+    let m =
+    size_mul c.args.a c.args.b (2 ^ 63) (2 ^ 63) (omega (arith, ints)) (omega (arith, ints)) in
     omega arith

@@ -7,5 +7,6 @@ use Rattle.flow_program.proofs.program.columns_of.Given as goal
 abbrev pub invariant-loop-u : goal.invariant-loop-u
 invariant-loop-u l = record {
   is_set : IsSet 128 l.u-iterator;
-  so_far : AreColumns l.fn.problem (node_of l.fn.node) l.fn.rows l.fn.units l.costs.items l.lows.items l.highs.items l.rates.items l.u-iterator;
+  so_far : AreColumns l.fn.problem (node_of l.fn.node) l.fn.rows l.fn.units l.costs.items
+      l.lows.items l.highs.items l.rates.items l.u-iterator;
 }

@@ -7,5 +7,6 @@ use Rattle.flow_program.proofs.program.push_rates.Given as goal
 abbrev pub invariant-loop-j : goal.invariant-loop-j
 invariant-loop-j l = record {
   is_set : IsSet 256 l.j-iterator;
-  so_far : l.list.items ++ map (rate_beside l.fn.materials l.fn.rates) l.j-iterator ≡ l.fn.list.items ++ map (rate_beside l.fn.materials l.fn.rates) l.fn.rows;
+  so_far : l.list.items ++ map (rate_beside l.fn.materials l.fn.rates) l.j-iterator
+      ≡ l.fn.list.items ++ map (rate_beside l.fn.materials l.fn.rates) l.fn.rows;
 }

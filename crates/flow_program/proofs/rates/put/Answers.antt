@@ -12,5 +12,11 @@ writing-preserved c =
     let r : SFits w64 c.signed.result = search rules in
     let i : SFits w64 c.term.inside.rate = search rules in
     let e = simp to_z-of_z at c.signed.ensures in
-    simp to_z-of_z (rw m (write_one c.args.terms.now c.args.used c.args.rates.now c.writing.rates c.writing.term-index c.args.materials t c.requires.few c.requires.formed c.writing-test.true c.term-item.is
-    c.signed.result (e ∙ ap (λ (z : ℤ). signed c.args.used z) (ap (λ (s : Term). s.rate) c.term.view_is)) c.writing.invariant))
+    simp to_z-of_z
+    (rw m
+    (write_one c.args.terms.now c.args.used c.args.rates.now c.writing.rates
+    c.writing.term-index c.args.materials t c.requires.few c.requires.formed c.writing-test.true
+    c.term-item.is
+    c.signed.result
+    (e ∙ ap (λ (z : ℤ). signed c.args.used z) (ap (λ (s : Term). s.rate) c.term.view_is))
+    c.writing.invariant))

@@ -7,9 +7,17 @@ use Rattle.flow_program.proofs.tables.by_material.Goals as goal
 
 pub loop-j-preserved : goal.loop-j-preserved
 loop-j-preserved c = record {
-  is_set = (next_of 256 c.loop-j.j-iterator c.in-Some.j c.next.new.self c.loop-j.invariant.is_set c.in-Some.ensures.steps).set;
+  is_set =
+      (next_of 256 c.loop-j.j-iterator c.in-Some.j c.next.new.self c.loop-j.invariant.is_set
+      c.in-Some.ensures.steps).set;
   so_far = let next : IsNext 256 c.loop-j.j-iterator c.in-Some.j c.next.new.self
-      = next_of 256 c.loop-j.j-iterator c.in-Some.j c.next.new.self c.loop-j.invariant.is_set c.in-Some.ensures.steps in
+      = next_of 256 c.loop-j.j-iterator c.in-Some.j c.next.new.self c.loop-j.invariant.is_set
+      c.in-Some.ensures.steps in
       let v : SFits w128 (get_or c.args.values.now c.loop-j.place (pos 0)) = search rules in
-      simp to_z-of_z (tabled_more 256 c.args.set c.args.values.now c.loop-j.table c.loop-j.j-iterator c.loop-j.place c.in-Some.j c.next.new.self (get_or c.args.values.now c.loop-j.place (pos 0)) c.into_iter-j-iterator.ensures.into_iter_gives.1 c.requires next refl c.loop-j.invariant.so_far);
+      simp to_z-of_z
+      (tabled_more 256 c.args.set c.args.values.now c.loop-j.table c.loop-j.j-iterator
+      c.loop-j.place c.in-Some.j c.next.new.self
+      (get_or c.args.values.now c.loop-j.place (pos 0))
+      c.into_iter-j-iterator.ensures.into_iter_gives.1 c.requires next refl
+      c.loop-j.invariant.so_far);
 }

@@ -1,4 +1,5 @@
-use Rattle.std.proofs.Common.{◌≡◌, ◌∙◌, ◌++◌, ◌∷◌, [], sym, ap, codes, append_assoc, arith, ℕ, List, string_bytes}
+use Rattle.std.proofs.Common.{◌≡◌, ◌∙◌, ◌++◌, ◌∷◌, [], sym, ap, codes, append_assoc, arith, ℕ, List}
+use Rattle.std.proofs.Common.{string_bytes}
 use Rattle.pns_problem.proofs.PrintingLemmas.{after}
 use Rattle.report_rules.specs.Graph.{arc_tip, arc_look}
 use Rattle.graph_text.specs.Kept.{picture_of}
@@ -18,7 +19,12 @@ returns c =
     let t5 = string_bytes c.push_str-2.new.self in
     let tip = arc_tip d u t in
     let look = arc_look d d.network u t in
-    after old t1 t5 (codes " [tooltip=\"") (tip ++ 34 ∷ (look ++ 93 ∷ 59 ∷ [])) c.in_ok-push_str.ensures.bytes
+    after old t1 t5 (codes " [tooltip=\"") (tip ++ 34 ∷ (look ++ 93 ∷ 59 ∷ []))
+    c.in_ok-push_str.ensures.bytes
     (after t1 t2 t5 tip (34 ∷ (look ++ 93 ∷ 59 ∷ [])) c.in_ok-push_tip.ensures
-    (after_three t2 t3 t4 t5 (34 ∷ []) look (93 ∷ 59 ∷ []) (c.in_ok-push.ensures.bytes ∙ ap (λ (l : List ℕ). t2 ++ l) (c.in_ok-push.ensures.ascii (omega arith))) c.in_ok-push_look.ensures c.in_ok-push_str-2.ensures.bytes))
-    ∙ ap (λ (l : List ℕ). old ++ (codes " [tooltip=\"" ++ l)) (sym (append_assoc tip (34 ∷ look) (93 ∷ 59 ∷ [])))
+    (after_three t2 t3 t4 t5 (34 ∷ []) look (93 ∷ 59 ∷ [])
+    (c.in_ok-push.ensures.bytes
+    ∙ ap (λ (l : List ℕ). t2 ++ l) (c.in_ok-push.ensures.ascii (omega arith)))
+    c.in_ok-push_look.ensures c.in_ok-push_str-2.ensures.bytes))
+    ∙ ap (λ (l : List ℕ). old ++ (codes " [tooltip=\"" ++ l))
+    (sym (append_assoc tip (34 ∷ look) (93 ∷ 59 ∷ [])))

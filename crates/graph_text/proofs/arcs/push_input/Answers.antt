@@ -12,7 +12,10 @@ returns-then-is_spread c =
     let u = c.args.u in
     let t = c.args.term.now in
     on_ok c.push_use_input.result _ _
-    (λ e. e ∙ ap (λ (l : List ℕ). string_bytes c.args.text.now ++ l) (if_true (is_spread d t.material) (use_line d u t) (plain_line d u t) (sym (c.is_spread.ensures ∙ ap (λ (x : Term). is_spread d x.material) c.term.view_is) ∙ c.if-is_spread.true)))
+    (λ e. e ∙ ap (λ (l : List ℕ). string_bytes c.args.text.now ++ l)
+    (if_true (is_spread d t.material) (use_line d u t) (plain_line d u t)
+    (sym (c.is_spread.ensures ∙ ap (λ (x : Term). is_spread d x.material) c.term.view_is)
+    ∙ c.if-is_spread.true)))
     c.push_use_input.ensures
 
 pub returns-else-is_spread : goal.returns-else-is_spread
@@ -21,5 +24,8 @@ returns-else-is_spread c =
     let u = c.args.u in
     let t = c.args.term.now in
     on_ok c.push_plain_input.result _ _
-    (λ e. e ∙ ap (λ (l : List ℕ). string_bytes c.args.text.now ++ l) (if_false (is_spread d t.material) (use_line d u t) (plain_line d u t) (sym (c.is_spread.ensures ∙ ap (λ (x : Term). is_spread d x.material) c.term.view_is) ∙ c.if-is_spread.false)))
+    (λ e. e ∙ ap (λ (l : List ℕ). string_bytes c.args.text.now ++ l)
+    (if_false (is_spread d t.material) (use_line d u t) (plain_line d u t)
+    (sym (c.is_spread.ensures ∙ ap (λ (x : Term). is_spread d x.material) c.term.view_is)
+    ∙ c.if-is_spread.false)))
     c.push_plain_input.ensures

@@ -5,4 +5,5 @@ use Rattle.graph_text.specs.Kept.{picture_of}
 use Rattle.graph_text.proofs.arcs.push_inputs.Given as goal
 
 abbrev pub invariant-printing : goal.invariant-printing
-invariant-printing l = AreLinesPrinted (input_line (picture_of l.fn.picture) l.fn.u) l.terms l.term-index (string_bytes l.fn.text) (string_bytes l.text)
+invariant-printing l = AreLinesPrinted (input_line (picture_of l.fn.picture)
+    l.fn.u) l.terms l.term-index (string_bytes l.fn.text) (string_bytes l.text)

@@ -14,7 +14,9 @@ returns-then-is_in c =
     let d = c.args.picture.now in
     on_ok c.push_look_of.result _ _
     (λ e. e ∙ ap (λ (t : List ℕ). string_bytes c.args.text.now ++ t)
-    (look_inside d.problem c.args.network.now c.args.u (flow_label (picture_of d) c.args.network.now c.args.u c.args.j) (sym c.is_in.ensures ∙ c.if-is_in.true)))
+    (look_inside d.problem c.args.network.now c.args.u
+    (flow_label (picture_of d) c.args.network.now c.args.u c.args.j)
+    (sym c.is_in.ensures ∙ c.if-is_in.true)))
     c.push_look_of.ensures
 
 pub returns-else-is_in : goal.returns-else-is_in
@@ -22,5 +24,7 @@ returns-else-is_in c =
     let d = c.args.picture.now in
     on_ok c.push_left_out.result _ _
     (λ e. e ∙ ap (λ (t : List ℕ). string_bytes c.args.text.now ++ t)
-    (look_outside d.problem c.args.network.now c.args.u (flow_label (picture_of d) c.args.network.now c.args.u c.args.j) (sym c.is_in.ensures ∙ c.if-is_in.false)))
+    (look_outside d.problem c.args.network.now c.args.u
+    (flow_label (picture_of d) c.args.network.now c.args.u c.args.j)
+    (sym c.is_in.ensures ∙ c.if-is_in.false)))
     c.push_left_out.ensures

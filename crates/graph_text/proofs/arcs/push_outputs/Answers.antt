@@ -7,6 +7,10 @@ use Rattle.graph_text.proofs.arcs.push_outputs.Goals as goal
 pub printing-preserved : goal.printing-preserved
 printing-preserved c =
     let t1 = string_bytes c.push_output.new.text in
-    one_line (output_line (picture_of c.args.picture.now) c.args.u) c.args.terms.now c.printing.term-index c.term-item.result c.printing-test.true c.term-item.is
+    one_line (output_line (picture_of c.args.picture.now) c.args.u) c.args.terms.now
+    c.printing.term-index c.term-item.result c.printing-test.true c.term-item.is
     (string_bytes c.args.text.now) (string_bytes c.printing.text) t1 (string_bytes c.push.new.self)
-    c.in_ok-push_output.ensures (c.in_ok-push.ensures.bytes ∙ ap (λ (l : List ℕ). t1 ++ l) (c.in_ok-push.ensures.ascii (omega arith))) c.printing.invariant
+    c.in_ok-push_output.ensures
+    (c.in_ok-push.ensures.bytes
+    ∙ ap (λ (l : List ℕ). t1 ++ l) (c.in_ok-push.ensures.ascii (omega arith)))
+    c.printing.invariant

@@ -7,5 +7,6 @@ use Rattle.graph_text.proofs.greatest.greatest_in.Given as goal
 abbrev pub invariant-loop-u : goal.invariant-loop-u
 invariant-loop-u l = record {
   within : IsWithin (has l.u-iterator) (has l.fn.network.units);
-  most : most_from l.fn.problem l.fn.network l.most l.u-iterator ≡ most_from l.fn.problem l.fn.network 0 l.fn.network.units;
+  most : most_from l.fn.problem l.fn.network l.most l.u-iterator
+      ≡ most_from l.fn.problem l.fn.network 0 l.fn.network.units;
 }

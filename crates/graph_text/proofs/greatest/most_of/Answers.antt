@@ -1,4 +1,5 @@
-use Rattle.std.proofs.Common.{◌≡◌, ◌∙◌, ◌≤◌, [], drop, ap, sym, length, List, unsigned_abs, SFits, rules}
+use Rattle.std.proofs.Common.{◌≡◌, ◌∙◌, ◌≤◌, [], drop, ap, sym, length, List, unsigned_abs, SFits}
+use Rattle.std.proofs.Common.{rules}
 use Rattle.std.specs.Int.{w128}
 use Rattle.std.proofs.lemmas.Int.{to_z-of_z}
 use Rattle.report_rules.specs.Aligned.{greater}
@@ -12,8 +13,16 @@ pub terms-preserved : goal.terms-preserved
 terms-preserved c =
     let f : SFits w128 c.moved-flow.result = search rules in
     let size = simp to_z-of_z at c.unsigned_abs.ensures in
-    next_most c.args.problem.now c.args.network.now c.args.u c.terms.most c.terms.term-index c.args.terms.now c.term-item.result _ _ c.terms-test.true c.term-item.is (c.greater-most.ensures ∙ ap (greater c.terms.most) (size.value ∙ ap unsigned_abs (c.moved-flow.ensures.value ∙ ap (λ (t : Term). moved c.args.problem.now c.args.network.now c.args.u t.material) c.term.view_is))) c.terms.invariant
+    next_most c.args.problem.now c.args.network.now c.args.u c.terms.most c.terms.term-index
+    c.args.terms.now c.term-item.result _ _ c.terms-test.true c.term-item.is
+    (c.greater-most.ensures
+    ∙ ap (greater c.terms.most)
+    (size.value
+    ∙ ap unsigned_abs (c.moved-flow.ensures.value
+    ∙ ap (λ (t : Term). moved c.args.problem.now c.args.network.now c.args.u t.material)
+    c.term.view_is))) c.terms.invariant
 
 pub returns : goal.returns
 returns c =
-    ap (λ (ts : List Term). most_of c.args.problem.now c.args.network.now c.args.u c.terms.most ts) (sym (drop_all c.terms.term-index c.args.terms.now c.terms-test.false)) ∙ c.terms.invariant
+    ap (λ (ts : List Term). most_of c.args.problem.now c.args.network.now c.args.u c.terms.most ts)
+    (sym (drop_all c.terms.term-index c.args.terms.now c.terms-test.false)) ∙ c.terms.invariant

@@ -13,7 +13,10 @@ moved_at-requires c n =
     let w = c.args.network.now in
     let f : SFits w64 c.rate_at.result = search rules in
     let g : SFits w128 c.size_at.result = search rules in
-    let rate : to_z w64 (of_z w64 c.rate_at.result) ≡ rate_of p c.args.j c.args.u = to_z-of_z w64 c.rate_at.result f ∙ c.rate_at.ensures in
-    let size : to_z w128 (of_z w128 c.size_at.result) ≡ size_in w c.args.u = to_z-of_z w128 c.size_at.result g ∙ c.size_at.ensures.value in
+    let rate : to_z w64 (of_z w64 c.rate_at.result) ≡ rate_of p c.args.j c.args.u =
+    to_z-of_z w64 c.rate_at.result f ∙ c.rate_at.ensures in
+    let size : to_z w128 (of_z w128 c.size_at.result) ≡ size_in w c.args.u =
+    to_z-of_z w128 c.size_at.result g ∙ c.size_at.ensures.value in
     subst InRange (λ i. sym rate i *ℤ sym size i)
-    (moved_in_range p w c.args.u c.args.j (c.valid_is_proper.ensures p c.is_valid.ensures.valid) c.requires.feasible c.requires.unit c.requires.in_network (λ e. n (rate ∙ e)))
+    (moved_in_range p w c.args.u c.args.j (c.valid_is_proper.ensures p c.is_valid.ensures.valid)
+    c.requires.feasible c.requires.unit c.requires.in_network (λ e. n (rate ∙ e)))

@@ -13,5 +13,8 @@ returns-then-is_in c =
     let p = c.args.picture.now.problem in
     let w = c.args.network.now in
     let j = c.args.j in
-    c.limit_look.ensures ∙ ap limit_look (c.is_material_limited.ensures ∙ ap (λ (p : Problem). is_material_limited p w j) c.problem.ensures.same)
-    ∙ if_true (mats (shape_of p) (has w.units) j) (limit_look (is_material_limited p w j)) grey (sym c.is_in.ensures.value ∙ c.if-is_in.true)
+    c.limit_look.ensures
+    ∙ ap limit_look (c.is_material_limited.ensures
+    ∙ ap (λ (p : Problem). is_material_limited p w j) c.problem.ensures.same)
+    ∙ if_true (mats (shape_of p) (has w.units) j) (limit_look (is_material_limited p w j)) grey
+    (sym c.is_in.ensures.value ∙ c.if-is_in.true)

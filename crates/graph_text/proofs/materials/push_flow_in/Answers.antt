@@ -1,4 +1,5 @@
-use Rattle.std.proofs.Common.{◌≡◌, ◌<◌, ◌∙◌, subst, length, ◌++◌, ap, sym, true, ℕ, List, string_bytes}
+use Rattle.std.proofs.Common.{◌≡◌, ◌<◌, ◌∙◌, subst, length, ◌++◌, ap, sym, true, ℕ, List}
+use Rattle.std.proofs.Common.{string_bytes}
 use Rattle.number_sets.specs.Sets.{has}
 use Rattle.problem_rules.specs.Problem.{Problem, material_at}
 use Rattle.pns_rules.specs.Shape.{shape_of}
@@ -11,14 +12,19 @@ use Rattle.graph_text.proofs.Lines.{on_ok, where_true}
 use Rattle.graph_text.proofs.materials.push_flow_in.Goals as goal
 
 pub push_net_of-requires-clause-known : goal.push_net_of-requires-clause-known
-push_net_of-requires-clause-known c = subst (λ (p : Problem). c.args.j < length p.materials) (sym c.problem.ensures.same) c.requires.material
+push_net_of-requires-clause-known c =
+    subst (λ (p : Problem). c.args.j < length p.materials) (sym c.problem.ensures.same)
+    c.requires.material
 
 pub push_net_of-requires-clause-material : goal.push_net_of-requires-clause-material
 push_net_of-requires-clause-material c =
-    subst (λ (p : Problem). has (materials_of (net_of p) (has c.args.network.now.units)) c.args.j ≡ true) (sym c.problem.ensures.same) (c.is_in.ensures.material c.if-is_in.true)
+    subst (λ (p : Problem). has (materials_of (net_of p) (has c.args.network.now.units)) c.args.j
+    ≡ true) (sym c.problem.ensures.same) (c.is_in.ensures.material c.if-is_in.true)
 
 pub push_net_of-requires-clause-feasible : goal.push_net_of-requires-clause-feasible
-push_net_of-requires-clause-feasible c = subst (λ (p : Problem). IsFeasible p c.args.network.now) (sym c.problem.ensures.same) c.requires.feasible
+push_net_of-requires-clause-feasible c =
+    subst (λ (p : Problem). IsFeasible p c.args.network.now) (sym c.problem.ensures.same)
+    c.requires.feasible
 
 pub returns-then-is_in : goal.returns-then-is_in
 returns-then-is_in c =
@@ -26,9 +32,14 @@ returns-then-is_in c =
     let w = c.args.network.now in
     let j = c.args.j in
     let old = string_bytes c.args.text.now in
-    let there : mats (shape_of p) (has w.units) j ≡ true = sym c.is_in.ensures.value ∙ c.if-is_in.true in
-    let label = net_label (material_at p j).price (balance (net_of p) (has w.units) (size_in w) j) w.d in
+    let there : mats (shape_of p) (has w.units) j ≡ true =
+    sym c.is_in.ensures.value ∙ c.if-is_in.true in
+    let label =
+    net_label (material_at p j).price (balance (net_of p) (has w.units) (size_in w) j) w.d in
     on_ok c.push_net_of.result _ _
-    (λ e. e ∙ ap (λ (p : Problem). old ++ net_label (material_at p j).price (balance (net_of p) (has w.units) (size_in w) j) w.d) c.problem.ensures.same
+    (λ e. e
+    ∙ ap
+    (λ (p : Problem). old ++ net_label (material_at p j).price
+    (balance (net_of p) (has w.units) (size_in w) j) w.d) c.problem.ensures.same
     ∙ ap (λ (t : List ℕ). old ++ t) (where_true (mats (shape_of p) (has w.units) j) label there))
     c.push_net_of.ensures

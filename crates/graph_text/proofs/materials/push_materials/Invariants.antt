@@ -9,5 +9,7 @@ use Rattle.graph_text.proofs.materials.push_materials.Given as goal
 abbrev pub invariant-loop-j : goal.invariant-loop-j
 invariant-loop-j l = record {
   within : IsWithin (has l.j-iterator) (has l.fn.materials);
-  text : string_bytes l.text ++ printed (map (material_line (picture_of l.fn.picture)) l.j-iterator) ≡ string_bytes l.fn.text ++ printed (map (material_line (picture_of l.fn.picture)) l.fn.materials);
+  text : string_bytes l.text ++ printed (map (material_line (picture_of l.fn.picture)) l.j-iterator)
+      ≡ string_bytes l.fn.text
+      ++ printed (map (material_line (picture_of l.fn.picture)) l.fn.materials);
 }

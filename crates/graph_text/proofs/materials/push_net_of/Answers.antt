@@ -13,4 +13,7 @@ returns c =
     let g : SFits w128 c.d.result = search rules in
     let h : SFits w64 c.material.inside.price = search rules in
     let told = simp to_z-of_z at c.push_net.ensures in
-    on_ok c.push_net.result _ _ (λ e. e ∙ (λ i. old ++ net_label ((is i).price) (c.flow_at-flow.ensures.value i) (c.d.ensures i))) told
+    on_ok c.push_net.result _ _
+    (λ e. e
+    ∙ (λ i. old ++ net_label ((is i).price) (c.flow_at-flow.ensures.value i) (c.d.ensures i)))
+    told

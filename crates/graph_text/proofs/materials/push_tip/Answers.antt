@@ -22,7 +22,9 @@ returns c =
     let told1 = simp to_z-of_z at c.in_ok-push_told-2.ensures in
     let told2 = simp to_z-of_z at c.push_told-3.ensures in
     on_ok c.push_told-3.result _ _
-    (λ e. after_four old t1 t2 t3 (string_bytes c.push_told-3.new.text) m.name (told (codes ": price ") m.price) (told (codes ", from ") m.lower) (told (codes " to ") m.upper)
+    (λ e. after_four old t1 t2 t3 (string_bytes c.push_told-3.new.text) m.name
+    (told (codes ": price ") m.price) (told (codes ", from ") m.lower)
+    (told (codes " to ") m.upper)
     (c.in_ok-push_str.ensures.bytes ∙ ap (λ (name : List ℕ). old ++ name) named)
     (told0 ∙ ap (λ (x : Material). t1 ++ told (codes ": price ") x.price) is)
     (told1 ∙ ap (λ (x : Material). t2 ++ told (codes ", from ") x.lower) is)

@@ -19,7 +19,9 @@ returns c =
     let t2 = string_bytes c.push.new.text in
     let t3 = string_bytes c.push_str-2.new.self in
     on_ok c.push-2.result _ _
-    (λ e. after_four (string_bytes c.args.text.now) t1 t2 t3 (string_bytes c.push-2.new.text) (below ++ codes "at ") (number_text (quotient c.args.price million)) (codes ": ") (number_text (money c.args.price c.args.flow c.args.d))
+    (λ e. after_four (string_bytes c.args.text.now) t1 t2 t3 (string_bytes c.push-2.new.text)
+    (below ++ codes "at ") (number_text (quotient c.args.price million)) (codes ": ")
+    (number_text (money c.args.price c.args.flow c.args.d))
     c.in_ok-push_str.ensures.bytes
     (c.in_ok-push.ensures ∙ ap (λ (n : Number). t1 ++ number_text n) each)
     c.in_ok-push_str-2.ensures.bytes

@@ -15,8 +15,10 @@ returns c =
     let paid = simp to_z-of_z at c.push_money.ensures in
     let t1 = string_bytes c.push_str.new.self in
     on_ok c.push_money.result _ _
-    (λ e. after_four (string_bytes c.args.text.now) t1 (string_bytes c.push_str-2.new.self) (string_bytes c.push_flow.new.text) (string_bytes c.push_money.new.text)
-    below (way_words c.args.net) (flow_text c.args.net (unsigned_abs c.args.d)) (money_label c.args.price c.args.net c.args.d)
+    (λ e. after_four (string_bytes c.args.text.now) t1 (string_bytes c.push_str-2.new.self)
+    (string_bytes c.push_flow.new.text) (string_bytes c.push_money.new.text)
+    below (way_words c.args.net) (flow_text c.args.net (unsigned_abs c.args.d))
+    (money_label c.args.price c.args.net c.args.d)
     c.in_ok-push_str.ensures.bytes
     (c.in_ok-push_str-2.ensures.bytes ∙ ap (λ (t : List ℕ). t1 ++ t) way)
     flow

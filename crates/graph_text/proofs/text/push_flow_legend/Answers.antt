@@ -7,4 +7,6 @@ use Rattle.graph_text.proofs.text.push_flow_legend.Goals as goal
 
 pub returns : goal.returns
 returns c =
-    after (string_bytes c.args.text.now) (string_bytes c.push_str.new.self) (string_bytes c.push_str-2.new.self) (printed legend) (printed flow_legend) c.in_ok-push_str.ensures.bytes c.in_ok-push_str-2.ensures.bytes
+    after (string_bytes c.args.text.now) (string_bytes c.push_str.new.self)
+    (string_bytes c.push_str-2.new.self) (printed legend) (printed flow_legend)
+    c.in_ok-push_str.ensures.bytes c.in_ok-push_str-2.ensures.bytes

@@ -1,4 +1,5 @@
-use Rattle.std.proofs.Common.{◌≡◌, ◌<◌, ◌∙◌, ◌++◌, sym, ap, subst, ℕ, Bool, List, string_bytes, map, length}
+use Rattle.std.proofs.Common.{◌≡◌, ◌<◌, ◌∙◌, ◌++◌, sym, ap, subst, ℕ, Bool, List, string_bytes, map}
+use Rattle.std.proofs.Common.{length}
 use Rattle.std.specs.Prelude.{flat_map}
 use Rattle.number_sets.specs.Sets.{has, listed}
 use Rattle.number_sets.proofs.SetLemmas.{listed-is, below_from}
@@ -14,8 +15,12 @@ use Rattle.graph_text.proofs.text.push_picture.Goals as goal
 
 pub push_materials-requires : goal.push_materials-requires
 push_materials-requires c = record {
-  known = λ j h. mats_known (shape_of c.args.picture.now.problem) c.graph.ensures.proper (has c.units-units.result) j
-      (sym (λ i. (c.materials-materials.ensures ∙ ap (λ (g : Shape). mats g (has c.units-units.result)) c.graph.ensures.same) i j) ∙ h);
+  known =
+      λ j h. mats_known (shape_of c.args.picture.now.problem) c.graph.ensures.proper
+      (has c.units-units.result) j
+      (sym
+      (λ i. (c.materials-materials.ensures
+      ∙ ap (λ (g : Shape). mats g (has c.units-units.result)) c.graph.ensures.same) i j) ∙ h);
 }
 
 pub returns : goal.returns
@@ -25,14 +30,29 @@ returns c =
     let set = c.units-units.result in
     let drawn = has set in
     let materials : c.materials-materials.result ≡ materials_of (net_of p) (has d.units) =
-    materials_are (shape_of p) c.graph.ensures.proper drawn c.materials-materials.result (c.materials-materials.ensures ∙ ap (λ (g : Shape). mats g drawn) c.graph.ensures.same) c.rises-2.ensures
+    materials_are (shape_of p) c.graph.ensures.proper drawn c.materials-materials.result
+    (c.materials-materials.ensures ∙ ap (λ (g : Shape). mats g drawn) c.graph.ensures.same)
+    c.rises-2.ensures
     ∙ ap (λ (us : List ℕ). materials_of (net_of p) (has us)) c.units-units.ensures.same in
     let units : set ≡ listed (length p.units) (has d.units) =
-    sym (listed-is (length p.units) set (record { rising = c.rises.ensures.rising; below = below_from (length p.units) set c.units-units.ensures.known }))
+    sym (listed-is (length p.units) set
+    (record {
+      rising = c.rises.ensures.rising;
+      below =
+          below_from (length p.units) set c.units-units.ensures.known;
+    }))
     ∙ ap (λ (us : List ℕ). listed (length p.units) (has us)) c.units-units.ensures.same in
-    parts_printed head_lines (total_lines p d.network) (map (material_line (picture_of d)) (materials_of (net_of p) (has d.units))) (flat_map (unit_lines (picture_of d)) (listed (length p.units) (has d.units))) last_lines
-    (string_bytes c.args.text.now) (string_bytes c.push_head.new.text) (string_bytes c.push_total.new.text) (string_bytes c.push_materials.new.text) (string_bytes c.push_units.new.text) (string_bytes c.push_str.new.self)
+    parts_printed head_lines (total_lines p d.network)
+    (map (material_line (picture_of d)) (materials_of (net_of p) (has d.units)))
+    (flat_map (unit_lines (picture_of d)) (listed (length p.units) (has d.units))) last_lines
+    (string_bytes c.args.text.now) (string_bytes c.push_head.new.text)
+    (string_bytes c.push_total.new.text) (string_bytes c.push_materials.new.text)
+    (string_bytes c.push_units.new.text) (string_bytes c.push_str.new.self)
     c.in_ok-push_head.ensures c.in_ok-push_total.ensures
-    (c.in_ok-push_materials.ensures ∙ ap (λ (js : List ℕ). string_bytes c.push_total.new.text ++ printed (map (material_line (picture_of d)) js)) materials)
-    (c.in_ok-push_units.ensures ∙ ap (λ (us : List ℕ). string_bytes c.push_materials.new.text ++ printed (flat_map (unit_lines (picture_of d)) us)) units)
+    (c.in_ok-push_materials.ensures
+    ∙ ap (λ (js : List ℕ). string_bytes c.push_total.new.text
+    ++ printed (map (material_line (picture_of d)) js)) materials)
+    (c.in_ok-push_units.ensures
+    ∙ ap (λ (us : List ℕ). string_bytes c.push_materials.new.text
+    ++ printed (flat_map (unit_lines (picture_of d)) us)) units)
     c.in_ok-push_str.ensures.bytes

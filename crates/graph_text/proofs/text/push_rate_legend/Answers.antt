@@ -7,5 +7,8 @@ use Rattle.graph_text.proofs.text.push_rate_legend.Goals as goal
 
 pub returns : goal.returns
 returns c =
-    after (string_bytes c.args.text.now) (string_bytes c.push_str.new.self) (string_bytes c.push_str-2.new.self) (printed legend) (printed rate_legend) c.in_ok-push_str.ensures.bytes c.in_ok-push_str-2.ensures.bytes
-    ∙ ap (λ (t : List ℕ). string_bytes c.args.text.now ++ t) (sym (printed-append legend rate_legend))
+    after (string_bytes c.args.text.now) (string_bytes c.push_str.new.self)
+    (string_bytes c.push_str-2.new.self) (printed legend) (printed rate_legend)
+    c.in_ok-push_str.ensures.bytes c.in_ok-push_str-2.ensures.bytes
+    ∙ ap (λ (t : List ℕ). string_bytes c.args.text.now ++ t)
+    (sym (printed-append legend rate_legend))

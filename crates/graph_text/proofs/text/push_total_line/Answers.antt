@@ -1,4 +1,5 @@
-use Rattle.std.proofs.Common.{◌≡◌, ◌∙◌, ◌++◌, ◌∷◌, [], codes, string_bytes, SFits, rules, ap, List, ℕ, arith}
+use Rattle.std.proofs.Common.{◌≡◌, ◌∙◌, ◌++◌, ◌∷◌, [], codes, string_bytes, SFits, rules, ap, List}
+use Rattle.std.proofs.Common.{ℕ, arith}
 use Rattle.std.specs.Int.{w128}
 use Rattle.std.proofs.lemmas.Int.{to_z-of_z}
 use Rattle.report_rules.specs.Graph.{cost_text, sort_words}
@@ -14,9 +15,13 @@ returns c =
     let t3 = string_bytes c.push_str-2.new.self in
     let told = simp to_z-of_z at c.sort_words.ensures in
     let sort : c.sort_words.result.now ≡ sort_words w.cost = told ∙ ap sort_words c.cost.ensures in
-    after_four (string_bytes c.args.text.now) (string_bytes c.push_str.new.self) t2 t3 (string_bytes c.push.new.self)
+    after_four (string_bytes c.args.text.now) (string_bytes c.push_str.new.self) t2 t3
+    (string_bytes c.push.new.self)
     (codes "  label=\"claimed total in one year: ") (cost_text p w) (sort_words w.cost) (10 ∷ [])
     c.in_ok-push_str.ensures.bytes c.in_ok-push_cost.ensures
     (c.in_ok-push_str-2.ensures.bytes ∙ ap (λ (t : List ℕ). t2 ++ t) sort)
-    (c.in_ok-push.ensures.bytes ∙ ap (λ (t : List ℕ). t3 ++ t) (c.in_ok-push.ensures.ascii (omega arith)))
-    ∙ ap (λ (t : List ℕ). string_bytes c.args.text.now ++ t) (line_end (codes "  label=\"claimed total in one year: ") (cost_text p w) (sort_words w.cost))
+    (c.in_ok-push.ensures.bytes
+    ∙ ap (λ (t : List ℕ). t3 ++ t) (c.in_ok-push.ensures.ascii (omega arith)))
+    ∙ ap (λ (t : List ℕ). string_bytes c.args.text.now ++ t)
+    (line_end (codes "  label=\"claimed total in one year: ") (cost_text p w)
+    (sort_words w.cost))

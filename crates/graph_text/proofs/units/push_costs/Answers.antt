@@ -23,10 +23,12 @@ returns c =
     let told2 = simp to_z-of_z at c.in_ok-push_told-3.ensures in
     let told3 = simp to_z-of_z at c.push_told-4.ensures in
     on_ok c.push_told-4.result _ _
-    (λ e. after_four old t1 t2 t3 (string_bytes c.push_told-4.new.text) (told (codes ", fixed cost ") u.fix) (told (codes ", proportional cost ") u.proportional)
+    (λ e. after_four old t1 t2 t3 (string_bytes c.push_told-4.new.text)
+    (told (codes ", fixed cost ") u.fix) (told (codes ", proportional cost ") u.proportional)
     (told (codes ", investment ") u.investment_fix) (told (codes " and ") u.investment_proportional)
     (told0 ∙ ap (λ (x : OperatingUnit). old ++ told (codes ", fixed cost ") x.fix) is)
-    (told1 ∙ ap (λ (x : OperatingUnit). t1 ++ told (codes ", proportional cost ") x.proportional) is)
+    (told1 ∙ ap (λ (x : OperatingUnit). t1 ++ told (codes ", proportional cost ") x.proportional)
+    is)
     (told2 ∙ ap (λ (x : OperatingUnit). t2 ++ told (codes ", investment ") x.investment_fix) is)
     (e ∙ ap (λ (x : OperatingUnit). t3 ++ told (codes " and ") x.investment_proportional) is))
     told3

@@ -12,9 +12,12 @@ returns c =
     let d = picture_of c.args.picture.now in
     let p = d.problem in
     let u = c.args.u in
-    let same : c.unit_of-unit.result.now ≡ unit_at p u = c.unit_of-unit.ensures ∙ ap (λ (p : Problem). unit_at p u) c.problem-problem.ensures.same in
-    let inputs : c.deref.result.now ≡ (unit_at p u).inputs = c.deref.ensures.value ∙ ap (λ (x : OperatingUnit). x.inputs) (c.unit.view_is ∙ same) in
-    let outputs : c.deref-2.result.now ≡ (unit_at p u).outputs = c.deref-2.ensures.value ∙ ap (λ (x : OperatingUnit). x.outputs) (c.unit.view_is ∙ same) in
+    let same : c.unit_of-unit.result.now ≡ unit_at p u =
+    c.unit_of-unit.ensures ∙ ap (λ (p : Problem). unit_at p u) c.problem-problem.ensures.same in
+    let inputs : c.deref.result.now ≡ (unit_at p u).inputs =
+    c.deref.ensures.value ∙ ap (λ (x : OperatingUnit). x.inputs) (c.unit.view_is ∙ same) in
+    let outputs : c.deref-2.result.now ≡ (unit_at p u).outputs =
+    c.deref-2.ensures.value ∙ ap (λ (x : OperatingUnit). x.outputs) (c.unit.view_is ∙ same) in
     let old = string_bytes c.args.text.now in
     let t1 = string_bytes c.push_unit.new.text in
     let t2 = string_bytes c.push.new.self in
@@ -25,9 +28,12 @@ returns c =
     let outs = map (output_line d u) (unit_at p u).outputs in
     on_ok c.push_outputs.result _ _
     (λ e. after old t2 t4 (line ++ 10 ∷ []) (printed ins ++ printed outs)
-    (after old t1 t2 line (10 ∷ []) c.in_ok-push_unit.ensures (c.in_ok-push.ensures.bytes ∙ ap (λ (l : List ℕ). t1 ++ l) (c.in_ok-push.ensures.ascii (omega arith))))
+    (after old t1 t2 line (10 ∷ []) c.in_ok-push_unit.ensures
+    (c.in_ok-push.ensures.bytes
+    ∙ ap (λ (l : List ℕ). t1 ++ l) (c.in_ok-push.ensures.ascii (omega arith))))
     (after t2 t3 t4 (printed ins) (printed outs)
-    (c.in_ok-push_inputs.ensures ∙ ap (λ (ts : List Term). t2 ++ printed (map (input_line d u) ts)) inputs)
+    (c.in_ok-push_inputs.ensures
+    ∙ ap (λ (ts : List Term). t2 ++ printed (map (input_line d u) ts)) inputs)
     (e ∙ ap (λ (ts : List Term). t3 ++ printed (map (output_line d u) ts)) outputs))
     ∙ ap (λ (t : List ℕ). old ++ ((line ++ 10 ∷ []) ++ t)) (sym (printed-append ins outs)))
     c.push_outputs.ensures

@@ -10,5 +10,8 @@ use Rattle.graph_text.proofs.units.push_units.Given as goal
 abbrev pub invariant-loop-u : goal.invariant-loop-u
 invariant-loop-u l = record {
   within : IsWithin (has l.u-iterator) (has l.fn.units);
-  text : string_bytes l.text ++ printed (flat_map (unit_lines (picture_of l.fn.picture)) l.u-iterator) ≡ string_bytes l.fn.text ++ printed (flat_map (unit_lines (picture_of l.fn.picture)) l.fn.units);
+  text : string_bytes l.text
+      ++ printed (flat_map (unit_lines (picture_of l.fn.picture)) l.u-iterator)
+      ≡ string_bytes l.fn.text
+      ++ printed (flat_map (unit_lines (picture_of l.fn.picture)) l.fn.units);
 }

@@ -5,7 +5,8 @@ use Rattle.help_texts.proofs.pages.text_among.Given as goal
 -- the page is among those that are left where it is among all
 abbrev pub invariant-loop-pages : goal.invariant-loop-pages
 invariant-loop-pages l =
-    text_among (map (λ page. (page.0.now, page.1.now)) l.pages) l.topic ≡ text_among (map (λ page. (page.0.now, page.1.now)) l.initial.pages) l.topic
+    text_among (map (λ page. (page.0.now, page.1.now)) l.pages) l.topic
+    ≡ text_among (map (λ page. (page.0.now, page.1.now)) l.initial.pages) l.topic
 
 abbrev pub decreases-loop-pages : goal.decreases-loop-pages
 decreases-loop-pages l = length l.pages

@@ -16,7 +16,8 @@ loop-j-preserved c =
     let x : SFits w128 (get_or c.args.row.now c.loop-j.j (pos 0)) = search rules in
     let y : SFits w128 (get_or c.args.pivot.now c.loop-j.j (pos 0)) = search rules in
     let here = simp to_z-of_z at c.first_past.ensures in
-    simp to_z-of_z (below_more _ _ (simp to_z-of_z at c.loop-j.invariant) (sym here ∙ c.in_default.is))
+    simp to_z-of_z
+    (below_more _ _ (simp to_z-of_z at c.loop-j.invariant) (sym here ∙ c.in_default.is))
 
 pub returns-clause-ok : goal.returns-clause-ok
 returns-clause-ok c =

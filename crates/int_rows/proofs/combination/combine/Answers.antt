@@ -11,8 +11,10 @@ returns-in_err-check_entries-clause-past c =
     let e = err_from_is_err_and c.from_residual.result c.from_residual.ensures.1 in
     let x : SFits w128 (get_or c.args.pivot.now c.args.c (pos 0)) = search rules in
     let y : SFits w128 (get_or c.args.row.now c.args.c (pos 0)) = search rules in
-    let q : SFits w128 c.lowest_terms-q.result.0 = fits_from_range _ c.lowest_terms-q.ensures.first_in_range in
-    let p : SFits w128 c.lowest_terms-q.result.1 = fits_from_range _ c.lowest_terms-q.ensures.second_in_range in
+    let q : SFits w128 c.lowest_terms-q.result.0 =
+    fits_from_range _ c.lowest_terms-q.ensures.first_in_range in
+    let p : SFits w128 c.lowest_terms-q.result.1 =
+    fits_from_range _ c.lowest_terms-q.ensures.second_in_range in
     let lowest = simp to_z-of_z at c.lowest_terms-q.ensures.lowest in
     let past = simp to_z-of_z at c.in_err-check_entries.ensures.past in
     let before = simp to_z-of_z at c.in_err-check_entries.ensures.before in
@@ -29,8 +31,10 @@ pub returns-clause-done : goal.returns-clause-done
 returns-clause-done c =
     let x : SFits w128 (get_or c.args.pivot.now c.args.c (pos 0)) = search rules in
     let y : SFits w128 (get_or c.args.row.now c.args.c (pos 0)) = search rules in
-    let q : SFits w128 c.lowest_terms-q.result.0 = fits_from_range _ c.lowest_terms-q.ensures.first_in_range in
-    let p : SFits w128 c.lowest_terms-q.result.1 = fits_from_range _ c.lowest_terms-q.ensures.second_in_range in
+    let q : SFits w128 c.lowest_terms-q.result.0 =
+    fits_from_range _ c.lowest_terms-q.ensures.first_in_range in
+    let p : SFits w128 c.lowest_terms-q.result.1 =
+    fits_from_range _ c.lowest_terms-q.ensures.second_in_range in
     let lowest = simp to_z-of_z at c.lowest_terms-q.ensures.lowest in
     let none = simp to_z-of_z at c.in_ok-check_entries.ensures.ok in
     let value = simp to_z-of_z at c.write_entries.ensures.value in
@@ -39,5 +43,6 @@ returns-clause-done c =
       q = c.lowest_terms-q.result.0;
       lowest = lowest;
       in_range = none;
-      reduced = let R : List ℤ → Type 0 = λ xs. IsReduced xs c.primitive.new.row in subst R value c.primitive.ensures.reduced;
+      reduced = let R : List ℤ → Type 0 =
+          λ xs. IsReduced xs c.primitive.new.row in subst R value c.primitive.ensures.reduced;
     }

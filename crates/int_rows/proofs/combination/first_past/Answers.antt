@@ -1,7 +1,8 @@
 use Rattle.std.proofs.Common.{rules, SFits, sym}
 use Rattle.std.proofs.lemmas.Int.{to_z-of_z}
 use Rattle.std.specs.Int.{w128}
-use Rattle.int_rows.proofs.RangeLemmas.{past_small, past_left, past_right, past_none, past_difference}
+use Rattle.int_rows.proofs.RangeLemmas.{past_small, past_left, past_right, past_none}
+use Rattle.int_rows.proofs.RangeLemmas.{past_difference}
 use Rattle.int_rows.proofs.combination.first_past.Goals as goal
 
 pub returns-then-is_small-4 : goal.returns-then-is_small-4
@@ -14,7 +15,8 @@ returns-then-is_small-4 c =
     let hx = simp to_z-of_z at c.is_small-then-is_small.ensures.0 in
     let hq = simp to_z-of_z at c.is_small-then-is_small-2.ensures.0 in
     let hy = simp to_z-of_z at c.is_small-then-is_small-3.ensures.0 in
-    sym (past_small c.args.p c.args.x c.args.q c.args.y (hp c.if-is_small.true) (hx c.if-is_small-2.true) (hq c.if-is_small-3.true) (hy c.if-is_small-4.true))
+    sym (past_small c.args.p c.args.x c.args.q c.args.y (hp c.if-is_small.true)
+    (hx c.if-is_small-2.true) (hq c.if-is_small-3.true) (hy c.if-is_small-4.true))
 
 pub returns-in_default : goal.returns-in_default
 returns-in_default c =

@@ -12,7 +12,9 @@ quotient-requires-clause-positive c =
     let x = c.ranges.x in
     let y = c.ranges.y in
     let g : SFits w128 c.gcd-common.result = fits_from_range _ c.gcd-common.ensures.in_range in
-    simp to_z-of_z (gcd_positive c.args.x c.args.y c.gcd-common.result c.requires.positive c.gcd-common.ensures.not_negative (simp to_z-of_z at c.gcd-common.ensures.greatest))
+    simp to_z-of_z
+    (gcd_positive c.args.x c.args.y c.gcd-common.result c.requires.positive
+    c.gcd-common.ensures.not_negative (simp to_z-of_z at c.gcd-common.ensures.greatest))
 
 pub quotient-requires-clause-divides : goal.quotient-requires-clause-divides
 quotient-requires-clause-divides c =
@@ -33,7 +35,9 @@ quotient-requires-2-clause-positive c =
     let x = c.ranges.x in
     let y = c.ranges.y in
     let g : SFits w128 c.gcd-common.result = fits_from_range _ c.gcd-common.ensures.in_range in
-    simp to_z-of_z (gcd_positive c.args.x c.args.y c.gcd-common.result c.requires.positive c.gcd-common.ensures.not_negative (simp to_z-of_z at c.gcd-common.ensures.greatest))
+    simp to_z-of_z
+    (gcd_positive c.args.x c.args.y c.gcd-common.result c.requires.positive
+    c.gcd-common.ensures.not_negative (simp to_z-of_z at c.gcd-common.ensures.greatest))
 
 pub returns-clause-lowest : goal.returns-clause-lowest
 returns-clause-lowest c =
@@ -42,7 +46,10 @@ returns-clause-lowest c =
     let g : SFits w128 c.gcd-common.result = fits_from_range _ c.gcd-common.ensures.in_range in
     let p : SFits w128 c.quotient.result = fits_from_range _ c.quotient.ensures.in_range in
     let q : SFits w128 c.quotient-2.result = fits_from_range _ c.quotient-2.ensures.in_range in
-    simp to_z-of_z (is_lowest c.args.x c.args.y c.gcd-common.result c.quotient.result c.quotient-2.result c.gcd-common.ensures.not_negative (simp to_z-of_z at c.gcd-common.ensures.greatest) (simp to_z-of_z at c.quotient.ensures.exact) (simp to_z-of_z at c.quotient-2.ensures.exact))
+    simp to_z-of_z
+    (is_lowest c.args.x c.args.y c.gcd-common.result c.quotient.result c.quotient-2.result
+    c.gcd-common.ensures.not_negative (simp to_z-of_z at c.gcd-common.ensures.greatest)
+    (simp to_z-of_z at c.quotient.ensures.exact) (simp to_z-of_z at c.quotient-2.ensures.exact))
 
 pub returns-clause-second_positive : goal.returns-clause-second_positive
 returns-clause-second_positive c =
@@ -52,7 +59,10 @@ returns-clause-second_positive c =
     let p : SFits w128 c.quotient.result = fits_from_range _ c.quotient.ensures.in_range in
     let q : SFits w128 c.quotient-2.result = fits_from_range _ c.quotient-2.ensures.in_range in
     let low : IsLowest c.args.x c.args.y c.quotient.result c.quotient-2.result =
-    is_lowest c.args.x c.args.y c.gcd-common.result c.quotient.result c.quotient-2.result c.gcd-common.ensures.not_negative (simp to_z-of_z at c.gcd-common.ensures.greatest) (simp to_z-of_z at c.quotient.ensures.exact) (simp to_z-of_z at c.quotient-2.ensures.exact) in
+    is_lowest c.args.x c.args.y c.gcd-common.result c.quotient.result c.quotient-2.result
+    c.gcd-common.ensures.not_negative (simp to_z-of_z at c.gcd-common.ensures.greatest)
+    (simp to_z-of_z at c.quotient.ensures.exact)
+    (simp to_z-of_z at c.quotient-2.ensures.exact) in
     simp to_z-of_z (lowest_positive c.requires.positive low)
 
 pub returns-clause-coprime : goal.returns-clause-coprime
@@ -63,5 +73,8 @@ returns-clause-coprime c =
     let p : SFits w128 c.quotient.result = fits_from_range _ c.quotient.ensures.in_range in
     let q : SFits w128 c.quotient-2.result = fits_from_range _ c.quotient-2.ensures.in_range in
     let low : IsLowest c.args.x c.args.y c.quotient.result c.quotient-2.result =
-    is_lowest c.args.x c.args.y c.gcd-common.result c.quotient.result c.quotient-2.result c.gcd-common.ensures.not_negative (simp to_z-of_z at c.gcd-common.ensures.greatest) (simp to_z-of_z at c.quotient.ensures.exact) (simp to_z-of_z at c.quotient-2.ensures.exact) in
+    is_lowest c.args.x c.args.y c.gcd-common.result c.quotient.result c.quotient-2.result
+    c.gcd-common.ensures.not_negative (simp to_z-of_z at c.gcd-common.ensures.greatest)
+    (simp to_z-of_z at c.quotient.ensures.exact)
+    (simp to_z-of_z at c.quotient-2.ensures.exact) in
     simp to_z-of_z (lowest_coprime c.requires.positive low)

@@ -16,10 +16,13 @@ returns-in-Ok-clause-ends g c =
     let new = g.F.Shelf.state c.say_tree.new.shelf in
     let file = c.args.file.now in
     let tree = c.args.tree.now in
-    let P : Status → List ℕ → Type 0 = Says (OnTree JsonWork mid.held tree c.in-Ok.problem) (λ other. other ≡ tree) mid new in
+    let P : Status → List ℕ → Type 0 =
+    Says (OnTree JsonWork mid.held tree c.in-Ok.problem) (λ other. other ≡ tree) mid new in
     let Q : Status → List ℕ → Type 0 = TwoFilesSay (OnTree JsonWork) file tree old new in
     Ends-from P Q c.args.out.now _ _ _ c.in-Ok.ensures.silent
-    (on_both-work (TreeSays JsonWork tree) file tree old mid new c.in-Ok.problem c.in-Ok.ensures.problem (c.problem_of.ensures.keeps.held tree) c.problem_of.ensures.keeps.later) c.say_tree.ensures.ends
+    (on_both-work (TreeSays JsonWork tree) file tree old mid new c.in-Ok.problem
+    c.in-Ok.ensures.problem (c.problem_of.ensures.keeps.held tree)
+    c.problem_of.ensures.keeps.later) c.say_tree.ensures.ends
 
 pub returns-in-Err-clause-ends : goal.returns-in-Err-clause-ends
 returns-in-Err-clause-ends g c =
@@ -28,7 +31,8 @@ returns-in-Err-clause-ends g c =
     let file = c.args.file.now in
     let tree = c.args.tree.now in
     let Q : Status → List ℕ → Type 0 = TwoFilesSay (OnTree JsonWork) file tree old new in
-    Ends-map _ Q c.args.out.now _ _ (on_both-faults (TreeSays JsonWork tree) file tree old new) c.in-Err.ensures.told
+    Ends-map _ Q c.args.out.now _ _ (on_both-faults (TreeSays JsonWork tree) file tree old new)
+    c.in-Err.ensures.told
 
 pub returns-in-Ok-clause-keeps : goal.returns-in-Ok-clause-keeps
 returns-in-Ok-clause-keeps g c = keeps_through _ _ _ c.in-Ok.ensures.keeps c.say_tree.ensures.keeps

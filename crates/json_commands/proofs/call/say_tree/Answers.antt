@@ -15,9 +15,11 @@ returns-in-Ok-clause-ends g c =
     let p = c.args.problem.now in
     let name = c.args.name.now in
     let read = c.in-Ok.ensures.tree in
-    let Q : Status → List ℕ → Type 0 = Says (OnTree JsonWork old.held name p) (λ other. other ≡ name) old new in
+    let Q : Status → List ℕ → Type 0 =
+    Says (OnTree JsonWork old.held name p) (λ other. other ≡ name) old new in
     Ends-from _ Q c.args.out.now _ _ _ c.in-Ok.ensures.silent
-    (Says-told (JsonWork p (claim_of c.in-Ok.claim) c.in-Ok.tree) (OnTree JsonWork old.held name p) (λ other. other ≡ name) old new
+    (Says-told (JsonWork p (claim_of c.in-Ok.claim) c.in-Ok.tree) (OnTree JsonWork old.held name p)
+    (λ other. other ≡ name) old new
     (λ s lines h. (read.0, read.1, inr (claim_of c.in-Ok.claim, c.in-Ok.tree, read.2, h))))
     c.say_stated.ensures
 
@@ -27,5 +29,8 @@ returns-in-Err-clause-ends g c =
     let new = g.F.Shelf.state c.tree_of.new.shelf in
     let p = c.args.problem.now in
     let name = c.args.name.now in
-    let Q : Status → List ℕ → Type 0 = Says (OnTree JsonWork old.held name p) (λ other. other ≡ name) old new in
-    Ends-map _ Q c.args.out.now _ _ (on_second-faults (TreeSays JsonWork name) (TreeFault name p) old new name p (λ file s lines h. inl h)) c.in-Err.ensures.told
+    let Q : Status → List ℕ → Type 0 =
+    Says (OnTree JsonWork old.held name p) (λ other. other ≡ name) old new in
+    Ends-map _ Q c.args.out.now _ _
+    (on_second-faults (TreeSays JsonWork name) (TreeFault name p) old new name p
+    (λ file s lines h. inl h)) c.in-Err.ensures.told

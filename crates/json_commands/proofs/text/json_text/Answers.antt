@@ -8,9 +8,14 @@ use Rattle.json_commands.proofs.text.json_text.Goals as goal
 pub returns : goal.returns
 returns c =
     let claim = claim_of c.args.claim.now in
-    let stated : c.in_ok-stated.stated ≡ text_member (codes "verdict") (verdict_word c.args.verdict) =
-    c.in_ok-stated.ensures ∙ ap (λ (words : List ℕ). text_member (codes "verdict") words) c.verdict_word.ensures in
+    let stated : c.in_ok-stated.stated
+    ≡ text_member (codes "verdict") (verdict_word c.args.verdict) =
+    c.in_ok-stated.ensures
+    ∙ ap (λ (words : List ℕ). text_member (codes "verdict") words) c.verdict_word.ensures in
     let claimed : c.in_ok-claimed.claimed ≡ text_member (codes "claim") (claim_word claim) =
-    c.in_ok-claimed.ensures ∙ ap (λ (words : List ℕ). text_member (codes "claim") words) c.claim_word.ensures in
+    c.in_ok-claimed.ensures
+    ∙ ap (λ (words : List ℕ). text_member (codes "claim") words) c.claim_word.ensures in
     c.in_ok-bytes.ensures
-    ∙ (λ i. text_of (lines_behind (stated i ∷ c.in_ok-node.ensures i ∷ c.in_ok-why.ensures i ∷ claimed i ∷ []) c.args.site.now claim))
+    ∙ (λ i. text_of
+    (lines_behind (stated i ∷ c.in_ok-node.ensures i ∷ c.in_ok-why.ensures i ∷ claimed i ∷ [])
+    c.args.site.now claim))

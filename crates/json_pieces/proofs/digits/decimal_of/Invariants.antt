@@ -8,5 +8,6 @@ invariant-loop-places l = record {
   division : l.fn.num * 10 ^ l.places ≡ l.number * l.fn.den + l.rest;
   rest : l.rest < l.fn.den;
   room : l.number < 2 ^ 127;
-  found : places_from (55 - l.places) l.places l.fn.num l.fn.den ≡ places_from 55 0 l.fn.num l.fn.den;
+  found : places_from (55 - l.places) l.places l.fn.num l.fn.den
+      ≡ places_from 55 0 l.fn.num l.fn.den;
 }

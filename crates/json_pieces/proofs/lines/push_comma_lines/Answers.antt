@@ -13,6 +13,9 @@ returns-in_ok-push_with_commas-in-Some c =
     let last = c.in-Some.last.now in
     let is : c.args.pieces.now ≡ front ++ last ∷ [] = c.in-Some.ensures.cases.0 in
     on_ok c.push_line.result _ _
-    (λ h. two_blocks old t1 t2 (map with_comma front) (last ∷ []) c.in_ok-push_with_commas-in-Some.ensures (h ∙ ap (λ (line : List ℕ). t1 ++ printed (line ∷ [])) c.bytes.ensures)
-    ∙ ap (λ (ls : List (List ℕ)). old ++ printed ls) (sym (comma_lines_last front last) ∙ ap comma_lines (sym is)))
+    (λ h. two_blocks old t1 t2 (map with_comma front) (last ∷ [])
+    c.in_ok-push_with_commas-in-Some.ensures
+    (h ∙ ap (λ (line : List ℕ). t1 ++ printed (line ∷ [])) c.bytes.ensures)
+    ∙ ap (λ (ls : List (List ℕ)). old ++ printed ls)
+    (sym (comma_lines_last front last) ∙ ap comma_lines (sym is)))
     c.push_line.ensures

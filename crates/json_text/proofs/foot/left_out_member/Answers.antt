@@ -10,6 +10,10 @@ returns c =
     let p = c.args.site.now in
     let w = c.args.network.now in
     let same = c.problem-problem.ensures.same in
-    let units : c.left_out-units.result ≡ left_out p w = c.left_out-units.ensures ∙ ap (λ (p : Problem). left_out p w) same in
-    let names : c.in_ok-names.names.items ≡ map (unit_name p) (left_out p w) = c.in_ok-names.ensures ∙ (λ i. map (unit_name (same i)) (units i)) in
-    c.in_ok-member.ensures ∙ ap (λ (v : List ℕ). member (codes "left_out") v) (c.in_ok-array.ensures ∙ ap array (c.deref.ensures.value ∙ names))
+    let units : c.left_out-units.result ≡ left_out p w =
+    c.left_out-units.ensures ∙ ap (λ (p : Problem). left_out p w) same in
+    let names : c.in_ok-names.names.items ≡ map (unit_name p) (left_out p w) =
+    c.in_ok-names.ensures ∙ (λ i. map (unit_name (same i)) (units i)) in
+    c.in_ok-member.ensures
+    ∙ ap (λ (v : List ℕ). member (codes "left_out") v)
+    (c.in_ok-array.ensures ∙ ap array (c.deref.ensures.value ∙ names))

@@ -4,4 +4,5 @@ use Rattle.json_rules.specs.Facts.{number_member}
 use Rattle.json_text.proofs.foot.materials_member.Goals as goal
 
 pub returns : goal.returns
-returns c = c.in_ok-member.ensures ∙ ap (λ (n : Number). number_member c.args.key.now n) c.cost_sum-sum.ensures
+returns c = c.in_ok-member.ensures
+    ∙ ap (λ (n : Number). number_member c.args.key.now n) c.cost_sum-sum.ensures

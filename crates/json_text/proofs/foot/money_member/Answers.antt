@@ -6,4 +6,6 @@ pub returns : goal.returns
 returns c =
     c.in_ok-member.ensures ∙ ap (λ (v : List ℕ). member (codes "money") v)
     (c.in_ok-money.ensures
-    ∙ (λ i. object (c.in_ok-fixed.ensures i ∷ c.in_ok-proportional.ensures i ∷ c.in_ok-investment.ensures i ∷ c.in_ok-costs.ensures i ∷ c.in_ok-incomes.ensures i ∷ c.in_ok-total.ensures i ∷ [])))
+    ∙ (λ i. object
+    (c.in_ok-fixed.ensures i ∷ c.in_ok-proportional.ensures i ∷ c.in_ok-investment.ensures i
+    ∷ c.in_ok-costs.ensures i ∷ c.in_ok-incomes.ensures i ∷ c.in_ok-total.ensures i ∷ [])))

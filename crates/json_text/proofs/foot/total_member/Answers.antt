@@ -6,4 +6,7 @@ use Rattle.json_text.proofs.foot.total_member.Goals as goal
 
 pub returns : goal.returns
 returns c =
-    c.in_ok-member.ensures ∙ ap (λ (n : Number). number_member (codes "total") n) (c.total-total.ensures ∙ ap (λ (p : Problem). total p c.args.network.now) c.problem.ensures.same)
+    c.in_ok-member.ensures
+    ∙ ap (λ (n : Number). number_member (codes "total") n)
+    (c.total-total.ensures
+    ∙ ap (λ (p : Problem). total p c.args.network.now) c.problem.ensures.same)

@@ -12,6 +12,10 @@ returns c =
     let t0 = c.args.text.now.items in
     let t1 = c.push_line.new.text.items in
     let t2 = c.push_with_commas.new.text.items in
-    three_blocks t0 t1 t2 c.push_with_commas-2.new.text.items ((123 ∷ []) ∷ []) (map with_comma c.args.head.now) (with_comma (counts_member p w) ∷ with_comma (payout_member p) ∷ [])
+    three_blocks t0 t1 t2 c.push_with_commas-2.new.text.items ((123 ∷ []) ∷ [])
+    (map with_comma c.args.head.now)
+    (with_comma (counts_member p w) ∷ with_comma (payout_member p) ∷ [])
     c.in_ok-push_line.ensures c.in_ok-push_with_commas.ensures
-    (c.in_ok-push_with_commas-2.ensures ∙ (λ i. t2 ++ printed (map with_comma (c.in_ok-counts.ensures i ∷ c.in_ok-payout.ensures i ∷ []))))
+    (c.in_ok-push_with_commas-2.ensures
+    ∙ (λ i. t2
+    ++ printed (map with_comma (c.in_ok-counts.ensures i ∷ c.in_ok-payout.ensures i ∷ []))))

@@ -13,13 +13,25 @@ returns c =
     let p = c.args.problem.now in
     let w = c.args.network.now in
     let j = c.args.j in
-    let name : c.in_ok-name.name ≡ text_member (codes "name") (material_at p j).name = c.in_ok-name.ensures ∙ ap (λ (t : List ℕ). text_member (codes "name") t) c.material_name.ensures in
+    let name : c.in_ok-name.name ≡ text_member (codes "name") (material_at p j).name =
+    c.in_ok-name.ensures
+    ∙ ap (λ (t : List ℕ). text_member (codes "name") t) c.material_name.ensures in
     let made : c.in_ok-made.made ≡ number_member (codes "made") (unit_sum (Made j) p w) =
-    c.in_ok-made.ensures ∙ ap (λ (n : Number). number_member (codes "made") n) c.unit_sum-amount.ensures in
+    c.in_ok-made.ensures
+    ∙ ap (λ (n : Number). number_member (codes "made") n) c.unit_sum-amount.ensures in
     let used : c.in_ok-used.used ≡ number_member (codes "used") (unit_sum (Used j) p w) =
-    c.in_ok-used.ensures ∙ ap (λ (n : Number). number_member (codes "used") n) c.unit_sum-amount-2.ensures in
-    let left : c.in_ok-left.left ≡ number_member (codes "net") (net p w j) = c.in_ok-left.ensures ∙ ap (λ (n : Number). number_member (codes "net") n) c.net.ensures in
-    let limit : c.in_ok-limit.limit ≡ limit_member (material_limit p w j) = c.in_ok-limit.ensures ∙ ap (λ (t : List ℕ). limit_member t) c.material_limit.ensures in
-    let money : c.in_ok-money.money ≡ number_member (codes "price") (price p j) = c.in_ok-money.ensures ∙ ap (λ (n : Number). number_member (codes "price") n) c.price.ensures in
-    let paid : c.in_ok-paid.paid ≡ number_member (codes "cost") (cost p w j) = c.in_ok-paid.ensures ∙ ap (λ (n : Number). number_member (codes "cost") n) c.cost.ensures in
-    c.in_ok-json.ensures ∙ (λ i. object (name i ∷ c.in_ok-kind.ensures i ∷ made i ∷ used i ∷ left i ∷ limit i ∷ money i ∷ paid i ∷ []))
+    c.in_ok-used.ensures
+    ∙ ap (λ (n : Number). number_member (codes "used") n) c.unit_sum-amount-2.ensures in
+    let left : c.in_ok-left.left ≡ number_member (codes "net") (net p w j) =
+    c.in_ok-left.ensures ∙ ap (λ (n : Number). number_member (codes "net") n) c.net.ensures in
+    let limit : c.in_ok-limit.limit ≡ limit_member (material_limit p w j) =
+    c.in_ok-limit.ensures ∙ ap (λ (t : List ℕ). limit_member t) c.material_limit.ensures in
+    let money : c.in_ok-money.money ≡ number_member (codes "price") (price p j) =
+    c.in_ok-money.ensures
+    ∙ ap (λ (n : Number). number_member (codes "price") n) c.price.ensures in
+    let paid : c.in_ok-paid.paid ≡ number_member (codes "cost") (cost p w j) =
+    c.in_ok-paid.ensures ∙ ap (λ (n : Number). number_member (codes "cost") n) c.cost.ensures in
+    c.in_ok-json.ensures
+    ∙ (λ i. object
+    (name i ∷ c.in_ok-kind.ensures i ∷ made i ∷ used i ∷ left i ∷ limit i ∷ money i ∷ paid i
+    ∷ []))

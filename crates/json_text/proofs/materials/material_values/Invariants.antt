@@ -7,6 +7,9 @@ use Rattle.json_text.proofs.materials.material_values.Given as goal
 -- the list so far and the values that are left give the whole list
 abbrev pub invariant-loop-j : goal.invariant-loop-j
 invariant-loop-j l = record {
-  within : IsWithin (has l.j-iterator) (has (materials_of (net_of l.fn.site) (has l.fn.network.units)));
-  values : l.values.items ++ map (material_json l.fn.site l.fn.network) l.j-iterator ≡ map (material_json l.fn.site l.fn.network) (materials_of (net_of l.fn.site) (has l.fn.network.units));
+  within : IsWithin (has l.j-iterator)
+      (has (materials_of (net_of l.fn.site) (has l.fn.network.units)));
+  values : l.values.items ++ map (material_json l.fn.site l.fn.network) l.j-iterator
+      ≡ map (material_json l.fn.site l.fn.network)
+      (materials_of (net_of l.fn.site) (has l.fn.network.units));
 }

@@ -6,10 +6,12 @@ pub returns-then-len-clause-next : goal.returns-then-len-clause-next
 returns-then-len-clause-next c =
     let ok = c.args.links.now.ok in
     let short : length c.args.links.now.items < c.args.len = omega arith in
-    next_resized c.args.links.now.items c.resize.new.self.items c.args.len _ short _ c.resize.ensures.items
+    next_resized c.args.links.now.items c.resize.new.self.items c.args.len _ short _
+    c.resize.ensures.items
 
 pub returns-then-len-clause-prev : goal.returns-then-len-clause-prev
 returns-then-len-clause-prev c =
     let ok = c.args.links.now.ok in
     let short : length c.args.links.now.items < c.args.len = omega arith in
-    prev_resized c.args.links.now.items c.resize.new.self.items c.args.len _ short _ c.resize.ensures.items
+    prev_resized c.args.links.now.items c.resize.new.self.items c.args.len _ short _
+    c.resize.ensures.items

@@ -8,7 +8,8 @@ use Rattle.max_structure.proofs.balance.balanced.Given as goal
 abbrev pub invariant-leave : goal.invariant-leave
 invariant-leave l = record {
   within : IsWithin (has l.left) (has l.fn.set);
-  keeps : (m o : ℕ → Bool) → Meets (shape l.graph) m o → IsWithin o (has l.fn.set) → IsWithin o (has l.left);
+  keeps : (m o : ℕ → Bool) → Meets (shape l.graph) m o → IsWithin o (has l.fn.set)
+      → IsWithin o (has l.left);
   covers : (y : ℕ) → BreaksS2 (shape l.graph) (has l.left) y → has l.waiting y ≡ true;
   known : (y : ℕ) → has l.waiting y ≡ true → y < (shape l.graph).materials;
 }

@@ -7,7 +7,13 @@ returns-then-is_broken c =
     let g = shape c.args.graph.now in
     let broken = c.is_broken.ensures.0 c.if-is_broken.true in
     record {
-      within = gone_within g c.args.set c.to_blame.result c.meet.result c.args.x broken c.to_blame.ensures c.meet.ensures;
-      keeps = gone_keeps g c.args.set c.to_blame.result c.meet.result c.args.x broken c.to_blame.ensures c.meet.ensures;
-      settles = gone_settles g c.args.set c.to_blame.result c.meet.result c.args.x broken c.to_blame.ensures c.meet.ensures;
+      within =
+          gone_within g c.args.set c.to_blame.result c.meet.result c.args.x broken
+          c.to_blame.ensures c.meet.ensures;
+      keeps =
+          gone_keeps g c.args.set c.to_blame.result c.meet.result c.args.x broken c.to_blame.ensures
+          c.meet.ensures;
+      settles =
+          gone_settles g c.args.set c.to_blame.result c.meet.result c.args.x broken
+          c.to_blame.ensures c.meet.ensures;
     }

@@ -6,5 +6,6 @@ use Rattle.max_structure.proofs.leaving.starved.Goals as goal
 
 pub returns-else-has-clause-starved : goal.returns-else-has-clause-starved
 returns-else-has-clause-starved c =
-    starved_is (shape c.args.graph.now) (has c.args.wanted) c.args.left c.consumers.result c.meet.result c.args.x c.consumers.ensures c.meet.ensures
+    starved_is (shape c.args.graph.now) (has c.args.wanted) c.args.left c.consumers.result
+    c.meet.result c.args.x c.consumers.ensures c.meet.ensures
     (sym c.is_made.ensures ∙ c.if-is_made.false) (sym c.has.ensures ∙ c.if-has.false)

@@ -6,4 +6,5 @@ use Rattle.messages.proofs.notes.append.Goals as goal
 pub returns : goal.returns
 returns c =
     subst AreSeconds (sym c.extend_from_slice.ensures.items)
-    (seconds-kept (is_ok c.extend_from_slice.result) c.args.bytes.now.items c.args.line.now.items _ c.requires.before c.requires.line (c.deref.ensures.value ∙ c.in_ok-push.ensures.items))
+    (seconds-kept (is_ok c.extend_from_slice.result) c.args.bytes.now.items c.args.line.now.items _
+    c.requires.before c.requires.line (c.deref.ensures.value ∙ c.in_ok-push.ensures.items))

@@ -13,11 +13,16 @@ loop-left-preserved c =
       | then-left-eq1+in_ok-sum w ↦ (rw w.sum-is (record {
         sum_below = w.in_ok-sum.ensures.below;
         power_below = c.in_ok-power.ensures.below;
-        whole = odd c.loop-left.left sum (w.in_ok-sum.sum.whole * c.args.den + w.in_ok-sum.sum.rest) power twice (c.args.factor * c.args.rest) w.if-left-eq1.true w.in_ok-sum.ensures.sum c.in_ok-power.ensures.sum i.whole;
+        whole =
+            odd c.loop-left.left sum (w.in_ok-sum.sum.whole * c.args.den + w.in_ok-sum.sum.rest)
+            power twice (c.args.factor * c.args.rest) w.if-left-eq1.true w.in_ok-sum.ensures.sum
+            c.in_ok-power.ensures.sum i.whole;
       }))
       | else-left-eq1 w ↦ (let h = w.if-left-eq1.false in rw w.sum-is (record {
         sum_below = i.sum_below;
         power_below = c.in_ok-power.ensures.below;
-        whole = even c.loop-left.left sum power twice (c.args.factor * c.args.rest) (omega arith) c.in_ok-power.ensures.sum i.whole;
+        whole =
+            even c.loop-left.left sum power twice (c.args.factor * c.args.rest) (omega arith)
+            c.in_ok-power.ensures.sum i.whole;
       }))
     ]

@@ -10,11 +10,14 @@ returns-in-Equal c =
     let l = c.args.left.now in
     let r = c.args.right.now in
     let told : c.cmp.result ≡ int_cmp l.whole r.whole = c.cmp.ensures in
-    c.compare_fractions.ensures ∙ rest_decides l.whole r.whole l.rest l.den r.rest r.den (int_ranked l.whole r.whole Equal (sym (sym told ∙ c.in-Equal.is)))
+    c.compare_fractions.ensures
+    ∙ rest_decides l.whole r.whole l.rest l.den r.rest r.den
+    (int_ranked l.whole r.whole Equal (sym (sym told ∙ c.in-Equal.is)))
 
 pub returns-in_default : goal.returns-in_default
 returns-in_default c =
     let l = c.args.left.now in
     let r = c.args.right.now in
     let told : c.cmp.result ≡ int_cmp l.whole r.whole = c.cmp.ensures in
-    told ∙ whole_decides l.whole r.whole l.rest l.den r.rest r.den l.below r.below (λ e. c.in_default.not-Equal (told ∙ e))
+    told ∙ whole_decides l.whole r.whole l.rest l.den r.rest r.den l.below r.below
+    (λ e. c.in_default.not-Equal (told ∙ e))

@@ -17,7 +17,9 @@ returns-in-Infeasible-clause-told g c =
     let p = c.args.site.now in
     let Q : Status → List ℕ → Type 0 = Tells (ClaimRefusal p (claim_of c.args.claim)) in
     Ends-map (OrMemory (Only BadClaim (line (claim_line Unknown)))) Q c.args.out.now _ _
-    (refusal_told p (claim_of c.args.claim) Unknown (subst (λ (k : Claim). IsRefusedFor p (claim_of k) Unknown) (sym c.in-Infeasible.is) refl)) c.say_none.ensures
+    (refusal_told p (claim_of c.args.claim) Unknown
+    (subst (λ (k : Claim). IsRefusedFor p (claim_of k) Unknown) (sym c.in-Infeasible.is) refl))
+    c.say_none.ensures
 
 pub returns-in-Err-clause-told : goal.returns-in-Err-clause-told
 returns-in-Err-clause-told g c =
@@ -25,4 +27,6 @@ returns-in-Err-clause-told g c =
     let claim = claim_of c.args.claim in
     let Q : Status → List ℕ → Type 0 = Tells (ClaimRefusal p claim) in
     Ends-map (OrMemory (Only BadClaim (line (claim_line c.in-Err.why)))) Q c.args.out.now _ _
-    (refusal_told p claim c.in-Err.why (refused_for p claim c.in-Err.why ((c.in-Err.ensures.fails c.in-Err.why).0 refl))) c.say_refused-in-Err.ensures
+    (refusal_told p claim c.in-Err.why
+    (refused_for p claim c.in-Err.why ((c.in-Err.ensures.fails c.in-Err.why).0 refl)))
+    c.say_refused-in-Err.ensures

@@ -17,7 +17,8 @@ returns-in-Ok g c =
     let Q : Status → List ℕ → Type 0 = Tells (ReportWork p claim c.args.tree.now) in
     let lines : List (List ℕ) = verdict_lines p claim c.in-Ok.verdict in
     Ends-map _ Q c.args.out.now _ _
-    (only_or_memory_in Q Done (text_of lines) (lines, (c.in-Ok.verdict, c.in-Ok.ensures.verdict, refl), refl) ([], inl refl, refl))
+    (only_or_memory_in Q Done (text_of lines)
+    (lines, (c.in-Ok.verdict, c.in-Ok.ensures.verdict, refl), refl) ([], inl refl, refl))
     (c.say_made.ensures lines c.verdict_text.ensures)
 
 pub returns-in-Err-Claim : goal.returns-in-Err-Claim
@@ -25,13 +26,17 @@ returns-in-Err-Claim g c =
     let p = c.args.site.now in
     let claim = claim_of c.args.claim.now in
     let Q : Status → List ℕ → Type 0 = Tells (ReportWork p claim c.args.tree.now) in
-    let fails : ClaimFails true p claim c.in-Err-Claim.why = (rw c.in-Err-Claim.field-0-is at c.in-Err-Claim.ensures.unjudged) in
+    let fails : ClaimFails true p claim c.in-Err-Claim.why =
+    (rw c.in-Err-Claim.field-0-is at c.in-Err-Claim.ensures.unjudged) in
     let told : List ℕ = claim_line c.in-Err-Claim.why in
     Ends-map _ Q c.args.out.now _ _
-    (only_or_memory_in Q BadClaim (line told) (told ∷ [], (c.in-Err-Claim.why, fails, refl), one_line told) ([], inl refl, refl))
+    (only_or_memory_in Q BadClaim (line told)
+    (told ∷ [], (c.in-Err-Claim.why, fails, refl), one_line told) ([], inl refl, refl))
     c.say_refused.ensures
 
 pub returns-in-Err-Memory : goal.returns-in-Err-Memory
 returns-in-Err-Memory g c =
-    let Q : Status → List ℕ → Type 0 = Tells (ReportWork c.args.site.now (claim_of c.args.claim.now) c.args.tree.now) in
-    Ends-map _ Q c.args.out.now _ _ (only_in Q Memory (line (codes "memory")) ([], inl refl, refl)) c.say_memory.ensures
+    let Q : Status → List ℕ → Type 0 =
+    Tells (ReportWork c.args.site.now (claim_of c.args.claim.now) c.args.tree.now) in
+    Ends-map _ Q c.args.out.now _ _ (only_in Q Memory (line (codes "memory")) ([], inl refl, refl))
+    c.say_memory.ensures

@@ -7,4 +7,7 @@ use Rattle.network_commands.proofs.report.say_reported.Goals as goal
 
 pub returns : goal.returns
 returns g c =
-    subst (λ (p : Problem). Ends (Tells (ReportWork p (claim_of c.args.claim.now) c.args.tree.now)) c.args.out.now c.say_judged.new.out c.say_judged.result) c.of-site.ensures c.say_judged.ensures
+    subst
+    (λ (p : Problem). Ends (Tells (ReportWork p (claim_of c.args.claim.now) c.args.tree.now))
+    c.args.out.now c.say_judged.new.out c.say_judged.result) c.of-site.ensures
+    c.say_judged.ensures

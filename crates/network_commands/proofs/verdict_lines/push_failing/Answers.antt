@@ -12,7 +12,10 @@ returns c =
     let t4 = string_bytes c.push_str-2.new.self in
     let node = decimal c.args.node in
     let why = why_word c.args.why in
-    after (string_bytes c.args.text.now) t1 t4 (codes "NOT PROVED: node ") (node ++ 32 ∷ why) c.in_ok-push_str.ensures.bytes
+    after (string_bytes c.args.text.now) t1 t4 (codes "NOT PROVED: node ") (node ++ 32 ∷ why)
+    c.in_ok-push_str.ensures.bytes
     (after t1 t2 t4 node (32 ∷ why) c.in_ok-write.ensures.bytes
-    (after t2 t3 t4 (32 ∷ []) why (c.in_ok-push.ensures.bytes ∙ ap (λ (t : List ℕ). t2 ++ t) (c.in_ok-push.ensures.ascii (omega arith)))
+    (after t2 t3 t4 (32 ∷ []) why
+    (c.in_ok-push.ensures.bytes
+    ∙ ap (λ (t : List ℕ). t2 ++ t) (c.in_ok-push.ensures.ascii (omega arith)))
     (c.in_ok-push_str-2.ensures.bytes ∙ ap (λ (t : List ℕ). t3 ++ t) c.why_word.ensures)))

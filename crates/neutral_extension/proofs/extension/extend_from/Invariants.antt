@@ -12,7 +12,8 @@ use Rattle.neutral_extension.proofs.extension.extend_from.Given as goal
 
 abbrev pub invariant-steps : goal.invariant-steps
 invariant-steps l = record {
-  path : Leads (shape l.graph) (node_of l.fn.node) (map step_of l.steps.items) (node_of l.leaf.node);
+  path : Leads (shape l.graph) (node_of l.fn.node) (map step_of l.steps.items)
+      (node_of l.leaf.node);
   sound : IsSound (shape l.graph) (node_of l.leaf.node);
   stands : Stands (shape l.graph) l.leaf;
   follows : Follows (shape l.graph) l.makers l.leaf;
@@ -23,4 +24,5 @@ invariant-steps l = record {
 }
 
 abbrev pub decreases-steps : goal.decreases-steps
-decreases-steps l = length (listed (shape l.graph).units (is_free (shape l.graph) (node_of l.leaf.node)))
+decreases-steps l =
+    length (listed (shape l.graph).units (is_free (shape l.graph) (node_of l.leaf.node)))

@@ -13,7 +13,9 @@ push_back-requires-clause-free c =
     let inv = c.loop-u.invariant in
     let head = c.in-Some.ensures.steps in
     let before = subst (IsSet 128) head inv.is_set in
-    fill_free c.args.lists.now c.loop-u.lists x u c.args.set c.loop-u.u-iterator c.next.new.self c.into_iter-u-iterator.ensures.into_iter_gives.1.rising c.requires.list.0 c.requires.bands inv.count inv.here inv.others before.below.0 head
+    fill_free c.args.lists.now c.loop-u.lists x u c.args.set c.loop-u.u-iterator c.next.new.self
+    c.into_iter-u-iterator.ensures.into_iter_gives.1.rising c.requires.list.0 c.requires.bands
+    inv.count inv.here inv.others before.below.0 head
 
 pub loop-u-preserved : goal.loop-u-preserved
 loop-u-preserved c =
@@ -26,9 +28,15 @@ loop-u-preserved c =
     record {
       is_set = record { rising = before.rising.1; below = before.below.1 };
       cells = ap (λ (r : Rows). r.cells) is ∙ inv.cells;
-      count = ap (λ (r : Rows). length r.lists) is ∙ (length-pushed c.loop-u.lists.lists x (cell_at x u) ∙ inv.count);
+      count = ap (λ (r : Rows). length r.lists) is
+          ∙ (length-pushed c.loop-u.lists.lists x (cell_at x u) ∙ inv.count);
       stack = ap (λ (r : Rows). r.stack) is ∙ inv.stack;
       here = ap (λ (r : Rows). row r.lists x ++ map (cell_at x) c.next.new.self) is
-          ∙ fill_here c.args.lists.now c.loop-u.lists x u c.args.set c.loop-u.u-iterator c.next.new.self c.into_iter-u-iterator.ensures.into_iter_gives.1.rising c.requires.list.0 c.requires.bands inv.count inv.here inv.others before.below.0 head;
-      others = λ y ne. ap (λ (r : Rows). row r.lists y) is ∙ fill_others c.args.lists.now c.loop-u.lists x u c.args.set c.loop-u.u-iterator c.next.new.self c.into_iter-u-iterator.ensures.into_iter_gives.1.rising c.requires.list.0 c.requires.bands inv.count inv.here inv.others before.below.0 head y ne;
+          ∙ fill_here c.args.lists.now c.loop-u.lists x u c.args.set c.loop-u.u-iterator
+          c.next.new.self c.into_iter-u-iterator.ensures.into_iter_gives.1.rising
+          c.requires.list.0 c.requires.bands inv.count inv.here inv.others before.below.0 head;
+      others = λ y ne. ap (λ (r : Rows). row r.lists y) is
+          ∙ fill_others c.args.lists.now c.loop-u.lists x u c.args.set c.loop-u.u-iterator
+          c.next.new.self c.into_iter-u-iterator.ensures.into_iter_gives.1.rising c.requires.list.0
+          c.requires.bands inv.count inv.here inv.others before.below.0 head y ne;
     }

@@ -21,7 +21,8 @@ returns c =
     let size = all.count in (
       f.0,
       all,
-      open_is c.loop-x.lists f.0 (inv.cells ∙ ap (λ n. n * 128) (sym size)) (inv.count ∙ sym size) inv.stack (λ y lt. f.1.filled y (omega arith)),
+      open_is c.loop-x.lists f.0 (inv.cells ∙ ap (λ n. n * 128) (sym size)) (inv.count ∙ sym size)
+          inv.stack (λ y lt. f.1.filled y (omega arith)),
     )
 
 pub loop-x-preserved : goal.loop-x-preserved
@@ -35,7 +36,9 @@ loop-x-preserved c =
       stack = is.stack;
       filled = (
         f.0 ++ c.producers-producers.result ∷ [],
-        filled_more (shape c.args.graph.now) c.loop-x.x c.loop-x.lists.lists c.fill.new.lists.lists f.0 c.producers-producers.result c.producers-producers.ensures c.rises.ensures is.here is.others f.1,
+        filled_more (shape c.args.graph.now) c.loop-x.x c.loop-x.lists.lists c.fill.new.lists.lists
+            f.0 c.producers-producers.result c.producers-producers.ensures c.rises.ensures is.here
+            is.others f.1,
       );
       empty = λ y le. is.others y (λ e. omega arith) ∙ inv.empty y (omega arith);
     }

@@ -6,10 +6,17 @@ use Rattle.neutral_extension.proofs.makers.relink_cells.Goals as goal
 
 pub relink_from-requires-clause-out : goal.relink_from-requires-clause-out
 relink_from-requires-clause-out c =
-    let k = c.requires.out in
-    (k.0, 0, omega arith, k.1, from_all (shape c.args.graph.now).makes c.args.u c.outputs_of.result c.outputs_of.ensures)
+    let k = c.requires.out in (
+      k.0,
+      0,
+      omega arith,
+      k.1,
+      from_all (shape c.args.graph.now).makes c.args.u c.outputs_of.result c.outputs_of.ensures,
+    )
 
 pub returns : goal.returns
 returns c = λ b out.
     let makes = (shape c.args.graph.now).makes in
-    c.relink_from.ensures b 0 (omega arith) out (from_all makes c.args.u c.outputs_of.result c.outputs_of.ensures) ∙ ap (out_cells b) (cells_none makes c.args.u)
+    c.relink_from.ensures b 0 (omega arith) out
+    (from_all makes c.args.u c.outputs_of.result c.outputs_of.ensures)
+    ∙ ap (out_cells b) (cells_none makes c.args.u)

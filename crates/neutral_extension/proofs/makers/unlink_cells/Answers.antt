@@ -3,7 +3,8 @@ use Rattle.number_sets.specs.Sets.{has, first, IsSet}
 use Rattle.link_lists.specs.Lists.{Rows, unlinked, IsListed}
 use Rattle.pgraph.specs.Tables.{shape}
 use Rattle.neutral_extension.specs.Cells.{cell_at, unit_cells, out_cells}
-use Rattle.neutral_extension.proofs.OutLemmas.{out_cells_push, cells_more, cells_none, from_all, from_none, from_made, from_cells, from_rest}
+use Rattle.neutral_extension.proofs.OutLemmas.{out_cells_push, cells_more, cells_none, from_all}
+use Rattle.neutral_extension.proofs.OutLemmas.{from_none, from_made, from_cells, from_rest}
 use Rattle.neutral_extension.proofs.makers.unlink_cells.Goals as goal
 
 pub loop-x-init : goal.loop-x-init
@@ -15,7 +16,8 @@ loop-x-init c =
       out = (
         0,
         omega arith,
-        from_all makes c.args.u c.into_iter-x-iterator.result (ap (λ (xs : List ℕ). has xs) into.0 ∙ c.outputs_of-x-items.ensures),
+        from_all makes c.args.u c.into_iter-x-iterator.result
+            (ap (λ (xs : List ℕ). has xs) into.0 ∙ c.outputs_of-x-items.ensures),
         ap (out_cells c.args.lists.now) (sym (cells_none makes c.args.u)),
       );
     }
@@ -32,7 +34,8 @@ unlink-requires c =
     let head : first left ≡ Some x = ap first steps in
     let m = from_made g.makes u out.0 left out.2 x rising head in
     let e = from_cells g.makes u out.0 left out.2 x rising head in
-    subst (λ (k : Rows). IsListed k.lists (cell_at x u)) (sym (out.3 ∙ ap (out_cells c.args.lists.now) (sym e)))
+    subst (λ (k : Rows). IsListed k.lists (cell_at x u))
+    (sym (out.3 ∙ ap (out_cells c.args.lists.now) (sym e)))
     (c.requires.listed x (c.is_proper.ensures.proper.output_known u x m) m)
 
 pub loop-x-preserved : goal.loop-x-preserved
@@ -57,7 +60,8 @@ loop-x-preserved c =
         from_rest g.makes u out.0 left out.2 x rising head c.next.new.self steps,
         c.unlink.ensures.unlinked
             ∙ (ap (λ k. unlinked k (cell_at x u)) (out.3 ∙ ap (out_cells c.args.lists.now) (sym e))
-            ∙ (sym (out_cells_push c.args.lists.now (unit_cells g.makes u x) (cell_at x u)) ∙ ap (out_cells c.args.lists.now) (sym (cells_more g.makes u x m)))),
+            ∙ (sym (out_cells_push c.args.lists.now (unit_cells g.makes u x) (cell_at x u))
+            ∙ ap (out_cells c.args.lists.now) (sym (cells_more g.makes u x m)))),
       );
     }
 
@@ -65,4 +69,7 @@ pub returns : goal.returns
 returns c =
     let g = shape c.args.graph.now in
     let out = c.loop-x.invariant.out in
-    out.3 ∙ ap (out_cells c.args.lists.now) (sym (from_none g.makes c.args.u out.0 c.loop-x.x-iterator out.2 g.materials out.1 c.in-None.ensures.steps.0))
+    out.3 ∙ ap (out_cells c.args.lists.now)
+    (sym
+    (from_none g.makes c.args.u out.0 c.loop-x.x-iterator out.2 g.materials out.1
+    c.in-None.ensures.steps.0))

@@ -11,4 +11,6 @@ returns c =
     let d = node_of c.args.leaf.now.node in
     let P = IsDead g d in
     subst (λ o. MatchOption o (IsNever P) (IsFirst P)) (sym c.least.ensures)
-    (dead_found g d c.meet-dead.result c.args.leaf.now.intake.needed c.args.leaf.now.scarce.unmade c.meet-dead.ensures c.requires.intake.needed c.requires.unmade c.is_proper.ensures.proper c.rises.ensures.rising)
+    (dead_found g d c.meet-dead.result c.args.leaf.now.intake.needed c.args.leaf.now.scarce.unmade
+    c.meet-dead.ensures c.requires.intake.needed c.requires.unmade c.is_proper.ensures.proper
+    c.rises.ensures.rising)

@@ -12,4 +12,8 @@ returns c =
     let d = node_of c.args.leaf.now.node in
     let P = λ (x : ℕ). IsPossible g d (starve x) in
     subst (λ o. MatchOption o (IsNever P) (IsFirst P)) (sym c.least.ensures)
-    (starved_found g d c.requires.sound.apart c.is_proper.ensures.proper c.minus-starved.result c.minus-unused.result c.meet.result c.args.leaf.now.scarce.unmade c.args.leaf.now.used c.args.leaf.now.intake.used c.raws.result c.minus-unused.ensures c.meet.ensures c.minus-starved.ensures c.requires.stands.used c.requires.stands.intake.used c.requires.stands.unmade c.raws.ensures c.rises.ensures.rising)
+    (starved_found g d c.requires.sound.apart c.is_proper.ensures.proper c.minus-starved.result
+    c.minus-unused.result c.meet.result c.args.leaf.now.scarce.unmade c.args.leaf.now.used
+    c.args.leaf.now.intake.used c.raws.result c.minus-unused.ensures c.meet.ensures
+    c.minus-starved.ensures c.requires.stands.used c.requires.stands.intake.used
+    c.requires.stands.unmade c.raws.ensures c.rises.ensures.rising)

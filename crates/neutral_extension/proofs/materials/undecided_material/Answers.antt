@@ -11,4 +11,6 @@ returns c =
     let d = node_of c.args.leaf.now.node in
     let P = IsUndecided g d in
     subst (λ o. MatchOption o (IsNever P) (IsFirst P)) (sym c.least.ensures)
-    (undecided_found g d c.meet-undecided.result c.args.leaf.now.intake.needed c.made.result c.free_units-free.result c.meet-undecided.ensures c.requires.intake.needed c.made.ensures c.free_units-free.ensures.is c.rises.ensures.rising)
+    (undecided_found g d c.meet-undecided.result c.args.leaf.now.intake.needed c.made.result
+    c.free_units-free.result c.meet-undecided.ensures c.requires.intake.needed c.made.ensures
+    c.free_units-free.ensures.is c.rises.ensures.rising)

@@ -12,7 +12,9 @@ returns-clause-stands c =
     let k = c.args.makers.now in
     let d = node_of c.args.node in
     let proper = c.is_proper.ensures.proper in
-    let counted = subst (λ (n : ℕ). IsCounted k n (λ x. false) c.scarce_of.result) c.material_count.ensures c.scarce_of.ensures in
+    let counted =
+    subst (λ (n : ℕ). IsCounted k n (λ x. false) c.scarce_of.result) c.material_count.ensures
+    c.scarce_of.ensures in
     record {
       intake = c.intake_of.ensures;
       unmade = unmade_at g k d proper c.requires.same c.requires.out c.scarce_of.result counted;

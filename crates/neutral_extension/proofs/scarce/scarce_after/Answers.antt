@@ -10,23 +10,30 @@ use Rattle.neutral_extension.proofs.scarce.scarce_after.Goals as goal
 pub loop-x-init : goal.loop-x-init
 loop-x-init c =
     let g = shape c.args.graph.now in
-    let made = ap (λ (xs : List ℕ). has xs) c.into_iter-x-iterator.ensures.into_iter_gives.0 ∙ c.made-x-items.ensures in
+    let made = ap (λ (xs : List ℕ). has xs) c.into_iter-x-iterator.ensures.into_iter_gives.0
+    ∙ c.made-x-items.ensures in
     record {
       known = λ x h.
           let k = is_made-some g (has c.args.gone) x (sym (ap (λ (f : ℕ → Bool). f x) made) ∙ h) in
           c.is_proper.ensures.proper.output_known k.0 x k.3;
-      counted = subst (λ (b : ℕ → Bool). IsCounted c.args.makers.now g.materials b c.args.scarce.now) (sym made) c.requires.others;
+      counted =
+          subst (λ (b : ℕ → Bool). IsCounted c.args.makers.now g.materials b c.args.scarce.now)
+          (sym made) c.requires.others;
     }
 
 pub counted_at-scarce-requires-clause-material : goal.counted_at-scarce-requires-clause-material
 counted_at-scarce-requires-clause-material c =
-    let lt = c.loop-x.invariant.known c.in-Some.x (head_had c.loop-x.x-iterator c.in-Some.x c.next.new.self c.in-Some.ensures.steps) in
+    let lt =
+    c.loop-x.invariant.known c.in-Some.x
+    (head_had c.loop-x.x-iterator c.in-Some.x c.next.new.self c.in-Some.ensures.steps) in
     let all = c.requires.all in
     omega arith
 
 pub counted_at-scarce-requires-clause-few : goal.counted_at-scarce-requires-clause-few
 counted_at-scarce-requires-clause-few c =
-    let lt = c.loop-x.invariant.known c.in-Some.x (head_had c.loop-x.x-iterator c.in-Some.x c.next.new.self c.in-Some.ensures.steps) in
+    let lt =
+    c.loop-x.invariant.known c.in-Some.x
+    (head_had c.loop-x.x-iterator c.in-Some.x c.next.new.self c.in-Some.ensures.steps) in
     let few = c.is_proper.ensures.few_materials in
     omega arith
 
@@ -44,7 +51,13 @@ loop-x-preserved c =
     record {
       known = λ y h. inv.known y (rest_had c.loop-x.x-iterator x rest y head h);
       counted = record {
-        unmade = told_more rest c.loop-x.scarce.unmade new.unmade (λ y. nat_lt y n && is_empty (left k y)) x (is_empty (left k x)) before.unmade (below_is n x (is_empty (left k x)) lt) c.counted_at-scarce.ensures.unmade;
-        single = told_more rest c.loop-x.scarce.single new.single (λ y. nat_lt y n && is_single (left k y)) x (is_single (left k x)) before.single (below_is n x (is_single (left k x)) lt) c.counted_at-scarce.ensures.single;
+        unmade =
+            told_more rest c.loop-x.scarce.unmade new.unmade
+            (λ y. nat_lt y n && is_empty (left k y)) x (is_empty (left k x)) before.unmade
+            (below_is n x (is_empty (left k x)) lt) c.counted_at-scarce.ensures.unmade;
+        single =
+            told_more rest c.loop-x.scarce.single new.single
+            (λ y. nat_lt y n && is_single (left k y)) x (is_single (left k x)) before.single
+            (below_is n x (is_single (left k x)) lt) c.counted_at-scarce.ensures.single;
       };
     }

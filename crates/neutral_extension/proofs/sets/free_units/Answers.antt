@@ -17,8 +17,12 @@ returns-clause-is c = λ i. λ u.
     (ap (λ xs. has xs u) c.minus.ensures
     ∙ (has-minus c.remaining_units.result c.args.node.now.inside u
     ∙ (ap (λ (f : ℕ → Bool). f u && not (has c.args.node.now.inside u)) c.remaining_units.ensures.is
-    ∙ table (nat_lt u (shape c.args.graph.now).units) (has c.args.node.now.outside u) (has c.args.node.now.inside u)))) i
+    ∙ table (nat_lt u (shape c.args.graph.now).units) (has c.args.node.now.outside u)
+    (has c.args.node.now.inside u)))) i
 
 pub returns-clause-known : goal.returns-clause-known
 returns-clause-known c = λ u h.
-    c.remaining_units.ensures.known u (and_parts (has c.remaining_units.result u) (not (has c.args.node.now.inside u)) (sym (has-minus c.remaining_units.result c.args.node.now.inside u) ∙ (sym (ap (λ xs. has xs u) c.minus.ensures) ∙ h))).0
+    c.remaining_units.ensures.known u
+    (and_parts (has c.remaining_units.result u) (not (has c.args.node.now.inside u))
+    (sym (has-minus c.remaining_units.result c.args.node.now.inside u)
+    ∙ (sym (ap (λ xs. has xs u) c.minus.ensures) ∙ h))).0

@@ -11,8 +11,12 @@ loop-x-preserved c = λ u.
     let x = c.loop-x.x in
     let is_raw = c.has.ensures ∙ ap (λ (f : ℕ → Bool). f x) c.raws-raws.ensures in
     elim c.if-has.branch [
-      | then-has w ↦ subst (λ (xs : List ℕ). (has xs u ≡ true) ↔ MakesRawBelow g (x + 1) u) (sym w.found-is)
-          (raw_more g x u c.loop-x.found w.producers.result w.union-found.result w.union-found.ensures w.producers.ensures (sym is_raw ∙ w.if-has.true) (c.loop-x.invariant u))
-      | else-has w ↦ subst (λ (xs : List ℕ). (has xs u ≡ true) ↔ MakesRawBelow g (x + 1) u) (sym w.found-is)
+      | then-has w
+          ↦ subst (λ (xs : List ℕ). (has xs u ≡ true) ↔ MakesRawBelow g (x + 1) u) (sym w.found-is)
+          (raw_more g x u c.loop-x.found w.producers.result w.union-found.result
+          w.union-found.ensures w.producers.ensures (sym is_raw ∙ w.if-has.true)
+          (c.loop-x.invariant u))
+      | else-has w
+          ↦ subst (λ (xs : List ℕ). (has xs u ≡ true) ↔ MakesRawBelow g (x + 1) u) (sym w.found-is)
           (raw_same g x u c.loop-x.found (sym is_raw ∙ w.if-has.false) (c.loop-x.invariant u))
     ]

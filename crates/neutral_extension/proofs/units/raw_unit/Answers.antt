@@ -12,4 +12,5 @@ returns c =
     let d = node_of c.args.leaf.now.node in
     let P = λ (u : ℕ). IsPossible g d (raw u) in
     subst (λ o. MatchOption o (IsNever P) (IsFirst P)) (sym c.least.ensures)
-    (raw_found g d c.meet-found.result c.free_units.result c.args.leaf.now.raw_makers c.meet-found.ensures c.free_units.ensures.is c.requires.raw_makers c.rises.ensures.rising)
+    (raw_found g d c.meet-found.result c.free_units.result c.args.leaf.now.raw_makers
+    c.meet-found.ensures c.free_units.ensures.is c.requires.raw_makers c.rises.ensures.rising)

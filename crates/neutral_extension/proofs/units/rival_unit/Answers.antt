@@ -12,4 +12,6 @@ returns c =
     let d = node_of c.args.leaf.now.node in
     let P = λ (u : ℕ). IsPossible g d (rival u) in
     subst (λ o. MatchOption o (IsNever P) (IsFirst P)) (sym c.least.ensures)
-    (rival_found g d c.meet-found.result c.free_units.result c.args.leaf.now.intake.rivals c.meet-found.ensures c.free_units.ensures.is c.requires.intake.rivals c.rises.ensures.rising)
+    (rival_found g d c.meet-found.result c.free_units.result c.args.leaf.now.intake.rivals
+    c.meet-found.ensures c.free_units.ensures.is c.requires.intake.rivals
+    c.rises.ensures.rising)

@@ -9,8 +9,10 @@ use Rattle.node_evaluation.proofs.children.look_at_children.Given as goal
 abbrev pub invariant-options : goal.invariant-options
 invariant-options g l = record {
   looked : AreLooked g.E.Evaluator.past l.site (node_of l.node) (way_of l.choice) l.children;
-  solved : l.all ≡ true → AreSolvedBy l.site (cells_of l.children.nodes.items) l.children.networks.items;
-  done : options_in l.children ++ drop l.option-index l.option-items ≡ options_at (shape_of l.site) (node_of l.node) (way_of l.choice);
+  solved : l.all ≡ true
+      → AreSolvedBy l.site (cells_of l.children.nodes.items) l.children.networks.items;
+  done : options_in l.children ++ drop l.option-index l.option-items
+      ≡ options_at (shape_of l.site) (node_of l.node) (way_of l.choice);
   own : g.E.Evaluator.values l.site l.workspace.evaluator;
   makers : l.workspace.makers.makers ≡ l.fn.workspace.makers.makers;
 }

@@ -17,39 +17,75 @@ pub look_first-requires-clause-first : goal.look_first-requires-clause-first
 look_first-requires-clause-first g c =
     let x = c.in_ok-extended.extended in
     let p = c.args.site.now in
-    let ends : EndsAt (shape_of p) (node_of x.node) (stop_of x.end) = (moved (shape c.graph-graph.result.now) (shape_of p) c.graph-graph.ensures.same (node_of c.args.start) (map step_of x.steps.items) (node_of x.node) (stop_of x.end) c.in_ok-extended.ensures.extends).ends in
-    let first : EndsAt (shape_of p) (node_of x.node) (branch c.in-Branch.material) = subst (λ (s : Stop). EndsAt (shape_of p) (node_of x.node) (stop_of s)) c.in-Branch.is ends in
-    subst (λ (m : Node). IsFirst (IsUndecided (shape_of p) (node_of m)) c.in-Branch.material) (sym (ap (λ (d : Cell). d.node) c.open_cell-cell.ensures)) first.1
+    let ends : EndsAt (shape_of p) (node_of x.node) (stop_of x.end) =
+    (moved (shape c.graph-graph.result.now) (shape_of p) c.graph-graph.ensures.same
+    (node_of c.args.start) (map step_of x.steps.items) (node_of x.node) (stop_of x.end)
+    c.in_ok-extended.ensures.extends).ends in
+    let first : EndsAt (shape_of p) (node_of x.node) (branch c.in-Branch.material) =
+    subst (λ (s : Stop). EndsAt (shape_of p) (node_of x.node) (stop_of s)) c.in-Branch.is
+    ends in
+    subst (λ (m : Node). IsFirst (IsUndecided (shape_of p) (node_of m)) c.in-Branch.material)
+    (sym (ap (λ (d : Cell). d.node) c.open_cell-cell.ensures)) first.1
 
 pub returns-in-Dead-clause-looked : goal.returns-in-Dead-clause-looked
 returns-in-Dead-clause-looked g c =
     let x = c.in_ok-extended.extended in
     let p = c.args.site.now in
-    let ends : EndsAt (shape_of p) (node_of x.node) (stop_of x.end) = (moved (shape c.graph-graph.result.now) (shape_of p) c.graph-graph.ensures.same (node_of c.args.start) (map step_of x.steps.items) (node_of x.node) (stop_of x.end) c.in_ok-extended.ensures.extends).ends in
-    let end : EndsAt (shape_of p) (node_of x.node) (dead c.in-Dead.material) = subst (λ (s : Stop). EndsAt (shape_of p) (node_of x.node) (stop_of s)) c.in-Dead.is ends in
-    looked_closed g.E.Evaluator.past p (shape c.graph-graph.result.now) c.graph-graph.ensures.same (node_of c.args.start) c.args.option (map step_of x.steps.items) c.from_vec.result x.node (stop_of x.end)
-    c.open_cell-cell.result (proper_if_valid c.args.site.now c.problem.ensures.valid) c.requires.option c.from_vec.ensures c.open_cell-cell.ensures c.in_ok-extended.ensures.extends c.closed.result (leaves.dead c.in-Dead.material)
-    c.closed.ensures.cell c.closed.ensures.network c.closed.ensures.stop (λ (e : leaves.dead c.in-Dead.material ≡ leaves.untried). cc) refl end.0
-    (known_dead p (proper_if_valid p c.problem.ensures.valid) (node_of x.node) c.in-Dead.material end.0)
+    let ends : EndsAt (shape_of p) (node_of x.node) (stop_of x.end) =
+    (moved (shape c.graph-graph.result.now) (shape_of p) c.graph-graph.ensures.same
+    (node_of c.args.start) (map step_of x.steps.items) (node_of x.node) (stop_of x.end)
+    c.in_ok-extended.ensures.extends).ends in
+    let end : EndsAt (shape_of p) (node_of x.node) (dead c.in-Dead.material) =
+    subst (λ (s : Stop). EndsAt (shape_of p) (node_of x.node) (stop_of s)) c.in-Dead.is ends in
+    looked_closed g.E.Evaluator.past p (shape c.graph-graph.result.now) c.graph-graph.ensures.same
+    (node_of c.args.start) c.args.option (map step_of x.steps.items) c.from_vec.result x.node
+    (stop_of x.end)
+    c.open_cell-cell.result (proper_if_valid c.args.site.now c.problem.ensures.valid)
+    c.requires.option c.from_vec.ensures c.open_cell-cell.ensures
+    c.in_ok-extended.ensures.extends c.closed.result (leaves.dead c.in-Dead.material)
+    c.closed.ensures.cell c.closed.ensures.network c.closed.ensures.stop
+    (λ (e : leaves.dead c.in-Dead.material ≡ leaves.untried). cc) refl end.0
+    (known_dead p (proper_if_valid p c.problem.ensures.valid) (node_of x.node) c.in-Dead.material
+    end.0)
 
 pub returns-in-Clash-clause-looked : goal.returns-in-Clash-clause-looked
 returns-in-Clash-clause-looked g c =
     let x = c.in_ok-extended.extended in
     let p = c.args.site.now in
-    let ends : EndsAt (shape_of p) (node_of x.node) (stop_of x.end) = (moved (shape c.graph-graph.result.now) (shape_of p) c.graph-graph.ensures.same (node_of c.args.start) (map step_of x.steps.items) (node_of x.node) (stop_of x.end) c.in_ok-extended.ensures.extends).ends in
-    let end : EndsAt (shape_of p) (node_of x.node) (clash c.in-Clash.exclusion) = subst (λ (s : Stop). EndsAt (shape_of p) (node_of x.node) (stop_of s)) c.in-Clash.is ends in
-    looked_closed g.E.Evaluator.past p (shape c.graph-graph.result.now) c.graph-graph.ensures.same (node_of c.args.start) c.args.option (map step_of x.steps.items) c.from_vec.result x.node (stop_of x.end)
-    c.open_cell-cell.result (proper_if_valid c.args.site.now c.problem.ensures.valid) c.requires.option c.from_vec.ensures c.open_cell-cell.ensures c.in_ok-extended.ensures.extends c.closed-in-Clash.result (leaves.clash c.in-Clash.exclusion)
-    c.closed-in-Clash.ensures.cell c.closed-in-Clash.ensures.network c.closed-in-Clash.ensures.stop (λ (e : leaves.clash c.in-Clash.exclusion ≡ leaves.untried). cc) refl end.1.0 end.1.0.known
+    let ends : EndsAt (shape_of p) (node_of x.node) (stop_of x.end) =
+    (moved (shape c.graph-graph.result.now) (shape_of p) c.graph-graph.ensures.same
+    (node_of c.args.start) (map step_of x.steps.items) (node_of x.node) (stop_of x.end)
+    c.in_ok-extended.ensures.extends).ends in
+    let end : EndsAt (shape_of p) (node_of x.node) (clash c.in-Clash.exclusion) =
+    subst (λ (s : Stop). EndsAt (shape_of p) (node_of x.node) (stop_of s)) c.in-Clash.is ends in
+    looked_closed g.E.Evaluator.past p (shape c.graph-graph.result.now) c.graph-graph.ensures.same
+    (node_of c.args.start) c.args.option (map step_of x.steps.items) c.from_vec.result x.node
+    (stop_of x.end)
+    c.open_cell-cell.result (proper_if_valid c.args.site.now c.problem.ensures.valid)
+    c.requires.option c.from_vec.ensures c.open_cell-cell.ensures
+    c.in_ok-extended.ensures.extends c.closed-in-Clash.result
+    (leaves.clash c.in-Clash.exclusion)
+    c.closed-in-Clash.ensures.cell c.closed-in-Clash.ensures.network c.closed-in-Clash.ensures.stop
+    (λ (e : leaves.clash c.in-Clash.exclusion ≡ leaves.untried). cc) refl end.1.0 end.1.0.known
 
 pub returns-in-Decided-clause-looked : goal.returns-in-Decided-clause-looked
 returns-in-Decided-clause-looked g c =
     let x = c.in_ok-extended.extended in
-    looked_ok g.E.Evaluator.past c.args.site.now (shape c.graph-graph.result.now) c.graph-graph.ensures.same (node_of c.args.start) c.args.option (map step_of x.steps.items) c.from_vec.result x.node (stop_of x.end)
-    c.open_cell-cell.result (proper_if_valid c.args.site.now c.problem.ensures.valid) c.requires.option c.from_vec.ensures c.open_cell-cell.ensures c.in_ok-extended.ensures.extends c.look_closer.result c.look_closer.ensures.same c.look_closer.ensures.seen
+    looked_ok g.E.Evaluator.past c.args.site.now (shape c.graph-graph.result.now)
+    c.graph-graph.ensures.same (node_of c.args.start) c.args.option (map step_of x.steps.items)
+    c.from_vec.result x.node (stop_of x.end)
+    c.open_cell-cell.result (proper_if_valid c.args.site.now c.problem.ensures.valid)
+    c.requires.option c.from_vec.ensures c.open_cell-cell.ensures
+    c.in_ok-extended.ensures.extends c.look_closer.result c.look_closer.ensures.same
+    c.look_closer.ensures.seen
 
 pub returns-in-Branch-clause-looked : goal.returns-in-Branch-clause-looked
 returns-in-Branch-clause-looked g c =
     let x = c.in_ok-extended.extended in
-    looked_ok g.E.Evaluator.past c.args.site.now (shape c.graph-graph.result.now) c.graph-graph.ensures.same (node_of c.args.start) c.args.option (map step_of x.steps.items) c.from_vec.result x.node (stop_of x.end)
-    c.open_cell-cell.result (proper_if_valid c.args.site.now c.problem.ensures.valid) c.requires.option c.from_vec.ensures c.open_cell-cell.ensures c.in_ok-extended.ensures.extends c.look_first.result c.look_first.ensures.same c.look_first.ensures.seen
+    looked_ok g.E.Evaluator.past c.args.site.now (shape c.graph-graph.result.now)
+    c.graph-graph.ensures.same (node_of c.args.start) c.args.option (map step_of x.steps.items)
+    c.from_vec.result x.node (stop_of x.end)
+    c.open_cell-cell.result (proper_if_valid c.args.site.now c.problem.ensures.valid)
+    c.requires.option c.from_vec.ensures c.open_cell-cell.ensures
+    c.in_ok-extended.ensures.extends c.look_first.result c.look_first.ensures.same
+    c.look_first.ensures.seen

@@ -8,14 +8,21 @@ use Rattle.node_evaluation.proofs.looks.look_closer.Goals as goal
 pub returns-in-Flows-clause-seen : goal.returns-in-Flows-clause-seen
 returns-in-Flows-clause-seen g c =
     let h = rw c.in-Flows.is at c.in_ok-bound.ensures.evaluated in
-    seen_solved g.E.Evaluator.past c.args.site.now c.args.cell c.solved.result c.in-Flows.bound c.in-Flows.network c.solved.ensures.cell c.solved.ensures.network c.solved.ensures.stop
+    seen_solved g.E.Evaluator.past c.args.site.now c.args.cell c.solved.result c.in-Flows.bound
+    c.in-Flows.network c.solved.ensures.cell c.solved.ensures.network c.solved.ensures.stop
     (c.requires.split h.0) h.1
-    (subst (λ (w : Cell). IsBoundOf g.E.Evaluator.past c.args.site.now (place_of w) c.in-Flows.bound) c.cell.view_is h.2) h.3 h.4
-    (subst (λ (w : Cell). HasUnits (place_of w) c.in-Flows.network) c.cell.view_is h.5) c.are_in_range.ensures.scale c.are_in_range.ensures.multipliers
+    (subst
+    (λ (w : Cell). IsBoundOf g.E.Evaluator.past c.args.site.now (place_of w) c.in-Flows.bound)
+    c.cell.view_is h.2) h.3 h.4
+    (subst (λ (w : Cell). HasUnits (place_of w) c.in-Flows.network) c.cell.view_is h.5)
+    c.are_in_range.ensures.scale c.are_in_range.ensures.multipliers
 
 pub returns-in-Refuted-clause-seen : goal.returns-in-Refuted-clause-seen
 returns-in-Refuted-clause-seen g c =
     let h = rw c.in-Refuted.is at c.in_ok-bound.ensures.evaluated in
-    seen_closed g.E.Evaluator.past c.args.site.now c.args.cell c.closed.result (refuted c.in-Refuted.ys) c.closed.ensures.cell c.closed.ensures.network c.closed.ensures.stop
+    seen_closed g.E.Evaluator.past c.args.site.now c.args.cell c.closed.result
+    (refuted c.in-Refuted.ys) c.closed.ensures.cell c.closed.ensures.network
+    c.closed.ensures.stop
     (λ (e : refuted c.in-Refuted.ys ≡ untried). cc) refl
-    (subst (λ (w : Cell). IsRefuted c.args.site.now (place_of w) c.in-Refuted.ys) c.cell.view_is h) c.are_in_range-in-Refuted.ensures
+    (subst (λ (w : Cell). IsRefuted c.args.site.now (place_of w) c.in-Refuted.ys) c.cell.view_is h)
+    c.are_in_range-in-Refuted.ensures

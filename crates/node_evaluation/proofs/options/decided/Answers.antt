@@ -8,5 +8,6 @@ use Rattle.node_evaluation.proofs.options.decided.Goals as goal
 
 pub returns-in-Material : goal.returns-in-Material
 returns-in-Material c =
-    subst (λ (m : Choice). has c.producers.result ≡ decides (shape c.args.graph.now) (way_of m)) (sym c.in-Material.is)
+    subst (λ (m : Choice). has c.producers.result ≡ decides (shape c.args.graph.now) (way_of m))
+    (sym c.in-Material.is)
     (λ k v. ap (λ (f : ℕ → Bool). f v) c.producers.ensures k)

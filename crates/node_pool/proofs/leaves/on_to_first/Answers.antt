@@ -1,7 +1,8 @@
 use Rattle.std.proofs.Common.{◌≡◌, Some, None, sym, ◌∙◌, arith}
 use Rattle.link_lists.specs.Lists.{row, following}
 use Rattle.node_pool.specs.Order.{is_at_least}
-use Rattle.node_pool.proofs.Places.{found_on, found_none, place_following, place_below, following_has}
+use Rattle.node_pool.proofs.Places.{found_on, found_none, place_following, place_below}
+use Rattle.node_pool.proofs.Places.{following_has}
 use Rattle.node_pool.proofs.Order.{stays_at_least}
 use Rattle.node_pool.proofs.leaves.on_to_first.Goals as goal
 
@@ -15,7 +16,8 @@ is_at_least-requires c =
     let listed = c.loop-after.invariant.listed in
     let once = c.are_apart.ensures.apart.once 0 in
     let stays = stays_at_least vs v xs c.requires.known c.requires.rising in
-    let near : following leaf xs ≡ Some c.in-Some.after = sym (c.next.ensures 0 listed) ∙ c.in-Some.is in
+    let near : following leaf xs ≡ Some c.in-Some.after =
+    sym (c.next.ensures 0 listed) ∙ c.in-Some.is in
     let there = following_has leaf xs c.in-Some.after near in
     c.requires.known c.in-Some.after there
 
@@ -29,9 +31,11 @@ returns-then-is_at_least c =
     let listed = c.loop-after.invariant.listed in
     let once = c.are_apart.ensures.apart.once 0 in
     let stays = stays_at_least vs v xs c.requires.known c.requires.rising in
-    let near : following leaf xs ≡ Some c.in-Some.after = sym (c.next.ensures 0 listed) ∙ c.in-Some.is in
+    let near : following leaf xs ≡ Some c.in-Some.after =
+    sym (c.next.ensures 0 listed) ∙ c.in-Some.is in
     let there = following_has leaf xs c.in-Some.after near in
-    sym (found_on t xs leaf c.in-Some.after stays listed c.loop-after.invariant.lower near (sym c.is_at_least.ensures ∙ c.if-is_at_least.true))
+    sym (found_on t xs leaf c.in-Some.after stays listed c.loop-after.invariant.lower near
+    (sym c.is_at_least.ensures ∙ c.if-is_at_least.true))
 
 pub loop-after-smaller : goal.loop-after-smaller
 loop-after-smaller c =
@@ -43,7 +47,8 @@ loop-after-smaller c =
     let listed = c.loop-after.invariant.listed in
     let once = c.are_apart.ensures.apart.once 0 in
     let stays = stays_at_least vs v xs c.requires.known c.requires.rising in
-    let near : following leaf xs ≡ Some c.in-Some.after = sym (c.next.ensures 0 listed) ∙ c.in-Some.is in
+    let near : following leaf xs ≡ Some c.in-Some.after =
+    sym (c.next.ensures 0 listed) ∙ c.in-Some.is in
     let there = following_has leaf xs c.in-Some.after near in
     let next = place_following xs leaf c.in-Some.after once listed near in
     let below = place_below xs c.in-Some.after there in
@@ -59,7 +64,8 @@ loop-after-preserved c =
     let listed = c.loop-after.invariant.listed in
     let once = c.are_apart.ensures.apart.once 0 in
     let stays = stays_at_least vs v xs c.requires.known c.requires.rising in
-    let near : following leaf xs ≡ Some c.in-Some.after = sym (c.next.ensures 0 listed) ∙ c.in-Some.is in
+    let near : following leaf xs ≡ Some c.in-Some.after =
+    sym (c.next.ensures 0 listed) ∙ c.in-Some.is in
     let there = following_has leaf xs c.in-Some.after near in
     record { listed = there; lower = sym c.is_at_least.ensures ∙ c.if-is_at_least.false }
 

@@ -18,9 +18,12 @@ returns-in-Ok-clause-ends g c =
     let file = c.args.file.now in
     let tree = c.args.tree.now in
     let names = map string_bytes c.args.parts.now in
-    let Q : Status → List ℕ → Type 0 = Says (OnFile (OnTree (MergeWork old.held names) old.held tree) old.held file) (λ other. (other ≡ file) ⊎ ((other ≡ tree) ⊎ Contains names other)) old new in
+    let Q : Status → List ℕ → Type 0 =
+    Says (OnFile (OnTree (MergeWork old.held names) old.held tree) old.held file)
+    (λ other. (other ≡ file) ⊎ ((other ≡ tree) ⊎ Contains names other)) old new in
     Ends-from _ Q c.args.out.now _ _ _ c.in-Ok.ensures.silent
-    (file_told names c.in-Ok.problem old mid new c.problem_of.ensures.keeps.held c.problem_of.ensures.keeps.later file tree c.in-Ok.ensures.problem) c.say_tree.ensures.ends
+    (file_told names c.in-Ok.problem old mid new c.problem_of.ensures.keeps.held
+    c.problem_of.ensures.keeps.later file tree c.in-Ok.ensures.problem) c.say_tree.ensures.ends
 
 pub returns-in-Err-clause-ends : goal.returns-in-Err-clause-ends
 returns-in-Err-clause-ends g c =
@@ -29,9 +32,14 @@ returns-in-Err-clause-ends g c =
     let file = c.args.file.now in
     let tree = c.args.tree.now in
     let names = map string_bytes c.args.parts.now in
-    let work : Status → List (List ℕ) → Type 0 = OnFile (OnTree (MergeWork old.held names) old.held tree) old.held file in
-    Ends-map _ (Says work (λ other. (other ≡ file) ⊎ ((other ≡ tree) ⊎ Contains names other)) old new) c.args.out.now _ _
-    (Says-map (FileFaults old.held file) work (λ other. other ≡ file) (λ other. (other ≡ file) ⊎ ((other ≡ tree) ⊎ Contains names other)) old new (λ s lines h. (h.0, h.1, inl h.2)) (λ other e. inl e)) c.in-Err.ensures.told
+    let work : Status → List (List ℕ) → Type 0 =
+    OnFile (OnTree (MergeWork old.held names) old.held tree) old.held file in
+    Ends-map _
+    (Says work (λ other. (other ≡ file) ⊎ ((other ≡ tree) ⊎ Contains names other)) old new)
+    c.args.out.now _ _
+    (Says-map (FileFaults old.held file) work (λ other. other ≡ file)
+    (λ other. (other ≡ file) ⊎ ((other ≡ tree) ⊎ Contains names other)) old new
+    (λ s lines h. (h.0, h.1, inl h.2)) (λ other e. inl e)) c.in-Err.ensures.told
 
 pub returns-in-Ok-clause-keeps : goal.returns-in-Ok-clause-keeps
 returns-in-Ok-clause-keeps g c = keeps_through _ _ _ c.in-Ok.ensures.keeps c.say_tree.ensures.keeps

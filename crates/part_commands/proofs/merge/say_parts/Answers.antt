@@ -1,4 +1,5 @@
-use Rattle.std.proofs.Common.{◌≡◌, ◌∙◌, ap, inl, inr, ℕ, List, map, string_bytes, subst, sym, length}
+use Rattle.std.proofs.Common.{◌≡◌, ◌∙◌, ap, inl, inr, ℕ, List, map, string_bytes, subst, sym}
+use Rattle.std.proofs.Common.{length}
 use Rattle.std.specs.List.{Contains}
 use Rattle.std.proofs.lemmas.List.{length-map}
 use Rattle.problem_rules.specs.Each.{Each}
@@ -22,10 +23,14 @@ returns-in-Ok-clause-ends g c =
     let claim = claim_of c.args.claim in
     let tree = c.args.tree in
     let ps = c.deref.result.now in
-    let give : GiveParts old.held p names ps = subst (λ (qs : List Part). GiveParts old.held p names qs) (sym c.deref.ensures.value) c.in-Ok.ensures.parts in
-    let Q : Status → List ℕ → Type 0 = Says (MergeWork old.held names p claim tree) (Contains names) old new in
+    let give : GiveParts old.held p names ps =
+    subst (λ (qs : List Part). GiveParts old.held p names qs) (sym c.deref.ensures.value)
+    c.in-Ok.ensures.parts in
+    let Q : Status → List ℕ → Type 0 =
+    Says (MergeWork old.held names p claim tree) (Contains names) old new in
     Ends-from _ Q c.args.out.now _ _ _ c.in-Ok.ensures.silent
-    (Says-told (MergeSays names p claim tree ps) (MergeWork old.held names p claim tree) (Contains names) old new
+    (Says-told (MergeSays names p claim tree ps) (MergeWork old.held names p claim tree)
+    (Contains names) old new
     (λ s lines h. inr (ps, give, h))) c.say_merged.ensures
 
 pub returns-in-Err-clause-ends : goal.returns-in-Err-clause-ends
@@ -34,12 +39,18 @@ returns-in-Err-clause-ends g c =
     let new = g.F.Shelf.state c.parts_of.new.shelf in
     let p = c.args.problem.now in
     let names = map string_bytes c.args.names.now in
-    let work : Status → List (List ℕ) → Type 0 = MergeWork old.held names p (claim_of c.args.claim) c.args.tree in
-    Ends-map _ (Says work (Contains names) old new) c.args.out.now _ _ (Says-map (FirstFault old.held names p) work (Contains names) (Contains names) old new (λ s lines h. inl h) (λ other h. h)) c.in-Err.ensures.told
+    let work : Status → List (List ℕ) → Type 0 =
+    MergeWork old.held names p (claim_of c.args.claim) c.args.tree in
+    Ends-map _ (Says work (Contains names) old new) c.args.out.now _ _
+    (Says-map (FirstFault old.held names p) work (Contains names) (Contains names) old new
+    (λ s lines h. inl h) (λ other h. h)) c.in-Err.ensures.told
 
 pub say_merged-requires-clause-count : goal.say_merged-requires-clause-count
 say_merged-requires-clause-count g c =
     let held = (g.F.Shelf.state c.args.shelf.now).held in
     let list = c.args.names.now in
-    let give : GiveParts held c.args.problem.now (map string_bytes list) c.deref.result.now = subst (λ (qs : List Part). GiveParts held c.args.problem.now (map string_bytes list) qs) (sym c.deref.ensures.value) c.in-Ok.ensures.parts in
-    as_many held c.args.problem.now (map string_bytes list) c.deref.result.now give ∙ length-map list string_bytes
+    let give : GiveParts held c.args.problem.now (map string_bytes list) c.deref.result.now =
+    subst (λ (qs : List Part). GiveParts held c.args.problem.now (map string_bytes list) qs)
+    (sym c.deref.ensures.value) c.in-Ok.ensures.parts in
+    as_many held c.args.problem.now (map string_bytes list) c.deref.result.now give
+    ∙ length-map list string_bytes

@@ -18,9 +18,12 @@ returns-in-Ok-clause-ends g c =
     let p = c.args.problem.now in
     let name = c.args.name.now in
     let names = map string_bytes c.args.names.now in
-    let Q : Status → List ℕ → Type 0 = Says (OnTree (MergeWork old.held names) old.held name p) (λ other. (other ≡ name) ⊎ Contains names other) old new in
+    let Q : Status → List ℕ → Type 0 =
+    Says (OnTree (MergeWork old.held names) old.held name p)
+    (λ other. (other ≡ name) ⊎ Contains names other) old new in
     Ends-from _ Q c.args.out.now _ _ _ c.in-Ok.ensures.silent
-    (tree_told names p old mid new c.tree_of.ensures.keeps.held c.tree_of.ensures.keeps.later name (claim_of c.in-Ok.claim) c.in-Ok.tree c.in-Ok.ensures.tree) c.say_parts.ensures.ends
+    (tree_told names p old mid new c.tree_of.ensures.keeps.held c.tree_of.ensures.keeps.later name
+    (claim_of c.in-Ok.claim) c.in-Ok.tree c.in-Ok.ensures.tree) c.say_parts.ensures.ends
 
 pub returns-in-Err-clause-ends : goal.returns-in-Err-clause-ends
 returns-in-Err-clause-ends g c =
@@ -29,9 +32,13 @@ returns-in-Err-clause-ends g c =
     let p = c.args.problem.now in
     let name = c.args.name.now in
     let names = map string_bytes c.args.names.now in
-    let work : Status → List (List ℕ) → Type 0 = OnTree (MergeWork old.held names) old.held name p in
-    Ends-map _ (Says work (λ other. (other ≡ name) ⊎ Contains names other) old new) c.args.out.now _ _
-    (Says-map (TreeFaults old.held name p) work (λ other. other ≡ name) (λ other. (other ≡ name) ⊎ Contains names other) old new (λ s lines h. (h.0, h.1, inl h.2)) (λ other e. inl e)) c.in-Err.ensures.told
+    let work : Status → List (List ℕ) → Type 0 =
+    OnTree (MergeWork old.held names) old.held name p in
+    Ends-map _ (Says work (λ other. (other ≡ name) ⊎ Contains names other) old new) c.args.out.now _
+    _
+    (Says-map (TreeFaults old.held name p) work (λ other. other ≡ name)
+    (λ other. (other ≡ name) ⊎ Contains names other) old new (λ s lines h. (h.0, h.1, inl h.2))
+    (λ other e. inl e)) c.in-Err.ensures.told
 
 pub returns-in-Ok-clause-keeps : goal.returns-in-Ok-clause-keeps
 returns-in-Ok-clause-keeps g c = keeps_through _ _ _ c.in-Ok.ensures.keeps c.say_parts.ensures.keeps

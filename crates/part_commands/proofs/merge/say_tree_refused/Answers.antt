@@ -16,7 +16,8 @@ returns-in-Claim g c =
     (only_or_memory_in Q BadClaim (line (codes "refused claim " ++ c.why_word.result.now)) (
       told ∷ [],
       subst (λ x. TreeRefused x BadClaim (told ∷ [])) (sym c.in-Claim.is) (refl, refl),
-      ap (λ (word : List ℕ). line (codes "refused claim " ++ word)) c.why_word.ensures ∙ one_line told,
+      ap (λ (word : List ℕ). line (codes "refused claim " ++ word)) c.why_word.ensures
+          ∙ one_line told,
     ) ([], inl refl, refl))
     c.tell_with.ensures
 
@@ -35,4 +36,5 @@ returns-in-Node g c =
 pub returns-in-Memory : goal.returns-in-Memory
 returns-in-Memory g c =
     let Q : Status → List ℕ → Type 0 = Tells (TreeRefused c.args.refusal) in
-    Ends-map _ Q c.args.out.now _ _ (only_in Q Memory (line (codes "memory")) ([], inl refl, refl)) c.say_memory.ensures
+    Ends-map _ Q c.args.out.now _ _ (only_in Q Memory (line (codes "memory")) ([], inl refl, refl))
+    c.say_memory.ensures

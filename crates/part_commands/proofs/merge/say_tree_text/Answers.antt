@@ -10,7 +10,9 @@ use Rattle.part_commands.proofs.merge.say_tree_text.Goals as goal
 
 pub returns : goal.returns
 returns g c =
-    let lines = tree_text_lines c.args.problem.now (claim_of c.args.claim.now) c.args.tree.now whole in
+    let lines =
+    tree_text_lines c.args.problem.now (claim_of c.args.claim.now) c.args.tree.now whole in
     let says = Tells (OneAnswer Done lines) in
     Ends-from says says c.args.out.now _ c.say_printed.new.out _ c.out.view_is (λ s t h. h)
-    (c.say_printed.ensures lines _ refl c.print_tree-printed.ensures.later c.print_tree-printed.ensures.prints)
+    (c.say_printed.ensures lines _ refl c.print_tree-printed.ensures.later
+    c.print_tree-printed.ensures.prints)

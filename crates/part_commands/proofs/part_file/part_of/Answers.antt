@@ -16,8 +16,11 @@ returns-in-Err-clause-told g c =
     let new = g.F.Shelf.state c.bytes_of.new.shelf in
     let name = c.args.name.now in
     let p = c.args.problem.now in
-    let Q : Status → List ℕ → Type 0 = Says (PartFaults c.args.several old.held name p) (λ other. other ≡ name) old new in
-    Ends-map _ Q c.args.out.now _ _ (long-faults (PartFault c.args.several name p) old new name 268435456 (λ file lines h. h)) c.in-Err.ensures.told
+    let Q : Status → List ℕ → Type 0 =
+    Says (PartFaults c.args.several old.held name p) (λ other. other ≡ name) old new in
+    Ends-map _ Q c.args.out.now _ _
+    (long-faults (PartFault c.args.several name p) old new name 268435456 (λ file lines h. h))
+    c.in-Err.ensures.told
 
 pub returns-in-Err-At-clause-told : goal.returns-in-Err-At-clause-told
 returns-in-Err-At-clause-told g c =
@@ -26,16 +29,24 @@ returns-in-Err-At-clause-told g c =
     let name = c.args.name.now in
     let p = c.args.problem.now in
     let several = c.args.several in
-    let Q : Status → List ℕ → Type 0 = Says (PartFaults several old.held name p) (λ other. other ≡ name) old new in
+    let Q : Status → List ℕ → Type 0 =
+    Says (PartFaults several old.held name p) (λ other. other ≡ name) old new in
     let told : PartReads p c.in-Ok.bytes.items (Err (c.in-Err-At.line, c.in-Err-At.kind)) =
-    subst (λ (bytes : List ℕ). PartReads p bytes (Err (c.in-Err-At.line, c.in-Err-At.kind))) c.deref.ensures.value (rw c.in-Err-At.field-0-is at c.in-Err-At.ensures.fault) in
+    subst (λ (bytes : List ℕ). PartReads p bytes (Err (c.in-Err-At.line, c.in-Err-At.kind)))
+    c.deref.ensures.value (rw c.in-Err-At.field-0-is at c.in-Err-At.ensures.fault) in
     Ends-from _ Q c.args.out.now _ _ _ c.in-Ok.ensures.silent
-    (only_or_memory_in Q BadTree (line (part_fault_line several name c.in-Err-At.line c.in-Err-At.kind)) (
+    (only_or_memory_in Q BadTree
+    (line (part_fault_line several name c.in-Err-At.line c.in-Err-At.kind)) (
       part_fault_line several name c.in-Err-At.line c.in-Err-At.kind ∷ [],
-      (c.in-Ok.bytes.items, c.in-Ok.ensures.whole, (c.in-Ok.ensures.within, (c.in-Err-At.line, c.in-Err-At.kind, told, refl))),
+      (
+        c.in-Ok.bytes.items,
+        c.in-Ok.ensures.whole,
+        (c.in-Ok.ensures.within, (c.in-Err-At.line, c.in-Err-At.kind, told, refl)),
+      ),
       one_line (part_fault_line several name c.in-Err-At.line c.in-Err-At.kind),
     ) ([], inl refl, refl))
-    (c.tell_made.ensures (part_fault_line several name c.in-Err-At.line c.in-Err-At.kind) c.part_fault_line-first.ensures)
+    (c.tell_made.ensures (part_fault_line several name c.in-Err-At.line c.in-Err-At.kind)
+    c.part_fault_line-first.ensures)
 
 pub returns-clause-told : goal.returns-clause-told
 returns-clause-told g c =
@@ -43,11 +54,19 @@ returns-clause-told g c =
     let new = g.F.Shelf.state c.bytes_of.new.shelf in
     let name = c.args.name.now in
     let p = c.args.problem.now in
-    let Q : Status → List ℕ → Type 0 = Says (PartFaults c.args.several old.held name p) (λ other. other ≡ name) old new in
+    let Q : Status → List ℕ → Type 0 =
+    Says (PartFaults c.args.several old.held name p) (λ other. other ≡ name) old new in
     Ends-from _ Q c.args.out.now _ _ _ c.in-Ok.ensures.silent
     (only_in Q Memory (line (codes "memory")) ([], inl refl, refl)) c.say_memory.ensures
 
 pub returns-in-Ok-read_part-clause-part : goal.returns-in-Ok-read_part-clause-part
 returns-in-Ok-read_part-clause-part g c =
-    let p = c.args.problem.now in
-    (c.in-Ok.bytes.items, c.in-Ok.ensures.whole, (c.in-Ok.ensures.within, subst (λ (bytes : List ℕ). PartReads p bytes (Ok c.in-Ok-read_part.part)) c.deref.ensures.value c.in-Ok-read_part.ensures.read))
+    let p = c.args.problem.now in (
+      c.in-Ok.bytes.items,
+      c.in-Ok.ensures.whole,
+      (
+        c.in-Ok.ensures.within,
+        subst (λ (bytes : List ℕ). PartReads p bytes (Ok c.in-Ok-read_part.part))
+            c.deref.ensures.value c.in-Ok-read_part.ensures.read,
+      ),
+    )

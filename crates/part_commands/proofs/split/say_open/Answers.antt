@@ -1,4 +1,5 @@
-use Rattle.std.proofs.Common.{◌≡◌, subst, sym, ◌++◌, ◌∷◌, ◌∙◌, [], true, refl, ap, inl, inr, ℕ, List, codes}
+use Rattle.std.proofs.Common.{◌≡◌, subst, sym, ◌++◌, ◌∷◌, ◌∙◌, [], true, refl, ap, inl, inr, ℕ}
+use Rattle.std.proofs.Common.{List, codes}
 use Rattle.branch_tree.specs.View.{claim_of}
 use Rattle.tree_rules.specs.Claim.{ClaimPasses, ClaimFails}
 use Rattle.tree_rules.specs.Accepted.{first_node, NodeIsFault}
@@ -17,26 +18,32 @@ use Rattle.part_commands.proofs.split.say_open.Goals as goal
 
 pub returns-in-Err-Claim : goal.returns-in-Err-Claim
 returns-in-Err-Claim g c =
-    let Q : Status → List ℕ → Type 0 = Tells (SplitWork c.args.site.now (claim_of c.args.claim.now) c.args.tree.now) in
+    let Q : Status → List ℕ → Type 0 =
+    Tells (SplitWork c.args.site.now (claim_of c.args.claim.now) c.args.tree.now) in
     let p = c.args.site.now in
     let claim = claim_of c.args.claim.now in
-    let fails : ClaimFails true p claim c.in-Err-Claim.why = (rw c.in-Err-Claim.field-0-is at c.in-Err-Claim.ensures.refused) in
+    let fails : ClaimFails true p claim c.in-Err-Claim.why =
+    (rw c.in-Err-Claim.field-0-is at c.in-Err-Claim.ensures.refused) in
     let told : List ℕ = claim_line c.in-Err-Claim.why in
     Ends-map _ Q c.args.out.now _ _
     (only_or_memory_in Q BadClaim (line (codes "refused claim " ++ c.why_word.result.now)) (
       told ∷ [],
       inl (c.in-Err-Claim.why, fails, refl),
-      ap (λ (word : List ℕ). line (codes "refused claim " ++ word)) c.why_word.ensures ∙ one_line told,
+      ap (λ (word : List ℕ). line (codes "refused claim " ++ word)) c.why_word.ensures
+          ∙ one_line told,
     )
     ([], inl refl, refl))
     c.tell_with.ensures
 
 pub returns-in-Err-Node : goal.returns-in-Err-Node
 returns-in-Err-Node g c =
-    let Q : Status → List ℕ → Type 0 = Tells (SplitWork c.args.site.now (claim_of c.args.claim.now) c.args.tree.now) in
+    let Q : Status → List ℕ → Type 0 =
+    Tells (SplitWork c.args.site.now (claim_of c.args.claim.now) c.args.tree.now) in
     let p = c.args.site.now in
     let claim = claim_of c.args.claim.now in
-    let refuses : ClaimPasses true p claim × NodeIsFault true p first_node claim c.args.tree.now c.in-Err-Node.node c.in-Err-Node.why = (rw c.in-Err-Node.field-0-is at c.in-Err-Node.ensures.refused) in
+    let refuses : ClaimPasses true p claim
+    × NodeIsFault true p first_node claim c.args.tree.now c.in-Err-Node.node c.in-Err-Node.why =
+    (rw c.in-Err-Node.field-0-is at c.in-Err-Node.ensures.refused) in
     let told : List ℕ = node_line c.in-Err-Node.node c.in-Err-Node.why in
     Ends-map _ Q c.args.out.now _ _
     (only_or_memory_in Q BadClaim (line told) (
@@ -56,10 +63,13 @@ returns-in-Ok g c =
     ap (λ (ls : List OpenLeaf). leaves_at ls) c.deref.ensures.value ∙ c.in-Ok.ensures.leaves in
     Ends-map _ _ c.args.out.now _ _
     (Tells-map (LeavesSay (leaves_at c.deref.result.now)) (SplitWork p claim tree)
-    (λ s lines h. subst (λ (t : Status). SplitWork p claim tree t lines) (sym h.0) (c.in-Ok.ensures.partial, h.1 ∙ ap split_lines told)))
+    (λ s lines h. subst (λ (t : Status). SplitWork p claim tree t lines) (sym h.0)
+    (c.in-Ok.ensures.partial, h.1 ∙ ap split_lines told)))
     c.say_leaves.ensures
 
 pub returns-in-Err-Memory : goal.returns-in-Err-Memory
 returns-in-Err-Memory g c =
-    let Q : Status → List ℕ → Type 0 = Tells (SplitWork c.args.site.now (claim_of c.args.claim.now) c.args.tree.now) in
-    Ends-map _ Q c.args.out.now _ _ (only_in Q Memory (line (codes "memory")) ([], inl refl, refl)) c.say_memory.ensures
+    let Q : Status → List ℕ → Type 0 =
+    Tells (SplitWork c.args.site.now (claim_of c.args.claim.now) c.args.tree.now) in
+    Ends-map _ Q c.args.out.now _ _ (only_in Q Memory (line (codes "memory")) ([], inl refl, refl))
+    c.say_memory.ensures

@@ -7,4 +7,6 @@ use Rattle.part_commands.proofs.split.say_split.Goals as goal
 
 pub returns : goal.returns
 returns g c =
-    subst (λ (p : Problem). Ends (Tells (SplitWork p (claim_of c.args.claim.now) c.args.tree.now)) c.args.out.now c.say_open.new.out c.say_open.result) c.of-site.ensures c.say_open.ensures
+    subst
+    (λ (p : Problem). Ends (Tells (SplitWork p (claim_of c.args.claim.now) c.args.tree.now))
+    c.args.out.now c.say_open.new.out c.say_open.result) c.of-site.ensures c.say_open.ensures

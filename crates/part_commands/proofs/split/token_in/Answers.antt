@@ -5,4 +5,5 @@ use Rattle.part_commands.proofs.split.token_in.Goals as goal
 
 pub returns : goal.returns
 returns c =
-    subst (λ (s : List ℕ). IfOk c.print_token.result (λ text. string_bytes text ≡ token_of s)) (sym (listed-is 128 c.args.set c.rises.ensures)) c.print_token.ensures
+    subst (λ (s : List ℕ). IfOk c.print_token.result (λ text. string_bytes text ≡ token_of s))
+    (sym (listed-is 128 c.args.set c.rises.ensures)) c.print_token.ensures

@@ -56,5 +56,8 @@ returns-in-Some g c =
 
 pub returns-in-None : goal.returns-in-None
 returns-in-None g c =
-    let says = FoundSays c.args.problem.now c.args.start.now.inside c.args.start.now.outside c.args.found in
-    Ends-map _ _ c.args.out.now _ _ (only_in (Tells says) Memory _ (Tells-memory says)) c.say_memory.ensures
+    let says =
+    FoundSays c.args.problem.now c.args.start.now.inside c.args.start.now.outside
+    c.args.found in
+    Ends-map _ _ c.args.out.now _ _ (only_in (Tells says) Memory _ (Tells-memory says))
+    c.say_memory.ensures

@@ -12,7 +12,9 @@ use Rattle.part_searches.proofs.Parts.{is_printing}
 use Rattle.part_searches.proofs.found.say_part.Goals as goal
 
 pub say_searched-requires-clause-printing : goal.say_searched-requires-clause-printing
-say_searched-requires-clause-printing g c = is_printing c.args.part.now.tail c.status_of.result (c.status_of.ensures ∙ ap status_of c.tail-2.ensures)
+say_searched-requires-clause-printing g c =
+    is_printing c.args.part.now.tail c.status_of.result
+    (c.status_of.ensures ∙ ap status_of c.tail-2.ensures)
 
 pub returns : goal.returns
 returns g c =

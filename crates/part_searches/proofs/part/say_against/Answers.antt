@@ -13,14 +13,21 @@ use Rattle.part_searches.proofs.Parts.{part_says}
 use Rattle.part_searches.proofs.part.say_against.Goals as goal
 
 pub search_watched-found-requires-clause-sound : goal.search_watched-found-requires-clause-sound
-search_watched-found-requires-clause-sound g c = subst (λ (p : Problem). IsSound (shape_of p) (node_of c.args.start.now)) (sym c.of-site.ensures) c.requires.sound
+search_watched-found-requires-clause-sound g c =
+    subst (λ (p : Problem). IsSound (shape_of p) (node_of c.args.start.now)) (sym c.of-site.ensures)
+    c.requires.sound
 
 pub search_watched-found-requires-clause-passes : goal.search_watched-found-requires-clause-passes
-search_watched-found-requires-clause-passes g c = subst (λ (p : Problem). IsFeasible p c.args.network) (sym c.of-site.ensures) c.requires.passes
+search_watched-found-requires-clause-passes g c =
+    subst (λ (p : Problem). IsFeasible p c.args.network) (sym c.of-site.ensures) c.requires.passes
 
 pub say_found-requires-clause-found : goal.say_found-requires-clause-found
-say_found-requires-clause-found g c =
-    (c.args.effort.budget, subst (λ (p : Problem). IsFound p (node_of c.args.start.now) c.args.effort.budget c.search_watched-found.result) c.of-site.ensures c.search_watched-found.ensures.found)
+say_found-requires-clause-found g c = (
+  c.args.effort.budget,
+  subst
+      (λ (p : Problem). IsFound p (node_of c.args.start.now) c.args.effort.budget
+      c.search_watched-found.result) c.of-site.ensures c.search_watched-found.ensures.found,
+)
 
 pub returns : goal.returns
 returns g c =
@@ -29,7 +36,12 @@ returns g c =
     let budget = c.args.effort.budget in
     let w = c.args.network in
     let found : Found = c.search_watched-found.result in
-    let is = subst (λ (p : Problem). IsFound p (node_of s) budget found) c.of-site.ensures c.search_watched-found.ensures.found in
+    let is =
+    subst (λ (p : Problem). IsFound p (node_of s) budget found) c.of-site.ensures
+    c.search_watched-found.ensures.found in
     Ends-map _ _ c.args.out.now _ _
-    (Tells-map (FoundSays p s.inside s.outside found) (PartSays budget (Some w) s.inside s.outside p) (λ status lines h. part_says budget (Some w) s.inside s.outside p status lines found is c.search_watched-found.ensures.against h))
+    (Tells-map (FoundSays p s.inside s.outside found)
+    (PartSays budget (Some w) s.inside s.outside p)
+    (λ status lines h. part_says budget (Some w) s.inside s.outside p status lines found is
+    c.search_watched-found.ensures.against h))
     c.say_found.ensures

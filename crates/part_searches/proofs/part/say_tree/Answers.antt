@@ -16,9 +16,11 @@ returns-in-Ok-clause-ends g c =
     let name = c.args.name.now in
     let read = c.in-Ok.ensures.tree in
     let work = ClaimSays c.args.effort.budget c.args.start.now.inside c.args.start.now.outside in
-    let Q : Status → List ℕ → Type 0 = Says (OnTree work old.held name p) (λ other. other ≡ name) old new in
+    let Q : Status → List ℕ → Type 0 =
+    Says (OnTree work old.held name p) (λ other. other ≡ name) old new in
     Ends-from _ Q c.args.out.now _ _ _ c.in-Ok.ensures.silent
-    (Says-told (work p (claim_of c.in-Ok.claim) c.in-Ok.tree) (OnTree work old.held name p) (λ other. other ≡ name) old new
+    (Says-told (work p (claim_of c.in-Ok.claim) c.in-Ok.tree) (OnTree work old.held name p)
+    (λ other. other ≡ name) old new
     (λ s lines h. (read.0, read.1, inr (claim_of c.in-Ok.claim, c.in-Ok.tree, read.2, h))))
     c.say_claimed.ensures
 
@@ -29,5 +31,8 @@ returns-in-Err-clause-ends g c =
     let p = c.args.problem.now in
     let name = c.args.name.now in
     let work = ClaimSays c.args.effort.budget c.args.start.now.inside c.args.start.now.outside in
-    let Q : Status → List ℕ → Type 0 = Says (OnTree work old.held name p) (λ other. other ≡ name) old new in
-    Ends-map _ Q c.args.out.now _ _ (on_second-faults (TreeSays work name) (TreeFault name p) old new name p (λ file s lines h. inl h)) c.in-Err.ensures.told
+    let Q : Status → List ℕ → Type 0 =
+    Says (OnTree work old.held name p) (λ other. other ≡ name) old new in
+    Ends-map _ Q c.args.out.now _ _
+    (on_second-faults (TreeSays work name) (TreeFault name p) old new name p
+    (λ file s lines h. inl h)) c.in-Err.ensures.told

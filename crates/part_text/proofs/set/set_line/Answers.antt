@@ -11,7 +11,11 @@ returns-then-is_empty-clause-ok c =
     let formed = c.in-Some.ensures.some in
     let named = c.in-Some-units_of.ensures.some in (
       (formed.0, formed.1 ∙ ap (λ (token : List ℕ). c.args.word.now ∷ token ∷ []) named.1),
-      (named.0, (apart_is c.args.before units c.meet.result c.meet.ensures).0 (c.is_empty.ensures.0 c.if-is_empty.true)),
+      (
+        named.0,
+        (apart_is c.args.before units c.meet.result c.meet.ensures).0
+            (c.is_empty.ensures.0 c.if-is_empty.true),
+      ),
     )
 
 pub returns-else-is_empty-clause-fault : goal.returns-else-is_empty-clause-fault
@@ -22,7 +26,11 @@ returns-else-is_empty-clause-fault c =
       c.in-Some.token.now,
       c.in-Some.ensures.some,
       (λ others fits e.
-          let same : units ≡ others = one_set _ c.in-Some.token.now units others few (wider _ units few named.0) fits.0 named.1 e in
+          let same : units ≡ others =
+          one_set _ c.in-Some.token.now units others few (wider _ units few named.0) fits.0
+          named.1 e in
           both_ways c.is_empty.result c.if-is_empty.false
-          (c.is_empty.ensures.1 ((apart_is c.args.before units c.meet.result c.meet.ensures).1 (subst (λ (us : List ℕ). Avoids (has c.args.before) (has us)) (sym same) fits.1)))),
+          (c.is_empty.ensures.1
+          ((apart_is c.args.before units c.meet.result c.meet.ensures).1
+          (subst (λ (us : List ℕ). Avoids (has c.args.before) (has us)) (sym same) fits.1)))),
     )

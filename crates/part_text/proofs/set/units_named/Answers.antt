@@ -13,7 +13,10 @@ returns-then-within-clause-some c =
     let same = ap (λ (us : List OperatingUnit). length us) c.units.ensures in (
       record {
         rising = c.rises.ensures.rising;
-        below = below_from n units (λ u h. let less = ltb-true u _ (sym (c.below.ensures u) ∙ (c.within.ensures.0 c.if-within.true) u h) in omega (arith, less, same));
+        below =
+            below_from n units (λ u h. let less =
+            ltb-true u _ (sym (c.below.ensures u) ∙ (c.within.ensures.0 c.if-within.true) u h) in
+            omega (arith, less, same));
       },
       c.in-Ok.ensures.token,
     )
@@ -23,6 +26,11 @@ returns-else-within-clause-none c = λ units is e.
     let n = length c.args.problem.now.units in
     let few = c.is_valid.ensures.well_formed.few_units in
     let same = ap (λ (us : List OperatingUnit). length us) c.units.ensures in
-    let found : c.in-Ok.units ≡ units = one_set n c.args.word.now c.in-Ok.units units few c.rises.ensures is c.in-Ok.ensures.token e in
+    let found : c.in-Ok.units ≡ units =
+    one_set n c.args.word.now c.in-Ok.units units few c.rises.ensures is c.in-Ok.ensures.token
+    e in
     both_ways c.within.result c.if-within.false
-    (c.within.ensures.1 (λ u h. c.below.ensures u ∙ lt-ltb u _ (let less = has_below n units u is.below (subst (λ (us : List ℕ). has us u ≡ true) found h) in omega (arith, less, same))))
+    (c.within.ensures.1 (λ u h. c.below.ensures u
+    ∙ lt-ltb u _ (let less =
+    has_below n units u is.below (subst (λ (us : List ℕ). has us u ≡ true) found h) in
+    omega (arith, less, same))))

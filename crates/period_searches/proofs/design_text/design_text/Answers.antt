@@ -9,6 +9,11 @@ pub returns : goal.returns
 returns c =
     let p = c.args.problem.now in
     let x : Written = c.args.design.now in
-    let runs = ap (λ (rs : List Run). text_of (runs_lines p 1 rs)) (c.deref.ensures.value ∙ ap (λ (y : Written). y.runs) c.design.view_is) in
+    let runs =
+    ap (λ (rs : List Run). text_of (runs_lines p 1 rs))
+    (c.deref.ensures.value ∙ ap (λ (y : Written). y.runs) c.design.view_is) in
     c.in_ok-push_runs.ensures
-    ∙ (ap₂ (λ (a b : List ℕ). a ++ b) (c.in_ok-push_built.ensures ∙ ap (λ (t : List ℕ). t ++ text_of (built_lines p x)) c.new-text.ensures.items) runs ∙ whole_text p x)
+    ∙ (ap₂ (λ (a b : List ℕ). a ++ b)
+    (c.in_ok-push_built.ensures
+    ∙ ap (λ (t : List ℕ). t ++ text_of (built_lines p x)) c.new-text.ensures.items) runs
+    ∙ whole_text p x)

@@ -15,4 +15,8 @@ design_text-requires c =
     omega (arith, short, long, same)
 
 pub returns : goal.returns
-returns c = subst (λ (x : Written). IfOk c.design_text.result (λ text. text.items ≡ text_of (design_lines c.args.problem.now x))) c.in_ok-design.ensures c.design_text.ensures
+returns c =
+    subst
+    (λ (x : Written). IfOk c.design_text.result
+    (λ text. text.items ≡ text_of (design_lines c.args.problem.now x))) c.in_ok-design.ensures
+    c.design_text.ensures

@@ -14,11 +14,17 @@ use Rattle.period_searches.proofs.least.say_searched.Goals as goal
 
 pub returns-in_default : goal.returns-in_default
 returns-in_default g c =
-    Ends-map _ _ c.args.out.now _ _ (only_in (Tells (PeriodsWork c.args.effort.budget c.args.problem.now c.args.plan.now)) Memory _ (Tells-memory (PeriodsWork c.args.effort.budget c.args.problem.now c.args.plan.now))) c.say_memory.ensures
+    Ends-map _ _ c.args.out.now _ _
+    (only_in (Tells (PeriodsWork c.args.effort.budget c.args.problem.now c.args.plan.now))
+    Memory _
+    (Tells-memory (PeriodsWork c.args.effort.budget c.args.problem.now c.args.plan.now)))
+    c.say_memory.ensures
 
 pub network_text-requires-clause-feasible : goal.network_text-requires-clause-feasible
 network_text-requires-clause-feasible g c =
-    feasible_there c.accepted_is_optimal.ensures c.args.effort.budget c.args.problem.now c.args.plan.now c.args.whole.now c.requires.whole c.is_valid.ensures.valid c.is_valid-2.ensures.valid c.requires.plan
+    feasible_there c.accepted_is_optimal.ensures c.args.effort.budget c.args.problem.now
+    c.args.plan.now c.args.whole.now c.requires.whole c.is_valid.ensures.valid
+    c.is_valid-2.ensures.valid c.requires.plan
     c.search_all.result c.search_all.ensures c.in-Solved.network c.in-Solved.tree c.in-Solved.is
 
 pub returns-in-Solved : goal.returns-in-Solved
@@ -29,8 +35,10 @@ returns-in-Solved g c =
     let lines : List (List ℕ) = design_lines p (folded p plan c.in-Solved.network) in
     Ends-map _ _ c.args.out.now _ _ (only_or_memory_in (Tells work) Done (text_of lines) (
       lines,
-      least_text c.accepted_is_optimal.ensures c.args.effort.budget p plan c.args.whole.now c.requires.whole c.is_valid.ensures.valid c.is_valid-2.ensures.valid c.requires.plan
-          c.least_network_is_least_design.ensures c.search_all.result c.search_all.ensures c.in-Solved.network c.in-Solved.tree c.in-Solved.is,
+      least_text c.accepted_is_optimal.ensures c.args.effort.budget p plan c.args.whole.now
+          c.requires.whole c.is_valid.ensures.valid c.is_valid-2.ensures.valid c.requires.plan
+          c.least_network_is_least_design.ensures c.search_all.result c.search_all.ensures
+          c.in-Solved.network c.in-Solved.tree c.in-Solved.is,
       refl,
     ) (Tells-memory work))
     (c.say_made.ensures lines c.network_text.ensures)
@@ -43,8 +51,10 @@ returns-in-Infeasible g c =
     let lines : List (List ℕ) = codes "infeasible" ∷ [] in
     Ends-map _ _ c.args.out.now _ _ (only_in (Tells work) Done (text_of lines) (
       lines,
-      none_text c.accepted_is_optimal.ensures c.args.effort.budget p plan c.args.whole.now c.requires.whole c.is_valid.ensures.valid c.is_valid-2.ensures.valid c.requires.plan
-          c.no_network_is_no_design.ensures c.search_all.result c.search_all.ensures c.in-Infeasible.tree c.in-Infeasible.is,
+      none_text c.accepted_is_optimal.ensures c.args.effort.budget p plan c.args.whole.now
+          c.requires.whole c.is_valid.ensures.valid c.is_valid-2.ensures.valid c.requires.plan
+          c.no_network_is_no_design.ensures c.search_all.result c.search_all.ensures
+          c.in-Infeasible.tree c.in-Infeasible.is,
       refl,
     ))
     c.say.ensures
@@ -57,6 +67,9 @@ returns g c =
     let p = c.args.problem.now in
     let plan : Plan = c.args.plan.now in
     let f : Found = c.search_all.result in
-    Ends-map _ _ c.args.out.now _ _ (Tells-map (FoundSays c.args.whole.now f) (PeriodsWork c.args.effort.budget p plan)
-    (stopped_text c.accepted_is_optimal.ensures c.args.effort.budget p plan c.args.whole.now c.requires.whole c.is_valid.ensures.valid c.is_valid-2.ensures.valid c.requires.plan
-    f c.search_all.ensures c.in_default-search_all.not-Solved c.in_default-search_all.not-Infeasible)) c.say_found.ensures
+    Ends-map _ _ c.args.out.now _ _
+    (Tells-map (FoundSays c.args.whole.now f) (PeriodsWork c.args.effort.budget p plan)
+    (stopped_text c.accepted_is_optimal.ensures c.args.effort.budget p plan c.args.whole.now
+    c.requires.whole c.is_valid.ensures.valid c.is_valid-2.ensures.valid c.requires.plan
+    f c.search_all.ensures c.in_default-search_all.not-Solved
+    c.in_default-search_all.not-Infeasible)) c.say_found.ensures

@@ -4,4 +4,5 @@ use Rattle.plan_rules.specs.Expanded.{capacity}
 use Rattle.periods.proofs.materials.push_capacities.Given as goal
 
 abbrev pub invariant-building : goal.invariant-building
-invariant-building l = l.materials.items ≡ l.fn.materials.items ++ map (capacity l.period) (range_with_len 0 l.unit)
+invariant-building l = l.materials.items ≡ l.fn.materials.items ++ map (capacity
+    l.period) (range_with_len 0 l.unit)

@@ -4,4 +4,5 @@ use Rattle.plan_rules.specs.Expanded.{copy}
 use Rattle.periods.proofs.materials.push_copies.Given as goal
 
 abbrev pub invariant-copying : goal.invariant-copying
-invariant-copying l = l.materials.items ≡ l.fn.materials.items ++ map (copy l.problem l.at l.period) (range_with_len 0 l.number)
+invariant-copying l = l.materials.items ≡ l.fn.materials.items ++ map (copy l.problem l.at
+    l.period) (range_with_len 0 l.number)

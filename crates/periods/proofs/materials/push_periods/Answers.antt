@@ -10,10 +10,16 @@ copying-preserved c =
     let p = c.args.problem.now in
     let periods = c.args.periods.now in
     let item : c.at-item.result ≡ slice_index_or periods c.copying.t no_period =
-    c.at-item.is ∙ same_default periods c.copying.at-index c.at-item.result no_period c.copying-test.true
+    c.at-item.is
+    ∙ same_default periods c.copying.at-index c.at-item.result no_period c.copying-test.true
     ∙ ap (λ k. slice_index_or periods k no_period) (sym c.copying.invariant.count) in
     record {
-      made = blocks_more (period_materials p (record { periods = periods })) _ _ _ c.copying.t c.copying.invariant.made
-          (c.in_ok-push_period.ensures ∙ ap (λ (q : Period). c.copying.materials.items ++ (copies p q c.copying.t ++ capacities p c.copying.t)) item);
+      made =
+          blocks_more (period_materials p (record { periods = periods })) _ _ _ c.copying.t
+          c.copying.invariant.made
+          (c.in_ok-push_period.ensures
+          ∙ ap
+          (λ (q : Period). c.copying.materials.items
+          ++ (copies p q c.copying.t ++ capacities p c.copying.t)) item);
       count = omega (arith, c.copying.invariant.count);
     }

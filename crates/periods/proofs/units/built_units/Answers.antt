@@ -4,4 +4,6 @@ use Rattle.plan_laws.proofs.Lists.{made_more}
 use Rattle.periods.proofs.units.built_units.Goals as goal
 
 pub building-preserved : goal.building-preserved
-building-preserved c = made_more (built c.args.problem.now c.args.periods) [] _ _ c.building.unit _ c.building.invariant c.in_ok-built.ensures c.in_ok-push.ensures.items
+building-preserved c =
+    made_more (built c.args.problem.now c.args.periods) [] _ _ c.building.unit _
+    c.building.invariant c.in_ok-built.ensures c.in_ok-push.ensures.items

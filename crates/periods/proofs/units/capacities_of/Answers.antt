@@ -5,5 +5,6 @@ use Rattle.periods.proofs.units.capacities_of.Goals as goal
 
 pub making-preserved : goal.making-preserved
 making-preserved c =
-    made_more (λ t. at_rate_one (capacity_of c.args.problem.now t c.args.unit)) [] _ _ c.making.period _ c.making.invariant
+    made_more (λ t. at_rate_one (capacity_of c.args.problem.now t c.args.unit)) [] _ _
+    c.making.period _ c.making.invariant
     (c.at_rate_one.ensures ∙ ap at_rate_one c.capacity_of.ensures) c.in_ok-push.ensures.items

@@ -4,4 +4,5 @@ use Rattle.plan_rules.specs.Expanded.{at_rate_one, capacity_of}
 use Rattle.periods.proofs.units.capacities_of.Given as goal
 
 abbrev pub invariant-making : goal.invariant-making
-invariant-making l = l.terms.items ≡ map (λ t. at_rate_one (capacity_of l.problem t l.unit)) (range_with_len 0 l.period)
+invariant-making l = l.terms.items ≡ map (λ t. at_rate_one
+    (capacity_of l.problem t l.unit)) (range_with_len 0 l.period)

@@ -4,4 +4,5 @@ use Rattle.plan_rules.specs.Expanded.{running}
 use Rattle.periods.proofs.units.push_period.Given as goal
 
 abbrev pub invariant-running : goal.invariant-running
-invariant-running l = l.units.items ≡ l.fn.units.items ++ map (running l.problem l.period) (range_with_len 0 l.unit)
+invariant-running l = l.units.items ≡ l.fn.units.items ++ map (running l.problem
+    l.period) (range_with_len 0 l.unit)

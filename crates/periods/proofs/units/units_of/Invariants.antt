@@ -4,4 +4,5 @@ use Rattle.plan_rules.specs.Expanded.{built_units, period_units}
 use Rattle.periods.proofs.units.units_of.Given as goal
 
 abbrev pub invariant-copying : goal.invariant-copying
-invariant-copying l = l.units.items ≡ built_units l.problem l.periods ++ flat_map (period_units l.problem) (range_with_len 0 l.period)
+invariant-copying l = l.units.items ≡ built_units l.problem l.periods ++ flat_map (period_units
+    l.problem) (range_with_len 0 l.period)

@@ -6,5 +6,6 @@ use Rattle.pgraph.proofs.tables.excluded_units.Given as goal
 abbrev pub invariant-loop-exclusion : goal.invariant-loop-exclusion
 invariant-loop-exclusion l = record {
   count : length l.sets.items ≡ l.exclusion-index;
-  units : (k u : ℕ) → k < l.exclusion-index → has (get_or l.sets.items k []) u ≡ has (units_excluded l.exclusions k) u;
+  units : (k u : ℕ) → k < l.exclusion-index
+      → has (get_or l.sets.items k []) u ≡ has (units_excluded l.exclusions k) u;
 }

@@ -10,16 +10,28 @@ use Rattle.plan_text.proofs.text.read_plan.Goals as goal
 
 pub returns-in-Some-clause-read : goal.returns-in-Some-clause-read
 returns-in-Some-clause-read c =
-    let same : read_plan c.args.problem.now c.args.bytes.now ≡ rest_read c.args.problem.now c.in-Some.lines = typed c.args.problem.now c.args.bytes.now c.in-Some.lines c.in-Some.ensures.number c.in-Some.ensures.typed in
-    subst (λ (r : Result Plan Fault). IfOk c.read_rest.result (λ plan. r ≡ Ok plan)) (sym same) c.read_rest.ensures.read
+    let same : read_plan c.args.problem.now c.args.bytes.now
+    ≡ rest_read c.args.problem.now c.in-Some.lines =
+    typed c.args.problem.now c.args.bytes.now c.in-Some.lines c.in-Some.ensures.number
+    c.in-Some.ensures.typed in
+    subst (λ (r : Result Plan Fault). IfOk c.read_rest.result (λ plan. r ≡ Ok plan)) (sym same)
+    c.read_rest.ensures.read
 
 pub returns-in-Some-clause-valid : goal.returns-in-Some-clause-valid
 returns-in-Some-clause-valid c =
-    let same : read_plan c.args.problem.now c.args.bytes.now ≡ rest_read c.args.problem.now c.in-Some.lines = typed c.args.problem.now c.args.bytes.now c.in-Some.lines c.in-Some.ensures.number c.in-Some.ensures.typed in
+    let same : read_plan c.args.problem.now c.args.bytes.now
+    ≡ rest_read c.args.problem.now c.in-Some.lines =
+    typed c.args.problem.now c.args.bytes.now c.in-Some.lines c.in-Some.ensures.number
+    c.in-Some.ensures.typed in
     read_valid c.args.problem.now c.args.bytes.now c.read_rest.result c.is_valid.ensures.well_formed
-    (subst (λ (r : Result Plan Fault). IfOk c.read_rest.result (λ plan. r ≡ Ok plan)) (sym same) c.read_rest.ensures.read)
+    (subst (λ (r : Result Plan Fault). IfOk c.read_rest.result (λ plan. r ≡ Ok plan)) (sym same)
+    c.read_rest.ensures.read)
 
 pub returns-in-Some-clause-fault : goal.returns-in-Some-clause-fault
 returns-in-Some-clause-fault c =
-    let same : read_plan c.args.problem.now c.args.bytes.now ≡ rest_read c.args.problem.now c.in-Some.lines = typed c.args.problem.now c.args.bytes.now c.in-Some.lines c.in-Some.ensures.number c.in-Some.ensures.typed in
-    subst (λ (r : Result Plan Fault). IfErr c.read_rest.result (Tells r)) (sym same) c.read_rest.ensures.fault
+    let same : read_plan c.args.problem.now c.args.bytes.now
+    ≡ rest_read c.args.problem.now c.in-Some.lines =
+    typed c.args.problem.now c.args.bytes.now c.in-Some.lines c.in-Some.ensures.number
+    c.in-Some.ensures.typed in
+    subst (λ (r : Result Plan Fault). IfErr c.read_rest.result (Tells r)) (sym same)
+    c.read_rest.ensures.fault

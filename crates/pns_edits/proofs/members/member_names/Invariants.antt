@@ -3,4 +3,5 @@ use Rattle.edit_rules.specs.Place.{member_names}
 use Rattle.pns_edits.proofs.members.member_names.Given as goal
 
 abbrev pub invariant-naming : goal.invariant-naming
-invariant-naming l = map string_bytes l.names.items ≡ member_names l.parts (take l.unit-index l.units)
+invariant-naming l = map string_bytes l.names.items ≡ member_names l.parts (take l.unit-index
+    l.units)

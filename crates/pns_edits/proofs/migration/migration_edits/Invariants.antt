@@ -6,4 +6,6 @@ use Rattle.pns_edits.specs.Terms.{AreAllYearlyInRange}
 use Rattle.pns_edits.proofs.migration.migration_edits.Given as goal
 
 abbrev pub invariant-migrating : goal.invariant-migrating
-invariant-migrating l = AreAllYearlyInRange (drop l.unit-index l.units) × (map edit_of l.edits.items ++ flat_map (unit_migration (pos l.years)) (drop l.unit-index l.units) ≡ migration (pos l.years) l.problem)
+invariant-migrating l = AreAllYearlyInRange (drop l.unit-index l.units) × (map edit_of l.edits.items
+    ++ flat_map (unit_migration (pos l.years)) (drop l.unit-index l.units)
+    ≡ migration (pos l.years) l.problem)

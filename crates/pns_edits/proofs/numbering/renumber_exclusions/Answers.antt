@@ -8,6 +8,8 @@ use Rattle.pns_edits.proofs.numbering.renumber_exclusions.Goals as goal
 pub moving-preserved : goal.moving-preserved
 moving-preserved c =
     let new = new_number c.args.by in
-    changed_next (in_exclusion new) c.args.exclusions.now c.moving.exclusions c.moving.exclusion-index c.exclusion-item.result _ c.moving-test.true c.moving.invariant
+    changed_next (in_exclusion new) c.args.exclusions.now c.moving.exclusions
+    c.moving.exclusion-index c.exclusion-item.result _ c.moving-test.true c.moving.invariant
     (in_exclusion_is new _ _ _ c.exclusion.view_is
-    (with_items_is c.exclusion.inside.units c.renumber_members.new.members (omega arith) ∙ (c.renumber_members.ensures ∙ ap (map new) c.deref_mut.ensures.value)))
+    (with_items_is c.exclusion.inside.units c.renumber_members.new.members (omega arith)
+    ∙ (c.renumber_members.ensures ∙ ap (map new) c.deref_mut.ensures.value)))

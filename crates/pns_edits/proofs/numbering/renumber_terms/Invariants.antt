@@ -4,4 +4,5 @@ use Rattle.pns_edits.specs.Renumbering.{new_number}
 use Rattle.pns_edits.proofs.numbering.renumber_terms.Given as goal
 
 abbrev pub invariant-moving : goal.invariant-moving
-invariant-moving l = l.terms ≡ map (in_term (new_number l.by)) (take l.term-index l.fn.terms) ++ drop l.term-index l.fn.terms
+invariant-moving l = l.terms ≡ map (in_term (new_number l.by)) (take l.term-index
+    l.fn.terms) ++ drop l.term-index l.fn.terms

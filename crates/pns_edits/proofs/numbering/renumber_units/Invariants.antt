@@ -4,4 +4,5 @@ use Rattle.pns_edits.specs.Renumbering.{new_number}
 use Rattle.pns_edits.proofs.numbering.renumber_units.Given as goal
 
 abbrev pub invariant-moving : goal.invariant-moving
-invariant-moving l = l.units ≡ map (in_unit (new_number l.by)) (take l.unit-index l.fn.units) ++ drop l.unit-index l.fn.units
+invariant-moving l = l.units ≡ map (in_unit (new_number l.by)) (take l.unit-index
+    l.fn.units) ++ drop l.unit-index l.fn.units

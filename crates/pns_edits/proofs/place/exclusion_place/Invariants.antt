@@ -4,4 +4,5 @@ use Rattle.problem_rules.specs.Problem.{exclusion_names}
 use Rattle.pns_edits.proofs.place.exclusion_place.Given as goal
 
 abbrev pub invariant-looking : goal.invariant-looking
-invariant-looking l = IsSought l.k (string_bytes l.name) (exclusion_names l.parts.exclusions) (exclusion_names (drop l.k l.parts.exclusions))
+invariant-looking l = IsSought l.k (string_bytes l.name) (exclusion_names
+    l.parts.exclusions) (exclusion_names (drop l.k l.parts.exclusions))

@@ -8,5 +8,7 @@ use Rattle.pns_problem.proofs.canonical.push_exclusion_section.Goals as goal
 pub returns : goal.returns
 returns c =
     let some : 0 < length c.args.exclusions.now = grind (arith, common_steps) in
-    section_text (exclusion_line (unit_names c.args.units.now)) c.args.exclusions.now (string_bytes c.args.text.now) (string_bytes c.push_str.new.self) (string_bytes c.push_exclusion_lines.new.text)
+    section_text (exclusion_line (unit_names c.args.units.now)) c.args.exclusions.now
+    (string_bytes c.args.text.now) (string_bytes c.push_str.new.self)
+    (string_bytes c.push_exclusion_lines.new.text)
     some c.in_ok-push_str.ensures.bytes c.in_ok-push_exclusion_lines.ensures

@@ -4,4 +4,5 @@ use Rattle.problem_rules.specs.Problem.{unit_names}
 use Rattle.pns_problem.proofs.canonical.push_further_members.Given as goal
 
 abbrev pub invariant-printing : goal.invariant-printing
-invariant-printing l = AreMembersPrinted (length l.units) (unit_names l.units) l.members l.member-index (string_bytes l.fn.text) (string_bytes l.text)
+invariant-printing l = AreMembersPrinted (length l.units) (unit_names
+    l.units) l.members l.member-index (string_bytes l.fn.text) (string_bytes l.text)

@@ -11,7 +11,10 @@ returns c =
     let v = c.material.view_is in
     let old = string_bytes c.args.text.now in
     let t1 = string_bytes c.push_name.new.text in
-    line_of_items old t1 (string_bytes c.push_kind.new.text) (string_bytes c.push_material_amounts.new.text) m.name (kind_word m.kind) (material_amounts m)
-    (c.in_ok-push_name.ensures ∙ ap (λ n. old ++ named n []) (c.deref.ensures ∙ ap (λ (m : Material). m.name) v))
+    line_of_items old t1 (string_bytes c.push_kind.new.text)
+    (string_bytes c.push_material_amounts.new.text) m.name (kind_word m.kind)
+    (material_amounts m)
+    (c.in_ok-push_name.ensures
+    ∙ ap (λ n. old ++ named n []) (c.deref.ensures ∙ ap (λ (m : Material). m.name) v))
     (c.in_ok-push_kind.ensures ∙ ap (λ (m : Material). t1 ++ kind_word m.kind) v)
     c.in_ok-push_material_amounts.ensures

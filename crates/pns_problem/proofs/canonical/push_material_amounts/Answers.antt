@@ -16,8 +16,16 @@ returns c =
     let a : SFits w64 x.price = search rules in
     let b : SFits w64 x.lower = search rules in
     let d : SFits w64 x.upper = search rules in
-    three_further old t1 t2 t3 (field (codes "price") (amount_bytes x.price)) (field (codes "flow_rate_lower_bound") (amount_bytes x.lower)) (field (codes "flow_rate_upper_bound") (amount_bytes x.upper))
-    (c.in_ok-push_further.ensures ∙ ap (λ z. old ++ further (field (codes "price") (amount_bytes z))) (to_z-of_z w64 x.price a))
-    (c.in_ok-push_further-2.ensures ∙ ap (λ z. t1 ++ further (field (codes "flow_rate_lower_bound") (amount_bytes z))) (to_z-of_z w64 x.lower b))
-    (c.in_ok-push_further-3.ensures ∙ ap (λ z. t2 ++ further (field (codes "flow_rate_upper_bound") (amount_bytes z))) (to_z-of_z w64 x.upper d))
+    three_further old t1 t2 t3 (field (codes "price") (amount_bytes x.price))
+    (field (codes "flow_rate_lower_bound") (amount_bytes x.lower))
+    (field (codes "flow_rate_upper_bound") (amount_bytes x.upper))
+    (c.in_ok-push_further.ensures
+    ∙ ap (λ z. old ++ further (field (codes "price") (amount_bytes z)))
+    (to_z-of_z w64 x.price a))
+    (c.in_ok-push_further-2.ensures
+    ∙ ap (λ z. t1 ++ further (field (codes "flow_rate_lower_bound") (amount_bytes z)))
+    (to_z-of_z w64 x.lower b))
+    (c.in_ok-push_further-3.ensures
+    ∙ ap (λ z. t2 ++ further (field (codes "flow_rate_upper_bound") (amount_bytes z)))
+    (to_z-of_z w64 x.upper d))
     ∙ ap (λ y. old ++ further_items (material_amounts y)) c.material.view_is

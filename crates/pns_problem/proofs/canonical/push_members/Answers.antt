@@ -7,6 +7,9 @@ use Rattle.pns_problem.proofs.canonical.push_members.Goals as goal
 
 pub returns : goal.returns
 returns c =
-    let e : string_bytes c.push_str.new.self ≡ string_bytes c.args.text.now ++ name_at (unit_names c.args.units.now) (get_or c.args.members.now 0 0) = grind (arith, common_steps) in
-    members_text (unit_names c.args.units.now) c.args.members.now (string_bytes c.args.text.now) (string_bytes c.push_str.new.self) (string_bytes c.push_further_members.new.text)
+    let e : string_bytes c.push_str.new.self ≡ string_bytes c.args.text.now
+    ++ name_at (unit_names c.args.units.now) (get_or c.args.members.now 0 0) =
+    grind (arith, common_steps) in
+    members_text (unit_names c.args.units.now) c.args.members.now (string_bytes c.args.text.now)
+    (string_bytes c.push_str.new.self) (string_bytes c.push_further_members.new.text)
     c.requires.some e c.in_ok-push_further_members.ensures

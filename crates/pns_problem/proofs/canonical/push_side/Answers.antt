@@ -5,5 +5,7 @@ use Rattle.pns_problem.proofs.canonical.push_side.Goals as goal
 
 pub returns : goal.returns
 returns c =
-    side_of_terms (material_names c.args.materials.now) c.args.terms.now c.index-terms-0.result (string_bytes c.args.text.now) (string_bytes c.push_term.new.text) (string_bytes c.push_further_terms.new.text)
+    side_of_terms (material_names c.args.materials.now) c.args.terms.now c.index-terms-0.result
+    (string_bytes c.args.text.now) (string_bytes c.push_term.new.text)
+    (string_bytes c.push_further_terms.new.text)
     c.requires.some c.index-terms-0.is c.in_ok-push_term.ensures c.in_ok-push_further_terms.ensures

@@ -3,4 +3,5 @@ use Rattle.problem_rules.specs.Validity.{breaks_rise}
 use Rattle.pns_problem.proofs.exclusion.breaks_rise.Given as goal
 
 abbrev pub invariant-looking : goal.invariant-looking
-invariant-looking l = breaks_rise l.count l.least (drop l.unit-index l.units) ≡ breaks_rise l.count 0 l.units
+invariant-looking l = breaks_rise l.count l.least (drop l.unit-index
+    l.units) ≡ breaks_rise l.count 0 l.units

@@ -4,4 +4,5 @@ use Rattle.problem_rules.specs.Validity.{any_below_one}
 use Rattle.pns_problem.proofs.term.any_below_one.Given as goal
 
 abbrev pub invariant-looking : goal.invariant-looking
-invariant-looking l = any_below_one (rates_of (drop l.term-index l.terms)) ≡ any_below_one (rates_of l.terms)
+invariant-looking l = any_below_one (rates_of (drop l.term-index l.terms)) ≡ any_below_one (rates_of
+    l.terms)

@@ -4,4 +4,5 @@ use Rattle.pns_tables.proofs.FlowLemmas.{IsMadeSoFar}
 use Rattle.pns_tables.proofs.flows.flow_of.Given as goal
 
 abbrev pub invariant-loop-u : goal.invariant-loop-u
-invariant-loop-u l = IsMadeSoFar (net_of l.fn.problem) (size_in l.fn.network) l.fn.j l.fn.network.units l.made l.u-iterator
+invariant-loop-u l = IsMadeSoFar (net_of l.fn.problem) (size_in
+    l.fn.network) l.fn.j l.fn.network.units l.made l.u-iterator

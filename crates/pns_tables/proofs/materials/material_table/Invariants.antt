@@ -7,6 +7,8 @@ use Rattle.pns_tables.proofs.materials.material_table.Given as goal
 
 abbrev pub invariant-loop-j : goal.invariant-loop-j
 invariant-loop-j l = record {
-  within : IsWithin (has l.j-iterator) (has (materials_of (net_of l.fn.site) (has l.fn.network.units)));
-  table : IsTableSoFar (λ v. Some v.items) material_heading (IsMaterialRow l.fn.site l.fn.network) (materials_of (net_of l.fn.site) (has l.fn.network.units)) l.writer l.j-iterator;
+  within : IsWithin (has l.j-iterator)
+      (has (materials_of (net_of l.fn.site) (has l.fn.network.units)));
+  table : IsTableSoFar (λ v. Some v.items) material_heading (IsMaterialRow l.fn.site l.fn.network)
+      (materials_of (net_of l.fn.site) (has l.fn.network.units)) l.writer l.j-iterator;
 }

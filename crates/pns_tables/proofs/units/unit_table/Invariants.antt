@@ -7,5 +7,6 @@ use Rattle.pns_tables.proofs.units.unit_table.Given as goal
 abbrev pub invariant-loop-u : goal.invariant-loop-u
 invariant-loop-u l = record {
   within : IsWithin (has l.u-iterator) (has l.fn.network.units);
-  table : IsTableSoFar (λ v. Some v.items) unit_heading (IsUnitRow l.fn.problem l.fn.network) l.fn.network.units l.writer l.u-iterator;
+  table : IsTableSoFar (λ v. Some v.items) unit_heading (IsUnitRow l.fn.problem l.fn.network)
+      l.fn.network.units l.writer l.u-iterator;
 }

@@ -3,4 +3,5 @@ use Rattle.text_rules.specs.Value.{value_at, item_fields}
 use Rattle.pns_text.proofs.item.field_at.Given as goal
 
 abbrev pub invariant-loop-item : goal.invariant-loop-item
-invariant-loop-item l = value_at l.key (item_fields (drop l.item-index l.items)) ≡ value_at l.key (item_fields l.items)
+invariant-loop-item l = value_at l.key (item_fields
+    (drop l.item-index l.items)) ≡ value_at l.key (item_fields l.items)

@@ -4,4 +4,5 @@ use Rattle.text_rules.specs.Fault.{keys_in}
 use Rattle.pns_text.proofs.item.has_field.Given as goal
 
 abbrev pub invariant-loop-item : goal.invariant-loop-item
-invariant-loop-item l = is_among (keys_in (drop l.item-index l.items)) l.key ≡ is_among (keys_in l.items) l.key
+invariant-loop-item l = is_among (keys_in (drop l.item-index l.items)) l.key ≡ is_among (keys_in
+    l.items) l.key

@@ -5,13 +5,21 @@ use Rattle.pns_text.proofs.item.items_of.Goals as goal
 
 pub loop-items-preserved : goal.loop-items-preserved
 loop-items-preserved c =
-    let lt : c.place_of-at.result < length c.loop-items.rest.now = let b = c.if-at-rest.false in omega (arith, b) in
-    items_more c.loop-items.items.items c.push.new.self.items (items_of c.args.text.now) c.loop-items.rest.now c.behind-rest.result.now c.place_of-at.result c.place_of-at.ensures.place lt
-    (c.in_ok-push.ensures.items ∙ ap (λ (item : List ℕ). c.loop-items.items.items ++ item ∷ []) (c.of.ensures ∙ c.trim.ensures.value)) c.behind-rest.ensures c.loop-items.invariant
+    let lt : c.place_of-at.result < length c.loop-items.rest.now = let b =
+    c.if-at-rest.false in omega (arith, b) in
+    items_more c.loop-items.items.items c.push.new.self.items (items_of c.args.text.now)
+    c.loop-items.rest.now c.behind-rest.result.now c.place_of-at.result
+    c.place_of-at.ensures.place lt
+    (c.in_ok-push.ensures.items
+    ∙ ap (λ (item : List ℕ). c.loop-items.items.items ++ item ∷ [])
+    (c.of.ensures ∙ c.trim.ensures.value)) c.behind-rest.ensures c.loop-items.invariant
 
 pub returns-then-at-rest : goal.returns-then-at-rest
 returns-then-at-rest c =
-    let le : length c.loop-items.rest.now ≤ c.place_of-at.result = let b = c.if-at-rest.true in omega (arith, b) in
+    let le : length c.loop-items.rest.now ≤ c.place_of-at.result = let b =
+    c.if-at-rest.true in omega (arith, b) in
     c.in_ok-push.ensures.items
-    ∙ ap (λ (item : List ℕ). c.loop-items.items.items ++ item ∷ []) (c.of.ensures ∙ c.trim.ensures.value)
-    ∙ items_last c.loop-items.items.items (items_of c.args.text.now) c.loop-items.rest.now c.place_of-at.result c.place_of-at.ensures.place le c.loop-items.invariant
+    ∙ ap (λ (item : List ℕ). c.loop-items.items.items ++ item ∷ [])
+    (c.of.ensures ∙ c.trim.ensures.value)
+    ∙ items_last c.loop-items.items.items (items_of c.args.text.now) c.loop-items.rest.now
+    c.place_of-at.result c.place_of-at.ensures.place le c.loop-items.invariant

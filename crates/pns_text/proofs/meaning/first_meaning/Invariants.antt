@@ -3,4 +3,5 @@ use Rattle.text_rules.specs.Value.{first_meaning}
 use Rattle.pns_text.proofs.meaning.first_meaning.Given as goal
 
 abbrev pub invariant-loop-line : goal.invariant-loop-line
-invariant-loop-line l = first_meaning l.settings l.names (drop l.line-index l.lines) ≡ first_meaning l.settings l.names l.lines
+invariant-loop-line l = first_meaning l.settings l.names (drop l.line-index
+    l.lines) ≡ first_meaning l.settings l.names l.lines

@@ -6,4 +6,6 @@ use Rattle.text_rules.specs.Fault.{names_of}
 use Rattle.pns_text.proofs.meaning.some_unknown.Given as goal
 
 abbrev pub invariant-loop-term : goal.invariant-loop-term
-invariant-loop-term l = list_any (λ name. not (is_among l.materials name)) (names_of (terms_view (drop l.term-index l.terms))) ≡ list_any (λ name. not (is_among l.materials name)) (names_of (terms_view l.terms))
+invariant-loop-term l = list_any (λ name. not (is_among l.materials name)) (names_of
+    (terms_view (drop l.term-index l.terms)))
+    ≡ list_any (λ name. not (is_among l.materials name)) (names_of (terms_view l.terms))

@@ -13,9 +13,14 @@ pub loop-line-preserved : goal.loop-line-preserved
 loop-line-preserved c = elim c.match-unit_items.branch [
   | in-Some+in_ok-push w ↦
       (λ k. texts (w.heads-is k).items)
-      ∙ one_more head (is_at OperatingUnits) c.args.lines.now c.loop-line.line-index c.line-item.result [] _ _ w.head.result.now c.loop-line-test.true c.line-item.is w.in-Some.ensures.at
-      (text_pushed c.loop-line.heads.items w.push.new.self.items w.head.result w.in_ok-push.ensures.items) w.head.ensures c.loop-line.invariant
+      ∙ one_more head (is_at OperatingUnits) c.args.lines.now c.loop-line.line-index
+      c.line-item.result [] _ _ w.head.result.now c.loop-line-test.true c.line-item.is
+      w.in-Some.ensures.at
+      (text_pushed c.loop-line.heads.items w.push.new.self.items w.head.result
+      w.in_ok-push.ensures.items) w.head.ensures c.loop-line.invariant
   | in_default w ↦
       (λ k. texts (w.heads-is k).items)
-      ∙ none_more head (is_at OperatingUnits) c.args.lines.now c.loop-line.line-index c.line-item.result [] _ c.loop-line-test.true c.line-item.is w.in_default.ensures.at c.loop-line.invariant
+      ∙ none_more head (is_at OperatingUnits) c.args.lines.now c.loop-line.line-index
+      c.line-item.result [] _ c.loop-line-test.true c.line-item.is w.in_default.ensures.at
+      c.loop-line.invariant
 ]

@@ -6,4 +6,6 @@ use Rattle.text_lines.specs.Terms.{terms_view}
 use Rattle.pns_text.proofs.rates_line.some_among.Given as goal
 
 abbrev pub invariant-loop-term : goal.invariant-loop-term
-invariant-loop-term l = list_any (is_among l.names) (names_of (terms_view (drop l.term-index l.terms))) ≡ list_any (is_among l.names) (names_of (terms_view l.terms))
+invariant-loop-term l = list_any (is_among l.names) (names_of
+    (terms_view (drop l.term-index l.terms)))
+    ≡ list_any (is_among l.names) (names_of (terms_view l.terms))

@@ -5,4 +5,5 @@ use Rattle.text_rules.specs.Value.{listed_unit}
 use Rattle.pns_text.proofs.value.listed_units.Given as goal
 
 abbrev pub invariant-loop-line : goal.invariant-loop-line
-invariant-loop-line l = l.units.items ≡ map (λ (line : Placed). listed_unit l.settings l.names l.lines line.text) (lines_at OperatingUnits (take l.line-index l.lines))
+invariant-loop-line l = l.units.items ≡ map (λ (line : Placed). listed_unit l.settings l.names
+    l.lines line.text) (lines_at OperatingUnits (take l.line-index l.lines))

@@ -14,9 +14,15 @@ pub loop-line-preserved : goal.loop-line-preserved
 loop-line-preserved c = elim c.match-material_items.branch [
   | in-Some+in_ok-material+in_ok-push w ↦
       (λ k. (w.materials-is k).items)
-      ∙ one_more (made c.args.settings.now) (is_at Materials) c.args.lines.now c.loop-line.line-index c.line-item.result [] _ _ _ c.loop-line-test.true c.line-item.is w.in-Some.ensures.at w.in_ok-push.ensures.items
-      (w.in_ok-material.ensures ∙ (λ k. material_from c.args.settings.now (w.head.ensures k) (item_fields (w.in-Some.ensures.some k)))) c.loop-line.invariant
+      ∙ one_more (made c.args.settings.now) (is_at Materials) c.args.lines.now
+      c.loop-line.line-index c.line-item.result [] _ _ _ c.loop-line-test.true c.line-item.is
+      w.in-Some.ensures.at w.in_ok-push.ensures.items
+      (w.in_ok-material.ensures
+      ∙ (λ k. material_from c.args.settings.now (w.head.ensures k)
+      (item_fields (w.in-Some.ensures.some k)))) c.loop-line.invariant
   | in_default w ↦
       (λ k. (w.materials-is k).items)
-      ∙ none_more (made c.args.settings.now) (is_at Materials) c.args.lines.now c.loop-line.line-index c.line-item.result [] _ c.loop-line-test.true c.line-item.is w.in_default.ensures.at c.loop-line.invariant
+      ∙ none_more (made c.args.settings.now) (is_at Materials) c.args.lines.now
+      c.loop-line.line-index c.line-item.result [] _ c.loop-line-test.true c.line-item.is
+      w.in_default.ensures.at c.loop-line.invariant
 ]

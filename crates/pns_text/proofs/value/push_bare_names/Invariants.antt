@@ -5,4 +5,5 @@ use Rattle.text_rules.specs.Value.{bare_lines}
 use Rattle.pns_text.proofs.value.push_bare_names.Given as goal
 
 abbrev pub invariant-loop-line : goal.invariant-loop-line
-invariant-loop-line l = texts l.all.items ≡ texts l.initial.all.items ++ map (λ (line : Placed). head_of line.text) (bare_lines l.units (take l.line-index l.lines))
+invariant-loop-line l = texts l.all.items ≡ texts l.initial.all.items ++ map (λ (line : Placed).
+    head_of line.text) (bare_lines l.units (take l.line-index l.lines))

@@ -4,4 +4,6 @@ use Rattle.text_rules.specs.Value.{bare_unit, bare_lines}
 use Rattle.pns_text.proofs.value.push_bare_units.Given as goal
 
 abbrev pub invariant-loop-line : goal.invariant-loop-line
-invariant-loop-line l = l.units.items ≡ l.initial.units.items ++ map (λ (line : Placed). bare_unit l.settings l.names.materials l.lines line.text) (bare_lines l.names.units (take l.line-index l.lines))
+invariant-loop-line l = l.units.items ≡ l.initial.units.items ++ map (λ (line : Placed). bare_unit
+    l.settings l.names.materials l.lines line.text)
+    (bare_lines l.names.units (take l.line-index l.lines))

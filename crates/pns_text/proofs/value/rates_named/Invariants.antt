@@ -6,4 +6,8 @@ use Rattle.text_rules.specs.Term.{pairs_at}
 use Rattle.pns_text.proofs.value.rates_named.Given as goal
 
 abbrev pub invariant-loop-line : goal.invariant-loop-line
-invariant-loop-line l = option_map (λ (line : Placed). pairs_at line.text) (find (λ (line : Placed). bytes_eq (head_of line.text) l.name) (lines_at Rates (drop l.line-index l.lines))) ≡ option_map (λ (line : Placed). pairs_at line.text) (find (λ (line : Placed). bytes_eq (head_of line.text) l.name) (lines_at Rates l.lines))
+invariant-loop-line l = option_map (λ (line : Placed). pairs_at line.text) (find
+    (λ (line : Placed). bytes_eq (head_of line.text) l.name)
+    (lines_at Rates (drop l.line-index l.lines)))
+    ≡ option_map (λ (line : Placed). pairs_at line.text)
+    (find (λ (line : Placed). bytes_eq (head_of line.text) l.name) (lines_at Rates l.lines))

@@ -3,10 +3,11 @@ use Rattle.pns_text.specs.View.{walk_view}
 use Rattle.pns_text.specs.Walk.{walk_start, read_on, HasNames}
 use Rattle.pns_text.proofs.walk.walk_rest.Given as goal
 
--- what is to come finishes it
+-- the lines that remain complete the reading
 abbrev pub invariant-loop-number : goal.invariant-loop-number
 invariant-loop-number l = record {
-  to_come : read_on (walk_view l.walk) l.lines.number l.lines.lines ≡ read_on walk_start 2 l.fn.lines.lines;
+  to_come : read_on (walk_view l.walk) l.lines.number l.lines.lines
+      ≡ read_on walk_start 2 l.fn.lines.lines;
   names : HasNames (walk_view l.walk) l.lines.number;
 }
 

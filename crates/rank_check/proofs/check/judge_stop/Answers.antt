@@ -15,8 +15,10 @@ returns-in-Err c =
     let found = leaves_at c.args.stop.now.leaves.items in
     mark_fails_before p t found c.in-Node.node c.in-Err.earlier c.in-Node.why c.in-Err.cause
     (subst (λ (r : Refusal). NamesPlainFault p t r) c.in-Node.is c.requires.fault)
-    (subst (λ (r : Refusal). AreBefore (shape_of p) (first_node ∷ []) t.tree r found) c.in-Node.is c.requires.before)
-    (subst (λ (ls : List OpenLeaf). OpenFails p t (leaves_at ls) c.in-Err.earlier c.in-Err.cause) c.deref.ensures.value c.in-Err.ensures.fails)
+    (subst (λ (r : Refusal). AreBefore (shape_of p) (first_node ∷ []) t.tree r found) c.in-Node.is
+    c.requires.before)
+    (subst (λ (ls : List OpenLeaf). OpenFails p t (leaves_at ls) c.in-Err.earlier c.in-Err.cause)
+    c.deref.ensures.value c.in-Err.ensures.fails)
 
 pub returns-in-Ok : goal.returns-in-Ok
 returns-in-Ok c =
@@ -25,5 +27,7 @@ returns-in-Ok c =
     let found = leaves_at c.args.stop.now.leaves.items in
     node_fails_first p t found c.in-Node.node c.in-Node.why
     (subst (λ (r : Refusal). NamesPlainFault p t r) c.in-Node.is c.requires.fault)
-    (subst (λ (r : Refusal). AreBefore (shape_of p) (first_node ∷ []) t.tree r found) c.in-Node.is c.requires.before)
-    (subst (λ (ls : List OpenLeaf). OpenPass p t (leaves_at ls)) c.deref.ensures.value c.in-Ok.ensures.passes)
+    (subst (λ (r : Refusal). AreBefore (shape_of p) (first_node ∷ []) t.tree r found) c.in-Node.is
+    c.requires.before)
+    (subst (λ (ls : List OpenLeaf). OpenPass p t (leaves_at ls)) c.deref.ensures.value
+    c.in-Ok.ensures.passes)

@@ -1,4 +1,5 @@
-use Rattle.std.proofs.Common.{◌≡◌, ◌∙◌, [], ◌∷◌, List, ℕ, Option, true, OnOk, IfOk, IfErr, ap₂, subst}
+use Rattle.std.proofs.Common.{◌≡◌, ◌∙◌, [], ◌∷◌, List, ℕ, Option, true, OnOk, IfOk, IfErr, ap₂}
+use Rattle.std.proofs.Common.{subst}
 use Rattle.number_sets.specs.Sets.{has}
 use Rattle.pns_rules.specs.Shape.{shape_of}
 use Rattle.pns_rules.specs.Nodes.{Node}
@@ -19,41 +20,96 @@ returns-clause-passes c =
     let p = c.args.site.now in
     let t = c.args.text.now in
     let u = to_undercut t.count t.networks in
-    let start : node_of (record { inside = c.empty.result; outside = c.empty-2.result }) ≡ first_node = λ i. record { inside = has (c.empty.ensures i); outside = has (c.empty-2.ensures i) } in
-    let cost : cost_over c.cost_to_undercut-undercut.result ≡ u = c.cost_to_undercut-undercut.ensures ∙ ap₂ (λ (k : ℕ) (ws : List Network). to_undercut k ws) c.count.ensures c.networks.ensures in
-    subst (λ (ts : Tree). OnOk c.check_nodes.result (Pass (shape_of p) (LeafPasses true p u) (first_node ∷ []) ts)) c.tree.ensures
-    (subst (λ (v : Option CostOver). OnOk c.check_nodes.result (Pass (shape_of p) (LeafPasses true p v) (first_node ∷ []) c.tree.result.now)) cost
-    (subst (λ (n : Node). OnOk c.check_nodes.result (Pass (shape_of p) (LeafPasses true p (cost_over c.cost_to_undercut-undercut.result)) (n ∷ []) c.tree.result.now)) start c.check_nodes.ensures.passes))
+    let start : node_of (record { inside = c.empty.result; outside = c.empty-2.result })
+    ≡ first_node =
+    λ i. record { inside = has (c.empty.ensures i); outside = has (c.empty-2.ensures i) } in
+    let cost : cost_over c.cost_to_undercut-undercut.result ≡ u =
+    c.cost_to_undercut-undercut.ensures
+    ∙ ap₂ (λ (k : ℕ) (ws : List Network). to_undercut k ws) c.count.ensures
+    c.networks.ensures in
+    subst
+    (λ (ts : Tree). OnOk c.check_nodes.result
+    (Pass (shape_of p) (LeafPasses true p u) (first_node ∷ []) ts)) c.tree.ensures
+    (subst
+    (λ (v : Option CostOver). OnOk c.check_nodes.result
+    (Pass (shape_of p) (LeafPasses true p v) (first_node ∷ []) c.tree.result.now)) cost
+    (subst
+    (λ (n : Node). OnOk c.check_nodes.result
+    (Pass (shape_of p) (LeafPasses true p (cost_over c.cost_to_undercut-undercut.result))
+    (n ∷ []) c.tree.result.now)) start c.check_nodes.ensures.passes))
 
 pub returns-clause-leaves : goal.returns-clause-leaves
 returns-clause-leaves c =
     let p = c.args.site.now in
     let t = c.args.text.now in
     let u = to_undercut t.count t.networks in
-    let start : node_of (record { inside = c.empty.result; outside = c.empty-2.result }) ≡ first_node = λ i. record { inside = has (c.empty.ensures i); outside = has (c.empty-2.ensures i) } in
-    let cost : cost_over c.cost_to_undercut-undercut.result ≡ u = c.cost_to_undercut-undercut.ensures ∙ ap₂ (λ (k : ℕ) (ws : List Network). to_undercut k ws) c.count.ensures c.networks.ensures in
-    subst (λ (ts : Tree). IfOk c.check_nodes.result (λ w. leaves_at w.items ≡ open_leaves (shape_of p) (first_node ∷ []) ts 0)) c.tree.ensures
-    (subst (λ (v : Option CostOver). IfOk c.check_nodes.result (λ w. leaves_at w.items ≡ open_leaves (shape_of p) (first_node ∷ []) c.tree.result.now 0)) cost
-    (subst (λ (n : Node). IfOk c.check_nodes.result (λ w. leaves_at w.items ≡ open_leaves (shape_of p) (n ∷ []) c.tree.result.now 0)) start c.check_nodes.ensures.leaves))
+    let start : node_of (record { inside = c.empty.result; outside = c.empty-2.result })
+    ≡ first_node =
+    λ i. record { inside = has (c.empty.ensures i); outside = has (c.empty-2.ensures i) } in
+    let cost : cost_over c.cost_to_undercut-undercut.result ≡ u =
+    c.cost_to_undercut-undercut.ensures
+    ∙ ap₂ (λ (k : ℕ) (ws : List Network). to_undercut k ws) c.count.ensures
+    c.networks.ensures in
+    subst
+    (λ (ts : Tree). IfOk c.check_nodes.result
+    (λ w. leaves_at w.items ≡ open_leaves (shape_of p) (first_node ∷ []) ts 0)) c.tree.ensures
+    (subst
+    (λ (v : Option CostOver). IfOk c.check_nodes.result
+    (λ w. leaves_at w.items ≡ open_leaves (shape_of p) (first_node ∷ []) c.tree.result.now 0))
+    cost
+    (subst
+    (λ (n : Node). IfOk c.check_nodes.result
+    (λ w. leaves_at w.items ≡ open_leaves (shape_of p) (n ∷ []) c.tree.result.now 0)) start
+    c.check_nodes.ensures.leaves))
 
 pub returns-clause-fault : goal.returns-clause-fault
 returns-clause-fault c =
     let p = c.args.site.now in
     let t = c.args.text.now in
     let u = to_undercut t.count t.networks in
-    let start : node_of (record { inside = c.empty.result; outside = c.empty-2.result }) ≡ first_node = λ i. record { inside = has (c.empty.ensures i); outside = has (c.empty-2.ensures i) } in
-    let cost : cost_over c.cost_to_undercut-undercut.result ≡ u = c.cost_to_undercut-undercut.ensures ∙ ap₂ (λ (k : ℕ) (ws : List Network). to_undercut k ws) c.count.ensures c.networks.ensures in
-    subst (λ (ts : Tree). IfErr c.check_nodes.result (λ stop. NamesFault (shape_of p) (LeafPasses true p u) (LeafFails true p u) (first_node ∷ []) ts stop.refusal)) c.tree.ensures
-    (subst (λ (v : Option CostOver). IfErr c.check_nodes.result (λ stop. NamesFault (shape_of p) (LeafPasses true p v) (LeafFails true p v) (first_node ∷ []) c.tree.result.now stop.refusal)) cost
-    (subst (λ (n : Node). IfErr c.check_nodes.result (λ stop. NamesFault (shape_of p) (LeafPasses true p (cost_over c.cost_to_undercut-undercut.result)) (LeafFails true p (cost_over c.cost_to_undercut-undercut.result)) (n ∷ []) c.tree.result.now stop.refusal)) start c.check_nodes.ensures.fault))
+    let start : node_of (record { inside = c.empty.result; outside = c.empty-2.result })
+    ≡ first_node =
+    λ i. record { inside = has (c.empty.ensures i); outside = has (c.empty-2.ensures i) } in
+    let cost : cost_over c.cost_to_undercut-undercut.result ≡ u =
+    c.cost_to_undercut-undercut.ensures
+    ∙ ap₂ (λ (k : ℕ) (ws : List Network). to_undercut k ws) c.count.ensures
+    c.networks.ensures in
+    subst
+    (λ (ts : Tree). IfErr c.check_nodes.result
+    (λ stop. NamesFault (shape_of p) (LeafPasses true p u) (LeafFails true p u)
+    (first_node ∷ []) ts stop.refusal)) c.tree.ensures
+    (subst
+    (λ (v : Option CostOver). IfErr c.check_nodes.result
+    (λ stop. NamesFault (shape_of p) (LeafPasses true p v) (LeafFails true p v)
+    (first_node ∷ []) c.tree.result.now stop.refusal)) cost
+    (subst
+    (λ (n : Node). IfErr c.check_nodes.result
+    (λ stop. NamesFault (shape_of p)
+    (LeafPasses true p (cost_over c.cost_to_undercut-undercut.result))
+    (LeafFails true p (cost_over c.cost_to_undercut-undercut.result)) (n ∷ []) c.tree.result.now
+    stop.refusal)) start c.check_nodes.ensures.fault))
 
 pub returns-clause-before : goal.returns-clause-before
 returns-clause-before c =
     let p = c.args.site.now in
     let t = c.args.text.now in
     let u = to_undercut t.count t.networks in
-    let start : node_of (record { inside = c.empty.result; outside = c.empty-2.result }) ≡ first_node = λ i. record { inside = has (c.empty.ensures i); outside = has (c.empty-2.ensures i) } in
-    let cost : cost_over c.cost_to_undercut-undercut.result ≡ u = c.cost_to_undercut-undercut.ensures ∙ ap₂ (λ (k : ℕ) (ws : List Network). to_undercut k ws) c.count.ensures c.networks.ensures in
-    subst (λ (ts : Tree). IfErr c.check_nodes.result (λ stop. AreBefore (shape_of p) (first_node ∷ []) ts stop.refusal (leaves_at stop.leaves.items))) c.tree.ensures
-    (subst (λ (v : Option CostOver). IfErr c.check_nodes.result (λ stop. AreBefore (shape_of p) (first_node ∷ []) c.tree.result.now stop.refusal (leaves_at stop.leaves.items))) cost
-    (subst (λ (n : Node). IfErr c.check_nodes.result (λ stop. AreBefore (shape_of p) (n ∷ []) c.tree.result.now stop.refusal (leaves_at stop.leaves.items))) start c.check_nodes.ensures.before))
+    let start : node_of (record { inside = c.empty.result; outside = c.empty-2.result })
+    ≡ first_node =
+    λ i. record { inside = has (c.empty.ensures i); outside = has (c.empty-2.ensures i) } in
+    let cost : cost_over c.cost_to_undercut-undercut.result ≡ u =
+    c.cost_to_undercut-undercut.ensures
+    ∙ ap₂ (λ (k : ℕ) (ws : List Network). to_undercut k ws) c.count.ensures
+    c.networks.ensures in
+    subst
+    (λ (ts : Tree). IfErr c.check_nodes.result
+    (λ stop. AreBefore (shape_of p) (first_node ∷ []) ts stop.refusal
+    (leaves_at stop.leaves.items))) c.tree.ensures
+    (subst
+    (λ (v : Option CostOver). IfErr c.check_nodes.result
+    (λ stop. AreBefore (shape_of p) (first_node ∷ []) c.tree.result.now stop.refusal
+    (leaves_at stop.leaves.items))) cost
+    (subst
+    (λ (n : Node). IfErr c.check_nodes.result
+    (λ stop. AreBefore (shape_of p) (n ∷ []) c.tree.result.now stop.refusal
+    (leaves_at stop.leaves.items))) start c.check_nodes.ensures.before))

@@ -7,17 +7,22 @@ use Rattle.rank_check.proofs.leaf.judge_named.Goals as goal
 
 pub returns-then-not-is_only-clause-fails : goal.returns-then-not-is_only-clause-fails
 returns-then-not-is_only-clause-fails c =
-    other_node c.args.site.now c.args.network.now (node_of c.args.node.now) c.args.scaled.now.d c.args.scaled.now.ys (λ h. let t = c.is_only.ensures.1 h in search rules)
+    other_node c.args.site.now c.args.network.now (node_of c.args.node.now) c.args.scaled.now.d
+    c.args.scaled.now.ys (λ h. let t = c.is_only.ensures.1 h in search rules)
 
 pub returns-in-Ok-clause-passes : goal.returns-in-Ok-clause-passes
 returns-in-Ok-clause-passes c =
     let fits : SFits w128 c.d.result = search rules in
-    named_passes c.args.site.now c.args.network.now (node_of c.args.node.now) _ (to_z w128 (of_z w128 c.d.result)) c.args.scaled.now.d c.ys.result.now c.args.scaled.now.ys
-    c.cost_of-cost.ensures (to_z-of_z w128 c.d.result fits ∙ c.d.ensures) c.ys.ensures (c.is_only.ensures.0 c.if-not-is_only.false) c.in-Ok.ensures.passes
+    named_passes c.args.site.now c.args.network.now (node_of c.args.node.now) _
+    (to_z w128 (of_z w128 c.d.result)) c.args.scaled.now.d c.ys.result.now c.args.scaled.now.ys
+    c.cost_of-cost.ensures (to_z-of_z w128 c.d.result fits ∙ c.d.ensures) c.ys.ensures
+    (c.is_only.ensures.0 c.if-not-is_only.false) c.in-Ok.ensures.passes
 
 pub returns-in-Err-clause-fails : goal.returns-in-Err-clause-fails
 returns-in-Err-clause-fails c =
     let fits : SFits w128 c.d.result = search rules in
-    named_told c.args.site.now c.args.network.now (node_of c.args.node.now) _ (to_z w128 (of_z w128 c.d.result)) c.args.scaled.now.d c.ys.result.now c.args.scaled.now.ys
-    c.cost_of-cost.ensures (to_z-of_z w128 c.d.result fits ∙ c.d.ensures) c.ys.ensures (c.is_only.ensures.0 c.if-not-is_only.false)
+    named_told c.args.site.now c.args.network.now (node_of c.args.node.now) _
+    (to_z w128 (of_z w128 c.d.result)) c.args.scaled.now.d c.ys.result.now c.args.scaled.now.ys
+    c.cost_of-cost.ensures (to_z-of_z w128 c.d.result fits ∙ c.d.ensures) c.ys.ensures
+    (c.is_only.ensures.0 c.if-not-is_only.false)
     c.in-Err.why c.told.result c.in-Err.ensures.fails c.told.ensures

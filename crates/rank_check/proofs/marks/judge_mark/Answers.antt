@@ -16,12 +16,22 @@ use Rattle.rank_check.proofs.marks.judge_mark.Goals as goal
 
 pub returns-in-Open-clause-fails : goal.returns-in-Open-clause-fails
 returns-in-Open-clause-fails c =
-    subst (λ (m : Mark). (undercut : Option CostOver) → MarkFails (LeafFails false c.args.site.now c.args.networks.now undercut) (node_of c.args.node.now) (mark_of m) (Plain causes.Open)) (sym c.in-Open.is)
+    subst (λ (m : Mark). (undercut : Option CostOver)
+    → MarkFails (LeafFails false c.args.site.now c.args.networks.now undercut)
+    (node_of c.args.node.now) (mark_of m) (Plain causes.Open)) (sym c.in-Open.is)
     (λ undercut. open_fails c.args.site.now c.args.networks.now undercut (node_of c.args.node.now))
 
 pub returns-in-Named-clause-fails : goal.returns-in-Named-clause-fails
 returns-in-Named-clause-fails c =
-    subst (λ (m : Mark). IfErr c.judge_numbered.result (λ (why : RankWhy). (undercut : Option CostOver) → MarkFails (LeafFails false c.args.site.now c.args.networks.now undercut) (node_of c.args.node.now) (mark_of m) why)) (sym c.in-Named.is)
-    (weaker (NamedFails c.args.site.now (numbered c.in-Named.network c.args.networks.now) (node_of c.args.node.now) c.in-Named.scaled.d c.in-Named.scaled.ys)
-    (λ (why : RankWhy). (undercut : Option CostOver) → MarkFails (LeafFails false c.args.site.now c.args.networks.now undercut) (node_of c.args.node.now) (mark_of (Named c.in-Named.network c.in-Named.scaled)) why)
+    subst
+    (λ (m : Mark). IfErr c.judge_numbered.result
+    (λ (why : RankWhy). (undercut : Option CostOver)
+    → MarkFails (LeafFails false c.args.site.now c.args.networks.now undercut)
+    (node_of c.args.node.now) (mark_of m) why)) (sym c.in-Named.is)
+    (weaker
+    (NamedFails c.args.site.now (numbered c.in-Named.network c.args.networks.now)
+    (node_of c.args.node.now) c.in-Named.scaled.d c.in-Named.scaled.ys)
+    (λ (why : RankWhy). (undercut : Option CostOver)
+    → MarkFails (LeafFails false c.args.site.now c.args.networks.now undercut)
+    (node_of c.args.node.now) (mark_of (Named c.in-Named.network c.in-Named.scaled)) why)
     c.judge_numbered.result (λ why h undercut. h) c.judge_numbered.ensures.fails)

@@ -6,10 +6,14 @@ use Rattle.rank_check.proofs.marks.judge_marks.Goals as goal
 
 pub returns-in-Err-clause-fails : goal.returns-in-Err-clause-fails
 returns-in-Err-clause-fails c =
-    mark_off c.args.site.now c.args.networks.now (leaves_at c.args.leaves.now) (map mark_of c.args.marks.now) c.judging.i (leaf_at c.index-leaves-i.result) c.in-Err.why
-    (map_ahead leaf_at c.args.leaves.now c.judging.i c.index-leaves-i.result c.judging-test.true c.index-leaves-i.is) c.in-Err.ensures.fails c.judging.invariant
+    mark_off c.args.site.now c.args.networks.now (leaves_at c.args.leaves.now)
+    (map mark_of c.args.marks.now) c.judging.i (leaf_at c.index-leaves-i.result) c.in-Err.why
+    (map_ahead leaf_at c.args.leaves.now c.judging.i c.index-leaves-i.result c.judging-test.true
+    c.index-leaves-i.is) c.in-Err.ensures.fails c.judging.invariant
 
 pub judging-preserved : goal.judging-preserved
 judging-preserved c =
-    marks_next c.args.site.now c.args.networks.now (leaves_at c.args.leaves.now) (map mark_of c.args.marks.now) c.judging.i (leaf_at c.index-leaves-i.result)
-    (map_ahead leaf_at c.args.leaves.now c.judging.i c.index-leaves-i.result c.judging-test.true c.index-leaves-i.is) c.in-Ok.ensures.passes c.judging.invariant
+    marks_next c.args.site.now c.args.networks.now (leaves_at c.args.leaves.now)
+    (map mark_of c.args.marks.now) c.judging.i (leaf_at c.index-leaves-i.result)
+    (map_ahead leaf_at c.args.leaves.now c.judging.i c.index-leaves-i.result c.judging-test.true
+    c.index-leaves-i.is) c.in-Ok.ensures.passes c.judging.invariant

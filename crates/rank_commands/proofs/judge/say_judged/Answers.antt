@@ -14,7 +14,9 @@ use Rattle.rank_commands.proofs.judge.say_judged.Goals as goal
 pub returns-in-Err-Network : goal.returns-in-Err-Network
 returns-in-Err-Network g c =
     let Q : Status → List ℕ → Type 0 = Tells (RankcheckWork c.args.site.now c.args.text.now) in
-    let fails : NetworkIsFault c.args.site.now (ranking_of c.args.text.now) c.in-Err-Network.number c.in-Err-Network.why = (rw c.in-Err-Network.field-0-is at c.in-Err-Network.ensures.refused) in
+    let fails : NetworkIsFault c.args.site.now (ranking_of c.args.text.now) c.in-Err-Network.number
+    c.in-Err-Network.why =
+    (rw c.in-Err-Network.field-0-is at c.in-Err-Network.ensures.refused) in
     let told : List ℕ = network_line c.in-Err-Network.number c.in-Err-Network.why in
     Ends-map _ Q c.args.out.now _ _
     (only_or_memory_in Q Refused (line told) (
@@ -30,7 +32,9 @@ returns-in-Err-Node g c =
     let Q : Status → List ℕ → Type 0 = Tells (RankcheckWork c.args.site.now c.args.text.now) in
     let p = c.args.site.now in
     let t = c.args.text.now in
-    let refuses : ArePassing p [] t.networks × NodeIsFault false p (ranking_of t) c.in-Err-Node.node c.in-Err-Node.why = (rw c.in-Err-Node.field-0-is at c.in-Err-Node.ensures.refused) in
+    let refuses : ArePassing p [] t.networks
+    × NodeIsFault false p (ranking_of t) c.in-Err-Node.node c.in-Err-Node.why =
+    (rw c.in-Err-Node.field-0-is at c.in-Err-Node.ensures.refused) in
     let told : List ℕ = rank_node_line c.in-Err-Node.node c.in-Err-Node.why in
     Ends-map _ Q c.args.out.now _ _
     (only_or_memory_in Q Refused (line told) (
@@ -45,10 +49,12 @@ pub returns-in-Ok : goal.returns-in-Ok
 returns-in-Ok g c =
     let Q : Status → List ℕ → Type 0 = Tells (RankcheckWork c.args.site.now c.args.text.now) in
     Ends-map _ Q c.args.out.now _ _
-    (only_in Q Done (line (codes "accepted")) (codes "accepted" ∷ [], (c.in-Ok.ensures.ranked, refl), one_line (codes "accepted")))
+    (only_in Q Done (line (codes "accepted"))
+    (codes "accepted" ∷ [], (c.in-Ok.ensures.ranked, refl), one_line (codes "accepted")))
     c.say.ensures
 
 pub returns-in-Err-Memory : goal.returns-in-Err-Memory
 returns-in-Err-Memory g c =
     let Q : Status → List ℕ → Type 0 = Tells (RankcheckWork c.args.site.now c.args.text.now) in
-    Ends-map _ Q c.args.out.now _ _ (only_in Q Memory (line (codes "memory")) ([], inl refl, refl)) c.say_memory.ensures
+    Ends-map _ Q c.args.out.now _ _ (only_in Q Memory (line (codes "memory")) ([], inl refl, refl))
+    c.say_memory.ensures

@@ -12,4 +12,5 @@ returns-in-Ok g c =
     let told : List ℕ = line (rank_node_line c.args.node c.args.why) in
     let Q : Status → List ℕ → Type 0 = OrMemory (Only Refused told) in
     let text : c.as_bytes.result.now ≡ told = c.as_bytes.ensures.value ∙ c.in-Ok.ensures in
-    Ends-map (Only Refused c.as_bytes.result.now) Q c.args.out.now _ _ (λ s t said. inl (said.0, said.1 ∙ text)) c.say.ensures
+    Ends-map (Only Refused c.as_bytes.result.now) Q c.args.out.now _ _
+    (λ s t said. inl (said.0, said.1 ∙ text)) c.say.ensures

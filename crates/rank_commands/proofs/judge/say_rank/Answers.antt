@@ -13,9 +13,11 @@ returns-in-Ok-clause-ends g c =
     let p = c.args.problem.now in
     let name = c.args.name.now in
     let read = c.in-Ok.ensures.ranking in
-    let Q : Status → List ℕ → Type 0 = Says (OnRank old.held name p) (λ other. other ≡ name) old new in
+    let Q : Status → List ℕ → Type 0 =
+    Says (OnRank old.held name p) (λ other. other ≡ name) old new in
     Ends-from _ Q c.args.out.now _ _ _ c.in-Ok.ensures.silent
-    (Says-told (RankcheckWork p c.in-Ok.text) (OnRank old.held name p) (λ other. other ≡ name) old new
+    (Says-told (RankcheckWork p c.in-Ok.text) (OnRank old.held name p) (λ other. other ≡ name) old
+    new
     (λ s lines h. (read.0, read.1, inr (c.in-Ok.text, read.2, h))))
     c.say_checked.ensures
 
@@ -25,5 +27,8 @@ returns-in-Err-clause-ends g c =
     let new = g.F.Shelf.state c.rank_of.new.shelf in
     let p = c.args.problem.now in
     let name = c.args.name.now in
-    let Q : Status → List ℕ → Type 0 = Says (OnRank old.held name p) (λ other. other ≡ name) old new in
-    Ends-map _ Q c.args.out.now _ _ (on_second-faults (RankcheckSays name) (RankFault name p) old new name p (λ file s lines h. inl h)) c.in-Err.ensures.told
+    let Q : Status → List ℕ → Type 0 =
+    Says (OnRank old.held name p) (λ other. other ≡ name) old new in
+    Ends-map _ Q c.args.out.now _ _
+    (on_second-faults (RankcheckSays name) (RankFault name p) old new name p
+    (λ file s lines h. inl h)) c.in-Err.ensures.told

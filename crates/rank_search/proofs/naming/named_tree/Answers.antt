@@ -1,4 +1,5 @@
-use Rattle.std.proofs.Common.{◌≡◌, ℕ, List, length, take, drop, ◌++◌, sym, ap, ap₂, ◌∙◌, subst, arith}
+use Rattle.std.proofs.Common.{◌≡◌, ℕ, List, length, take, drop, ◌++◌, sym, ap, ap₂, ◌∙◌, subst}
+use Rattle.std.proofs.Common.{arith}
 use Rattle.tree_rules.specs.Tree.{IsTree}
 use Rattle.tree_rules.specs.Accepted.{Tree}
 use Rattle.search_tree.specs.Cells.{Cell}
@@ -17,12 +18,24 @@ from_nodes-requires c =
     let names = c.in_ok-names.names.items in
     let order = c.in_ok-preorder.preorder.order.items in
     let plain : IsTree nodes = subst (λ (t : Tree). IsTree t) (sym of.nodes_are)
-    (c.preorder_is_tree.ensures.tree (shut_cells ms cells) order (shut_linked ms cells c.requires.linked)
-    (ap (λ (d : Cell). d.option) (shut_at ms cells 0 c.requires.linked.some) ∙ c.requires.root) of.is_preorder) in
+    (c.preorder_is_tree.ensures.tree (shut_cells ms cells) order
+    (shut_linked ms cells c.requires.linked)
+    (ap (λ (d : Cell). d.option) (shut_at ms cells 0 c.requires.linked.some) ∙ c.requires.root)
+    of.is_preorder) in
     let made : c.take_marks.new.nodes ≡ opened (names_at names order) nodes
     = c.in_ok-marks.ensures.nodes
-    ∙ ap₂ (λ (ns : Names) (ts : Tree). opened ns ts) (ap₂ (λ (ns : Names) (is : List ℕ). names_at ns is) c.deref-2.ensures.value c.deref.ensures.value) c.deref_mut.ensures.value in
-    let whole : take c.in_ok-preorder.preorder.nodes.len (c.take_marks.new.nodes ++ drop (length c.take_marks.new.nodes) nodes) ≡ c.take_marks.new.nodes
-    = written_over c.take_marks.new.nodes nodes c.in_ok-preorder.preorder.nodes.len (ap (λ (t : Tree). length t) made ∙ length-opened (names_at names order) nodes)
-    (let l = c.deref_mut.ensures.len in let v = ap (λ (t : Tree). length t) c.deref_mut.ensures.value in omega (arith, l, v)) in
-    record { tree = subst (λ (t : Tree). IsTree t) (sym (whole ∙ made)) (opened_is_tree (names_at names order) nodes plain) }
+    ∙ ap₂ (λ (ns : Names) (ts : Tree). opened ns ts)
+    (ap₂ (λ (ns : Names) (is : List ℕ). names_at ns is) c.deref-2.ensures.value
+    c.deref.ensures.value) c.deref_mut.ensures.value in
+    let whole : take c.in_ok-preorder.preorder.nodes.len
+    (c.take_marks.new.nodes ++ drop (length c.take_marks.new.nodes) nodes)
+    ≡ c.take_marks.new.nodes
+    = written_over c.take_marks.new.nodes nodes c.in_ok-preorder.preorder.nodes.len
+    (ap (λ (t : Tree). length t) made ∙ length-opened (names_at names order) nodes)
+    (let l = c.deref_mut.ensures.len in let v =
+    ap (λ (t : Tree). length t) c.deref_mut.ensures.value in omega (arith, l, v)) in
+    record {
+      tree =
+          subst (λ (t : Tree). IsTree t) (sym (whole ∙ made))
+          (opened_is_tree (names_at names order) nodes plain);
+    }

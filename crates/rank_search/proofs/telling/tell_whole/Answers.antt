@@ -13,7 +13,8 @@ pub tell-requires-clause-within : goal.tell-requires-clause-within
 tell-requires-clause-within c =
     let best = c.requires.best in
     subst (λ (n : ℕ). AreWithin n c.args.found.found) (sym c.requires.kept.counted)
-    (within_all (length c.args.growing.now.pool.payloads) c.args.found.found (λ k f h. (best.there k f h).there))
+    (within_all (length c.args.growing.now.pool.payloads) c.args.found.found
+    (λ k f h. (best.there k f h).there))
 
 pub returns-clause-tells : goal.returns-clause-tells
 returns-clause-tells c =
@@ -22,7 +23,11 @@ returns-clause-tells c =
     let fs = c.args.found.found in
     let ms = c.args.proofs.now in
     with_three c.tell.result
-    (λ t n of sized. subst (λ (ws : List Network). IsTelling false p c.args.found.count ws t.tree (map mark_of t.marks.items)) (sym n)
-    (is_telling p c.problem.ensures.valid c.args.found.count s fs c.requires.kept c.requires.start c.requires.best ms 0 t.place t.tree (map mark_of t.marks.items) of false
-    (all_close p s (undercut_by c.args.found.count fs) ms c.requires.shut) sized c.tell.ensures.asked))
+    (λ t n of sized. subst
+    (λ (ws : List Network). IsTelling false p c.args.found.count ws t.tree
+    (map mark_of t.marks.items)) (sym n)
+    (is_telling p c.problem.ensures.valid c.args.found.count s fs c.requires.kept c.requires.start
+    c.requires.best ms 0 t.place t.tree (map mark_of t.marks.items) of false
+    (all_close p s (undercut_by c.args.found.count fs) ms c.requires.shut) sized
+    c.tell.ensures.asked))
     c.tell.ensures.networks c.tell.ensures.tree c.tell.ensures.sized

@@ -15,19 +15,32 @@ use Rattle.rank_search.proofs.told.ranked_by.Goals as goal
 pub tell_whole-requires-clause-shut : goal.tell_whole-requires-clause-shut
 tell_whole-requires-clause-shut g c =
     let found = c.args.found in
-    subst (λ (ms : List (Option Shut)). ShutAll c.args.site.now c.args.growing.now (undercut_by found.count found.found) ms) (sym c.deref.ensures.value)
-    (subst (λ (e : Ending). EndsWith g.E.Evaluator.past c.args.site.now c.args.growing.now (undercut_by found.count found.found) e) c.in-Whole.is c.requires.ends)
+    subst
+    (λ (ms : List (Option Shut)). ShutAll c.args.site.now c.args.growing.now
+    (undercut_by found.count found.found) ms) (sym c.deref.ensures.value)
+    (subst
+    (λ (e : Ending). EndsWith g.E.Evaluator.past c.args.site.now c.args.growing.now
+    (undercut_by found.count found.found) e) c.in-Whole.is c.requires.ends)
 
 pub tell_stopped-requires-clause-shut : goal.tell_stopped-requires-clause-shut
 tell_stopped-requires-clause-shut g c =
     let found = c.args.found in
-    let ends = subst (λ (e : Ending). EndsWith g.E.Evaluator.past c.args.site.now c.args.growing.now (undercut_by found.count found.found) e) c.in-Spent.is c.requires.ends in
-    subst (λ (ms : List (Option Shut)). ShutSome c.args.site.now c.args.growing.now (undercut_by found.count found.found) ms) (sym c.deref-in-Spent.ensures.value) ends.shut
+    let ends =
+    subst
+    (λ (e : Ending). EndsWith g.E.Evaluator.past c.args.site.now c.args.growing.now
+    (undercut_by found.count found.found) e) c.in-Spent.is c.requires.ends in
+    subst
+    (λ (ms : List (Option Shut)). ShutSome c.args.site.now c.args.growing.now
+    (undercut_by found.count found.found) ms) (sym c.deref-in-Spent.ensures.value) ends.shut
 
 pub tell_stopped-requires-clause-stays : goal.tell_stopped-requires-clause-stays
 tell_stopped-requires-clause-stays g c =
-    let ends = subst (λ (e : Ending). EndsWith g.E.Evaluator.past c.args.site.now c.args.growing.now (undercut_by c.args.found.count c.args.found.found) e) c.in-Spent.is c.requires.ends in
-    subst (λ (ms : List (Option Shut)). slice_index_or ms c.in-Spent.leaf None ≡ None) (sym c.deref-in-Spent.ensures.value) ends.stays
+    let ends =
+    subst
+    (λ (e : Ending). EndsWith g.E.Evaluator.past c.args.site.now c.args.growing.now
+    (undercut_by c.args.found.count c.args.found.found) e) c.in-Spent.is c.requires.ends in
+    subst (λ (ms : List (Option Shut)). slice_index_or ms c.in-Spent.leaf None ≡ None)
+    (sym c.deref-in-Spent.ensures.value) ends.stays
 
 pub returns-in_ok-told-in-Spent : goal.returns-in_ok-told-in-Spent
 returns-in_ok-told-in-Spent g c =
@@ -35,11 +48,21 @@ returns-in_ok-told-in-Spent g c =
     let s = c.args.growing.now in
     let found = c.args.found in
     let told = c.in_ok-told-in-Spent.told in
-    let ends = subst (λ (e : Ending). EndsWith g.E.Evaluator.past p s (undercut_by found.count found.found) e) c.in-Spent.is c.requires.ends in
-    let spent = subst (λ (ms : List (Option Shut)). IsSpentFor p (undercut_by found.count found.found) s ms c.in-Spent.leaf c.in-Spent.options) (sym c.deref-in-Spent.ensures.value) ends in
-    subst (λ (t : Text). IsRankedBy g.E.Evaluator.past p found.count s.budget (ranks.Spent t)) (sym c.text_of-in-Spent.ensures)
-    (spent_ranked g.E.Evaluator.past p c.count-count.result found.count s.budget c.count-count.ensures told.networks.items told.tree (map mark_of told.marks.items) told.place c.in-Spent.options
-    c.in_ok-told-in-Spent.ensures.tells (c.in_ok-told-in-Spent.ensures.spent c.in-Spent.options spent))
+    let ends =
+    subst
+    (λ (e : Ending). EndsWith g.E.Evaluator.past p s (undercut_by found.count found.found) e)
+    c.in-Spent.is c.requires.ends in
+    let spent =
+    subst
+    (λ (ms : List (Option Shut)). IsSpentFor p (undercut_by found.count found.found) s ms
+    c.in-Spent.leaf c.in-Spent.options) (sym c.deref-in-Spent.ensures.value) ends in
+    subst (λ (t : Text). IsRankedBy g.E.Evaluator.past p found.count s.budget (ranks.Spent t))
+    (sym c.text_of-in-Spent.ensures)
+    (spent_ranked g.E.Evaluator.past p c.count-count.result found.count s.budget
+    c.count-count.ensures told.networks.items told.tree (map mark_of told.marks.items)
+    told.place c.in-Spent.options
+    c.in_ok-told-in-Spent.ensures.tells
+    (c.in_ok-told-in-Spent.ensures.spent c.in-Spent.options spent))
 
 pub tell_stopped-requires-in-Past-clause-shut : goal.tell_stopped-requires-in-Past-clause-shut
 tell_stopped-requires-in-Past-clause-shut g c = λ j lt. tt
@@ -53,7 +76,15 @@ returns-in_ok-told-in-Past g c =
     let s = c.args.growing.now in
     let found = c.args.found in
     let told = c.in_ok-told-in-Past.told in
-    let ends = subst (λ (e : Ending). EndsWith g.E.Evaluator.past p s (undercut_by found.count found.found) e) c.in-Past.is c.requires.ends in
-    subst (λ (t : Text). IsRankedBy g.E.Evaluator.past p found.count s.budget (ranks.Past t)) (sym c.text_of-in-Past.ensures)
-    (past_ranked g.E.Evaluator.past p c.count-count.result found.count s.budget c.count-count.ensures told.networks.items told.tree (map mark_of told.marks.items) told.place s c.in-Past.stopped
-    c.in_ok-told-in-Past.ensures.tells ends (c.requires.tree.kept.kept.sound c.in-Past.stopped.leaf ends.there) c.in_ok-told-in-Past.ensures.open)
+    let ends =
+    subst
+    (λ (e : Ending). EndsWith g.E.Evaluator.past p s (undercut_by found.count found.found) e)
+    c.in-Past.is c.requires.ends in
+    subst (λ (t : Text). IsRankedBy g.E.Evaluator.past p found.count s.budget (ranks.Past t))
+    (sym c.text_of-in-Past.ensures)
+    (past_ranked g.E.Evaluator.past p c.count-count.result found.count s.budget
+    c.count-count.ensures told.networks.items told.tree (map mark_of told.marks.items)
+    told.place s c.in-Past.stopped
+    c.in_ok-told-in-Past.ensures.tells ends
+    (c.requires.tree.kept.kept.sound c.in-Past.stopped.leaf ends.there)
+    c.in_ok-told-in-Past.ensures.open)

@@ -10,13 +10,19 @@ use Rattle.rank_searches.proofs.Rankings.{found_works}
 use Rattle.rank_searches.proofs.command.say_ranked.Goals as goal
 
 pub say_found-requires : goal.say_found-requires
-say_found-requires g c =
-    (c.args.count, c.args.effort.budget, subst (λ (p : Problem). IsRankedTo p c.args.count c.args.effort.budget c.rank_watched-ranked.result) c.of-site.ensures c.rank_watched-ranked.ensures)
+say_found-requires g c = (
+  c.args.count,
+  c.args.effort.budget,
+  subst
+      (λ (p : Problem). IsRankedTo p c.args.count c.args.effort.budget
+      c.rank_watched-ranked.result) c.of-site.ensures c.rank_watched-ranked.ensures,
+)
 
 pub returns-in_default : goal.returns-in_default
 returns-in_default g c =
     let work = RankWork c.args.count c.args.effort.budget c.args.problem.now in
-    Ends-map _ _ c.args.out.now _ _ (only_in (Tells work) Memory _ (Tells-memory work)) c.say_memory.ensures
+    Ends-map _ _ c.args.out.now _ _ (only_in (Tells work) Memory _ (Tells-memory work))
+    c.say_memory.ensures
 
 pub returns : goal.returns
 returns g c =
@@ -24,6 +30,10 @@ returns g c =
     let count = c.args.count in
     let budget = c.args.effort.budget in
     let r = c.rank_watched-ranked.result in
-    let is = subst (λ (p : Problem). IsRankedTo p count budget r) c.of-site.ensures c.rank_watched-ranked.ensures in
+    let is =
+    subst (λ (p : Problem). IsRankedTo p count budget r) c.of-site.ensures
+    c.rank_watched-ranked.ensures in
     Ends-map _ _ c.args.out.now _ _ (Tells-map (FoundSays p r) (RankWork count budget p)
-    (found_works c.listed_are_least.ensures c.others_are_no_better.ensures.full c.others_are_no_better.ensures.fewer p c.is_valid.ensures.valid count budget r is)) c.say_found.ensures
+    (found_works c.listed_are_least.ensures c.others_are_no_better.ensures.full
+    c.others_are_no_better.ensures.fewer p c.is_valid.ensures.valid count budget r is))
+    c.say_found.ensures

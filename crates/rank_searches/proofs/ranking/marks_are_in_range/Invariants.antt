@@ -6,4 +6,5 @@ use Rattle.rank_searches.proofs.ranking.marks_are_in_range.Given as goal
 
 -- the marks before the index are in range, so all are if those that follow are
 abbrev pub invariant-marks : goal.invariant-marks
-invariant-marks l = Each IsMarkInRange (map mark_of (drop l.mark-index l.marks)) → Each IsMarkInRange (map mark_of l.marks)
+invariant-marks l = Each IsMarkInRange (map mark_of
+    (drop l.mark-index l.marks)) → Each IsMarkInRange (map mark_of l.marks)

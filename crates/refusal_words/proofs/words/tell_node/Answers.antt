@@ -10,4 +10,5 @@ pub returns-in-Ok : goal.returns-in-Ok
 returns-in-Ok g c =
     let told = line (node_line c.args.node c.args.why) in
     let text : c.as_bytes.result.now ≡ told = c.as_bytes.ensures.value ∙ c.in-Ok.ensures in
-    Ends-map (Only BadClaim c.as_bytes.result.now) (OrMemory (Only BadClaim told)) c.args.out.now c.tell.new.out _ (λ s t said. inl (said.0, said.1 ∙ text)) c.tell.ensures
+    Ends-map (Only BadClaim c.as_bytes.result.now) (OrMemory (Only BadClaim told)) c.args.out.now
+    c.tell.new.out _ (λ s t said. inl (said.0, said.1 ∙ text)) c.tell.ensures

@@ -8,5 +8,6 @@ use Rattle.report_amounts.proofs.amounts.unit_sum.Given as goal
 abbrev pub invariant-loop-u : goal.invariant-loop-u
 invariant-loop-u l = record {
   within : IsWithin (has l.u-iterator) (has l.fn.network.units);
-  sum : sum_from l.sum (amount l.fn.what l.fn.problem l.fn.network) l.u-iterator ≡ unit_sum l.fn.what l.fn.problem l.fn.network;
+  sum : sum_from l.sum (amount l.fn.what l.fn.problem l.fn.network) l.u-iterator
+      ≡ unit_sum l.fn.what l.fn.problem l.fn.network;
 }

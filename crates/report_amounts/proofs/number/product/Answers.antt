@@ -9,11 +9,16 @@ returns-in-Ok c =
     let l = c.args.left.now in
     let r = c.args.right.now in
     let f = c.in-Ok.product in
-    sym (ap kept (lowest_is (l.num *ℤ r.num) (l.den *ℤ r.den) f.num f.den (mul_pos l.den r.den l.positive r.positive) c.in-Ok.ensures.value)
+    sym (ap kept
+    (lowest_is (l.num *ℤ r.num) (l.den *ℤ r.den) f.num f.den
+    (mul_pos l.den r.den l.positive r.positive) c.in-Ok.ensures.value)
     ∙ kept_in_range (record { num = f.num; den = f.den }) f.num_in_range f.den_in_range)
 
 pub returns-in-Err : goal.returns-in-Err
 returns-in-Err c =
     let l = c.args.left.now in
     let r = c.args.right.now in
-    c.past.ensures ∙ sym (kept_past (l.num *ℤ r.num) (l.den *ℤ r.den) (mul_pos l.den r.den l.positive r.positive) (c.in-Err.ensures.past.0 refl))
+    c.past.ensures
+    ∙ sym
+    (kept_past (l.num *ℤ r.num) (l.den *ℤ r.den) (mul_pos l.den r.den l.positive r.positive)
+    (c.in-Err.ensures.past.0 refl))

@@ -11,7 +11,9 @@ returns-in-Ok c =
     let f = c.in-Ok.sum in
     let x : Fraction = record { num = l.num; den = l.den } in
     let y : Fraction = record { num = r.num; den = r.den } in
-    sym (sum_kept x y r.positive (mul_pos l.den r.den l.positive r.positive) (record { num = f.num; den = f.den }) c.in-Ok.ensures.value (λ past. true≢false (sym (c.in-Ok.ensures.past.1 past))))
+    sym (sum_kept x y r.positive (mul_pos l.den r.den l.positive r.positive)
+    (record { num = f.num; den = f.den }) c.in-Ok.ensures.value
+    (λ past. true≢false (sym (c.in-Ok.ensures.past.1 past))))
 
 pub returns-in-Err : goal.returns-in-Err
 returns-in-Err c =

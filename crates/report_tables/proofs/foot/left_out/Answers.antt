@@ -7,4 +7,5 @@ pub returns : goal.returns
 returns c =
     let all = c.below-all.result in
     c.minus.ensures ∙ ap (λ (s : List ℕ). minus all s) c.units.ensures
-    ∙ left_out_is (length c.args.problem.now.units) c.args.network.now.units all c.rises.ensures (λ u. c.below-all.ensures u ∙ ap (λ (n : ℕ). nat_lt u n) c.unit_count.ensures.count)
+    ∙ left_out_is (length c.args.problem.now.units) c.args.network.now.units all c.rises.ensures
+    (λ u. c.below-all.ensures u ∙ ap (λ (n : ℕ). nat_lt u n) c.unit_count.ensures.count)

@@ -9,5 +9,8 @@ use Rattle.report_tables.proofs.foot.push_once.Goals as goal
 pub returns : goal.returns
 returns c =
     let t1 = string_bytes c.push_str.new.self in
-    after (string_bytes c.args.text.now) t1 (string_bytes c.push_digits.new.text) (codes "Investment, paid once: ") (number_cell (unit_sum Once c.args.problem.now c.args.network.now))
-    c.in_ok-push_str.ensures.bytes (c.in_ok-push_digits.ensures ∙ ap (λ (n : Number). t1 ++ number_cell n) c.unit_sum.ensures)
+    after (string_bytes c.args.text.now) t1 (string_bytes c.push_digits.new.text)
+    (codes "Investment, paid once: ")
+    (number_cell (unit_sum Once c.args.problem.now c.args.network.now))
+    c.in_ok-push_str.ensures.bytes
+    (c.in_ok-push_digits.ensures ∙ ap (λ (n : Number). t1 ++ number_cell n) c.unit_sum.ensures)

@@ -8,9 +8,15 @@ columns-preserved c =
     let heading = c.args.heading in
     let k = c.columns.k in
     let column = c.index-columns-k.result in
-    cell_more heading c.args.columns.now k column c.args.row.now (string_bytes c.columns.text) (string_bytes c.push_cell.new.text) (string_bytes c.columns.gap) (string_bytes c.push_cell.new.gap)
+    cell_more heading c.args.columns.now k column c.args.row.now (string_bytes c.columns.text)
+    (string_bytes c.push_cell.new.text) (string_bytes c.columns.gap)
+    (string_bytes c.push_cell.new.gap)
     (string_bytes c.args.text.now ++ line_text heading 0 [] c.args.columns.now c.args.row.now)
     c.columns-test.true c.index-columns-k.is
-    (c.in_ok-push_cell.ensures.text ∙ ap (λ (cell : List ℕ). string_bytes c.columns.text ++ cell_text heading column (string_bytes c.columns.gap) cell) c.cell-cell.ensures)
-    (c.in_ok-push_cell.ensures.gap ∙ ap (λ (cell : List ℕ). gap_behind heading column (string_bytes c.columns.gap) cell) c.cell-cell.ensures)
+    (c.in_ok-push_cell.ensures.text
+    ∙ ap (λ (cell : List ℕ). string_bytes c.columns.text
+    ++ cell_text heading column (string_bytes c.columns.gap) cell) c.cell-cell.ensures)
+    (c.in_ok-push_cell.ensures.gap
+    ∙ ap (λ (cell : List ℕ). gap_behind heading column (string_bytes c.columns.gap) cell)
+    c.cell-cell.ensures)
     c.columns.invariant

@@ -8,5 +8,8 @@ use Rattle.report_tables.proofs.materials.all_materials_row.Goals as goal
 
 pub returns : goal.returns
 returns c =
-    row_of c.in_ok-row.row c.push_number.new.row (codes "all materials" ∷ [] ∷ [] ∷ [] ∷ [] ∷ [] ∷ [] ∷ []) (number_cell (cost_sum All c.args.site.now c.args.network.now) ∷ []) c.in_ok-row.ensures
-    (c.in_ok-push_number.ensures ∙ ap (λ (n : Number). c.in_ok-row.row ++ number_cell n ∷ []) c.cost_sum.ensures)
+    row_of c.in_ok-row.row c.push_number.new.row
+    (codes "all materials" ∷ [] ∷ [] ∷ [] ∷ [] ∷ [] ∷ [] ∷ [])
+    (number_cell (cost_sum All c.args.site.now c.args.network.now) ∷ []) c.in_ok-row.ensures
+    (c.in_ok-push_number.ensures
+    ∙ ap (λ (n : Number). c.in_ok-row.row ++ number_cell n ∷ []) c.cost_sum.ensures)

@@ -17,12 +17,14 @@ returns c =
     let r3 = c.push_words.new.row in
     let r4 = c.push_number.new.row in
     row_of c.in_ok-row.row c.push_number-2.new.row ((material_at p j).name ∷ [])
-    (kind_word (material_at p j).kind ∷ number_cell (unit_sum (Made j) p w) ∷ number_cell (unit_sum (Used j) p w) ∷ number_cell (net p w j)
+    (kind_word (material_at p j).kind ∷ number_cell (unit_sum (Made j) p w)
+    ∷ number_cell (unit_sum (Used j) p w) ∷ number_cell (net p w j)
     ∷ material_limit p w j ∷ number_cell (price p j) ∷ number_cell (cost p w j) ∷ [])
     (c.in_ok-row.ensures ∙ ap (λ (t : List ℕ). t ∷ []) c.material_name.ensures)
     (after_five c.in_ok-row.row c.push_kind.new.row r2 r3 r4 c.push_number-2.new.row
     (kind_word (material_at p j).kind ∷ [])
-    (number_cell (unit_sum (Made j) p w) ∷ number_cell (unit_sum (Used j) p w) ∷ number_cell (net p w j) ∷ [])
+    (number_cell (unit_sum (Made j) p w) ∷ number_cell (unit_sum (Used j) p w)
+    ∷ number_cell (net p w j) ∷ [])
     (material_limit p w j ∷ []) (number_cell (price p j) ∷ []) (number_cell (cost p w j) ∷ [])
     c.in_ok-push_kind.ensures
     c.in_ok-push_flows.ensures

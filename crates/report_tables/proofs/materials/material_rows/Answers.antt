@@ -15,38 +15,55 @@ materials_in-j-items-requires c = record { known = c.requires.feasible.structure
 pub loop-j-init : goal.loop-j-init
 loop-j-init c =
     let js = materials_of (net_of c.args.site.now) (has c.args.network.now.units) in
-    let are : c.into_iter-j-iterator.result ≡ js = c.into_iter-j-iterator.ensures.into_iter_gives.0 ∙ c.materials_in-j-items.ensures in
+    let are : c.into_iter-j-iterator.result ≡ js =
+    c.into_iter-j-iterator.ensures.into_iter_gives.0 ∙ c.materials_in-j-items.ensures in
     record {
       within = all_within c.into_iter-j-iterator.result js are;
-      rows = λ i. c.new-rows.ensures.items i ++ map (material_row c.args.site.now c.args.network.now) (are i);
+      rows = λ i. c.new-rows.ensures.items i
+          ++ map (material_row c.args.site.now c.args.network.now) (are i);
     }
 
 pub returns : goal.returns
 returns c =
-    last_row (material_row c.args.site.now c.args.network.now) c.loop-j.j-iterator c.loop-j.rows.items _ c.in-None.ensures.steps.0 c.loop-j.invariant.rows
+    last_row (material_row c.args.site.now c.args.network.now) c.loop-j.j-iterator
+    c.loop-j.rows.items _ c.in-None.ensures.steps.0 c.loop-j.invariant.rows
 
 pub material_row-requires-clause-feasible : goal.material_row-requires-clause-feasible
-material_row-requires-clause-feasible c = subst (λ (p : Problem). IsFeasible p c.args.network.now) (sym c.problem.ensures.same) c.requires.feasible
+material_row-requires-clause-feasible c =
+    subst (λ (p : Problem). IsFeasible p c.args.network.now) (sym c.problem.ensures.same)
+    c.requires.feasible
 
 pub material_row-requires-clause-material : goal.material_row-requires-clause-material
 material_row-requires-clause-material c =
     let s = has c.args.network.now.units in
-    subst (λ (p : Problem). has (materials_of (net_of p) s) c.in-Some.j ≡ true) (sym c.problem.ensures.same)
-    (next_within (has (materials_of (net_of c.args.site.now) s)) c.loop-j.j-iterator c.next.new.self c.in-Some.j c.in-Some.ensures.steps c.loop-j.invariant.within)
+    subst (λ (p : Problem). has (materials_of (net_of p) s) c.in-Some.j ≡ true)
+    (sym c.problem.ensures.same)
+    (next_within (has (materials_of (net_of c.args.site.now) s)) c.loop-j.j-iterator c.next.new.self
+    c.in-Some.j c.in-Some.ensures.steps c.loop-j.invariant.within)
 
 pub material_row-requires-clause-known : goal.material_row-requires-clause-known
 material_row-requires-clause-known c =
     let p = c.args.site.now in
     let w = c.args.network.now in
     subst (λ (p : Problem). c.in-Some.j < length p.materials) (sym c.problem.ensures.same)
-    (material_known p w c.in-Some.j (next_within (has (materials_of (net_of p) (has w.units))) c.loop-j.j-iterator c.next.new.self c.in-Some.j c.in-Some.ensures.steps c.loop-j.invariant.within))
+    (material_known p w c.in-Some.j
+    (next_within (has (materials_of (net_of p) (has w.units))) c.loop-j.j-iterator
+    c.next.new.self c.in-Some.j c.in-Some.ensures.steps c.loop-j.invariant.within))
 
 pub loop-j-preserved : goal.loop-j-preserved
 loop-j-preserved c =
     let p = c.args.site.now in
     let w = c.args.network.now in
     record {
-      within = rest_within (has (materials_of (net_of p) (has w.units))) c.loop-j.j-iterator c.next.new.self c.in-Some.j c.in-Some.ensures.steps c.loop-j.invariant.within;
-      rows = next_row (material_row p w) c.loop-j.j-iterator c.next.new.self c.in-Some.j c.loop-j.rows.items c.push.new.self.items _ c.in-Some.ensures.steps
-          (c.in_ok-push.ensures.items ∙ (λ i. c.loop-j.rows.items ++ (c.in_ok-material_row.ensures ∙ ap (λ (p : Problem). material_row p w c.in-Some.j) c.problem.ensures.same) i ∷ [])) c.loop-j.invariant.rows;
+      within =
+          rest_within (has (materials_of (net_of p) (has w.units))) c.loop-j.j-iterator
+          c.next.new.self c.in-Some.j c.in-Some.ensures.steps c.loop-j.invariant.within;
+      rows =
+          next_row (material_row p w) c.loop-j.j-iterator c.next.new.self c.in-Some.j
+          c.loop-j.rows.items c.push.new.self.items _ c.in-Some.ensures.steps
+          (c.in_ok-push.ensures.items
+          ∙ (λ i. c.loop-j.rows.items
+          ++ (c.in_ok-material_row.ensures
+          ∙ ap (λ (p : Problem). material_row p w c.in-Some.j) c.problem.ensures.same) i ∷ []))
+          c.loop-j.invariant.rows;
     }

@@ -7,6 +7,9 @@ use Rattle.report_tables.proofs.materials.material_rows.Given as goal
 -- the table so far and the rows that are left give the whole table
 abbrev pub invariant-loop-j : goal.invariant-loop-j
 invariant-loop-j l = record {
-  within : IsWithin (has l.j-iterator) (has (materials_of (net_of l.fn.site) (has l.fn.network.units)));
-  rows : l.rows.items ++ map (material_row l.fn.site l.fn.network) l.j-iterator ≡ map (material_row l.fn.site l.fn.network) (materials_of (net_of l.fn.site) (has l.fn.network.units));
+  within : IsWithin (has l.j-iterator)
+      (has (materials_of (net_of l.fn.site) (has l.fn.network.units)));
+  rows : l.rows.items ++ map (material_row l.fn.site l.fn.network) l.j-iterator
+      ≡ map (material_row l.fn.site l.fn.network)
+      (materials_of (net_of l.fn.site) (has l.fn.network.units));
 }

@@ -4,4 +4,5 @@ use Rattle.report_rules.specs.Aligned.{line_text}
 use Rattle.report_tables.proofs.table.push_rows.Given as goal
 
 abbrev pub invariant-printing : goal.invariant-printing
-invariant-printing l = AreLinesPrinted (line_text false 0 [] l.columns) l.rows l.row-index (string_bytes l.fn.text) (string_bytes l.text)
+invariant-printing l = AreLinesPrinted (line_text false 0 []
+    l.columns) l.rows l.row-index (string_bytes l.fn.text) (string_bytes l.text)

@@ -8,5 +8,8 @@ pub returns : goal.returns
 unfolding table_and_gap
 returns c =
     let t1 = string_bytes c.push_table.new.text in
-    with_empty_line (table_lines c.args.sorts.now c.args.heading.now c.args.rows.now) (string_bytes c.args.text.now) t1 (string_bytes c.push.new.self)
-    c.in_ok-push_table.ensures (c.in_ok-push.ensures.bytes ∙ ap (λ (t : List ℕ). t1 ++ t) (c.in_ok-push.ensures.ascii (omega arith)))
+    with_empty_line (table_lines c.args.sorts.now c.args.heading.now c.args.rows.now)
+    (string_bytes c.args.text.now) t1 (string_bytes c.push.new.self)
+    c.in_ok-push_table.ensures
+    (c.in_ok-push.ensures.bytes
+    ∙ ap (λ (t : List ℕ). t1 ++ t) (c.in_ok-push.ensures.ascii (omega arith)))

@@ -4,4 +4,5 @@ use Rattle.scaled_flows.proofs.FoundLemmas.{IsUnitsSoFar}
 use Rattle.scaled_flows.proofs.divisors.unit_divisors.Given as goal
 
 abbrev pub invariant-units : goal.invariant-units
-invariant-units l = IsUnitsSoFar (net_of l.fn.problem) (node_of l.fn.taken) (node_of l.fn.free) l.common.0 l.common.1.0 l.u
+invariant-units l = IsUnitsSoFar (net_of l.fn.problem) (node_of l.fn.taken) (node_of
+    l.fn.free) l.common.0 l.common.1.0 l.u

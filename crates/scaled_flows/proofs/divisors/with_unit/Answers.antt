@@ -41,7 +41,9 @@ returns-clause-low c =
     let x : SFits w128 c.with_both.result = search rules in
     let y : SFits w128 c.with_both-2.result = search rules in
     let h = simp to_z-of_z at c.with_both.ensures.first in
-    simp to_z-of_z (subst (λ (v : ℤ). unsigned_abs c.with_both.result ∣ unsigned_abs v) c.unit_numbers-kept.ensures.low h)
+    simp to_z-of_z
+    (subst (λ (v : ℤ). unsigned_abs c.with_both.result ∣ unsigned_abs v)
+    c.unit_numbers-kept.ensures.low h)
 
 pub returns-clause-high : goal.returns-clause-high
 returns-clause-high c =
@@ -54,7 +56,9 @@ returns-clause-high c =
     let x : SFits w128 c.with_both.result = search rules in
     let y : SFits w128 c.with_both-2.result = search rules in
     let h = simp to_z-of_z at c.with_both.ensures.second in
-    simp to_z-of_z (subst (λ (v : ℤ). unsigned_abs c.with_both.result ∣ unsigned_abs v) c.unit_numbers-kept.ensures.high h)
+    simp to_z-of_z
+    (subst (λ (v : ℤ). unsigned_abs c.with_both.result ∣ unsigned_abs v)
+    c.unit_numbers-kept.ensures.high h)
 
 pub returns-clause-taken_cost : goal.returns-clause-taken_cost
 returns-clause-taken_cost c =
@@ -67,7 +71,9 @@ returns-clause-taken_cost c =
     let x : SFits w128 c.with_both.result = search rules in
     let y : SFits w128 c.with_both-2.result = search rules in
     let h = simp to_z-of_z at c.with_both-2.ensures.first in
-    simp to_z-of_z (subst (λ (v : ℤ). unsigned_abs c.with_both-2.result ∣ unsigned_abs v) c.unit_numbers-kept.ensures.cost h)
+    simp to_z-of_z
+    (subst (λ (v : ℤ). unsigned_abs c.with_both-2.result ∣ unsigned_abs v)
+    c.unit_numbers-kept.ensures.cost h)
 
 pub returns-clause-free_cost : goal.returns-clause-free_cost
 returns-clause-free_cost c =
@@ -80,4 +86,6 @@ returns-clause-free_cost c =
     let x : SFits w128 c.with_both.result = search rules in
     let y : SFits w128 c.with_both-2.result = search rules in
     let h = simp to_z-of_z at c.with_both-2.ensures.second in
-    simp to_z-of_z (subst (λ (v : ℤ). unsigned_abs c.with_both-2.result ∣ unsigned_abs v) c.unit_numbers-loose.ensures.cost h)
+    simp to_z-of_z
+    (subst (λ (v : ℤ). unsigned_abs c.with_both-2.result ∣ unsigned_abs v)
+    c.unit_numbers-loose.ensures.cost h)

@@ -1,4 +1,5 @@
-use Rattle.std.proofs.Common.{◌≡◌, ◌∙◌, ◌<◌, ℕ, List, true, length, sym, ap, subst, rules, SFits, arith, pos, ◌*ℤ◌, ◌≤ℤ◌}
+use Rattle.std.proofs.Common.{◌≡◌, ◌∙◌, ◌<◌, ℕ, List, true, length, sym, ap, subst, rules, SFits}
+use Rattle.std.proofs.Common.{arith, pos, ◌*ℤ◌, ◌≤ℤ◌}
 use Rattle.std.specs.Int.{w128}
 use Rattle.std.proofs.lemmas.Int.{to_z-of_z, ints}
 use Rattle.integer_laws.specs.Total.{total}
@@ -21,14 +22,22 @@ returns c =
     let s = c.args.scales.now in
     let d : SFits w128 c.args.guessed.now.d = search rules in
     let sc : SFits w128 c.args.guessed.now.scale = search rules in
-    let us : c.sets_of-sets.result.units ≡ units (net_of p) n = c.sets_of-sets.ensures.units_are ∙ ap (λ (g : Shape). listed g.units (stays n)) c.requires.graph in
-    let rs : c.sets_of-sets.result.rows ≡ rows (net_of p) n = c.sets_of-sets.ensures.rows_are ∙ ap (λ (g : Shape). listed g.materials (mats g (stays n))) c.requires.graph in
-    let known : (u : ℕ) → has c.args.node.inside u ≡ true → u < length p.units = subst (λ (g : Shape). (u : ℕ) → has c.args.node.inside u ≡ true → u < g.units) c.requires.graph c.requires.known in
+    let us : c.sets_of-sets.result.units ≡ units (net_of p) n =
+    c.sets_of-sets.ensures.units_are
+    ∙ ap (λ (g : Shape). listed g.units (stays n)) c.requires.graph in
+    let rs : c.sets_of-sets.result.rows ≡ rows (net_of p) n =
+    c.sets_of-sets.ensures.rows_are
+    ∙ ap (λ (g : Shape). listed g.materials (mats g (stays n))) c.requires.graph in
+    let known : (u : ℕ) → has c.args.node.inside u ≡ true → u < length p.units =
+    subst (λ (g : Shape). (u : ℕ) → has c.args.node.inside u ≡ true → u < g.units)
+    c.requires.graph c.requires.known in
     let fx : SFits w128 c.fixed_costs-fixed.result = search rules in
     let wo : SFits w128 c.in_ok-worth_of.field-0 = search rules in
     let co : SFits w128 c.in_ok-costs.costs = search rules in
     let fixed : c.fixed_costs-fixed.result ≡ fixed_cost (net_of p) n
-    = c.fixed_costs-fixed.ensures.value ∙ ap (λ (xs : List ℕ). trillion *ℤ total (net_of p).fix xs) (sym (set_listed (length p.units) c.args.node.inside c.rises.ensures known)) in
+    = c.fixed_costs-fixed.ensures.value
+    ∙ ap (λ (xs : List ℕ). trillion *ℤ total (net_of p).fix xs)
+    (sym (set_listed (length p.units) c.args.node.inside c.rises.ensures known)) in
     let t : c.are_rows_settled.result ≡ true = search rules in
     let row_settled = simp to_z-of_z at (c.are_rows_settled.ensures t) in
     let unit_settled = simp to_z-of_z at c.in_ok-costs.ensures.settled in
@@ -37,6 +46,11 @@ returns c =
     let d1 : pos 1 ≤ℤ c.args.guessed.now.d = omega (arith, ints) in
     let s1 : pos 1 ≤ℤ c.args.guessed.now.scale = omega (arith, ints) in
     some_weaker c.of_sum.result _ _
-    (λ v k. least_from p s c.requires.scales n c.sets_of-sets.result.units c.sets_of-sets.result.rows us rs (entry c.by_unit-size_at.result) c.args.guessed.now.d c.args.guessed.now.scale (entry c.by_material-y_at.result) d1 s1 row_settled unit_settled
-    c.fixed_costs-fixed.result c.in_ok-worth_of.field-0 c.in_ok-costs.costs fixed c.in_ok-worth_of.ensures.value c.in_ok-costs.ensures.cost (numerator v) (denominator v) k.0 k.1)
-    (both_some c.of_sum.result _ _ (simp to_z-of_z at c.of_sum.ensures.numerator) (simp to_z-of_z at c.of_sum.ensures.denominator))
+    (λ v k. least_from p s c.requires.scales n c.sets_of-sets.result.units
+    c.sets_of-sets.result.rows us rs (entry c.by_unit-size_at.result) c.args.guessed.now.d
+    c.args.guessed.now.scale (entry c.by_material-y_at.result) d1 s1 row_settled unit_settled
+    c.fixed_costs-fixed.result c.in_ok-worth_of.field-0 c.in_ok-costs.costs fixed
+    c.in_ok-worth_of.ensures.value c.in_ok-costs.ensures.cost (numerator v) (denominator v) k.0
+    k.1)
+    (both_some c.of_sum.result _ _ (simp to_z-of_z at c.of_sum.ensures.numerator)
+    (simp to_z-of_z at c.of_sum.ensures.denominator))

@@ -10,11 +10,15 @@ use Rattle.scaled_flows.proofs.rows.balance_of.Goals as goal
 
 pub rate_at-requires : goal.rate_at-requires
 rate_at-requires c =
-    c.requires.known c.in-Some.u (c.loop-u.invariant.so_far.within c.in-Some.u (head_had c.loop-u.u-iterator c.in-Some.u c.next.new.self c.in-Some.ensures.steps))
+    c.requires.known c.in-Some.u
+    (c.loop-u.invariant.so_far.within c.in-Some.u
+    (head_had c.loop-u.u-iterator c.in-Some.u c.next.new.self c.in-Some.ensures.steps))
 
 pub loop-u-preserved : goal.loop-u-preserved
 loop-u-preserved c = record {
-  is_set = (next_of 128 c.loop-u.u-iterator c.in-Some.u c.next.new.self c.loop-u.invariant.is_set c.in-Some.ensures.steps).set;
+  is_set =
+      (next_of 128 c.loop-u.u-iterator c.in-Some.u c.next.new.self c.loop-u.invariant.is_set
+      c.in-Some.ensures.steps).set;
   so_far = let divisor = c.ranges.divisor in
       let q : SFits w64 c.rate_at.result = search rules in
       let r : SFits w128 c.scaled_rate-rate.result = search rules in
@@ -24,10 +28,16 @@ loop-u-preserved c = record {
       let h = simp to_z-of_z at c.in_ok-moved.ensures in
       let k = simp to_z-of_z at c.in_ok-sum.ensures in
       let e = simp to_z-of_z at c.scaled_rate-rate.ensures in
-      simp to_z-of_z (sum_more 128 (λ i. int_div (rate_of c.args.problem.now c.args.j i) c.args.divisor *ℤ entry c.args.size_at.now i) c.args.units (to_z w128 c.loop-u.sum-bits) c.loop-u.u-iterator c.in-Some.u c.next.new.self
-      (next_of 128 c.loop-u.u-iterator c.in-Some.u c.next.new.self c.loop-u.invariant.is_set c.in-Some.ensures.steps)
+      simp to_z-of_z
+      (sum_more 128
+      (λ i. int_div (rate_of c.args.problem.now c.args.j i) c.args.divisor *ℤ entry
+      c.args.size_at.now i) c.args.units (to_z w128 c.loop-u.sum-bits) c.loop-u.u-iterator
+      c.in-Some.u c.next.new.self
+      (next_of 128 c.loop-u.u-iterator c.in-Some.u c.next.new.self c.loop-u.invariant.is_set
+      c.in-Some.ensures.steps)
       c.in_ok-sum.sum
       (k.1 ∙ ap (λ (z : ℤ). to_z w128 c.loop-u.sum-bits +ℤ z)
-      (h.1 ∙ ap (λ (z : ℤ). z *ℤ entry c.args.size_at.now c.in-Some.u) (e ∙ ap (λ (z : ℤ). int_div z c.args.divisor) c.rate_at.ensures)))
+      (h.1 ∙ ap (λ (z : ℤ). z *ℤ entry c.args.size_at.now c.in-Some.u)
+      (e ∙ ap (λ (z : ℤ). int_div z c.args.divisor) c.rate_at.ensures)))
       (simp to_z-of_z at c.loop-u.invariant.so_far));
 }

@@ -9,5 +9,7 @@ use Rattle.scaled_flows.proofs.rows.balance_of.Given as goal
 abbrev pub invariant-loop-u : goal.invariant-loop-u
 invariant-loop-u l = record {
   is_set : IsSet 128 l.u-iterator;
-  so_far : IsSumSoFar (λ i. int_div (rate_of l.fn.problem l.fn.j i) l.fn.divisor *ℤ entry l.fn.size_at i) l.fn.units l.sum l.u-iterator;
+  so_far : IsSumSoFar
+      (λ i. int_div (rate_of l.fn.problem l.fn.j i) l.fn.divisor *ℤ entry l.fn.size_at i) l.fn.units
+      l.sum l.u-iterator;
 }

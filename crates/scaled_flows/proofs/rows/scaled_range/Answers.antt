@@ -11,5 +11,8 @@ returns-clause-ordered c =
     let high : SFits w128 c.args.range.high = search rules in
     let a : SFits w128 c.scaled.result = search rules in
     let b : SFits w128 c.scaled-2.result = search rules in
-    simp to_z-of_z (divided_order c.args.divisor c.args.range.low c.args.range.high c.scaled.result c.scaled-2.result c.requires.positive c.requires.low_divided c.requires.high_divided c.requires.ordered
+    simp to_z-of_z
+    (divided_order c.args.divisor c.args.range.low c.args.range.high c.scaled.result
+    c.scaled-2.result c.requires.positive c.requires.low_divided c.requires.high_divided
+    c.requires.ordered
     (simp to_z-of_z at c.scaled.ensures) (simp to_z-of_z at c.scaled-2.ensures))

@@ -12,7 +12,9 @@ returns-then-price-gt0 c =
     let low : SFits w128 c.args.range.low = search rules in
     let t = simp to_z-of_z at c.if-price-gt0.true in
     let sign : pos 0 <ℤ c.args.price = omega (arith, ints) in
-    let w = settled_low c.args.range.low c.args.range.high c.args.d c.args.number c.args.price c.requires.positive c.requires.ordered sign in
+    let w =
+    settled_low c.args.range.low c.args.range.high c.args.d c.args.number c.args.price
+    c.requires.positive c.requires.ordered sign in
     let g = simp to_z-of_z at c.is_at.ensures in
     (λ h. w.0 (g.0 h), λ h. g.1 (w.1 h))
 
@@ -24,7 +26,9 @@ returns-then-price-lt0 c =
     let high : SFits w128 c.args.range.high = search rules in
     let t = simp to_z-of_z at c.if-price-lt0.true in
     let sign : c.args.price <ℤ pos 0 = omega (arith, ints) in
-    let w = settled_high c.args.range.low c.args.range.high c.args.d c.args.number c.args.price c.requires.positive c.requires.ordered sign in
+    let w =
+    settled_high c.args.range.low c.args.range.high c.args.d c.args.number c.args.price
+    c.requires.positive c.requires.ordered sign in
     let g = simp to_z-of_z at c.is_at-then-price-lt0.ensures in
     (λ h. w.0 (g.0 h), λ h. g.1 (w.1 h))
 
@@ -39,6 +43,8 @@ returns-else-price-lt0 c =
     let f = simp to_z-of_z at c.if-price-lt0.false in
     let top : c.args.price ≤ℤ pos 0 = omega (arith, ints) in
     let bottom : pos 0 ≤ℤ c.args.price = omega (arith, ints) in
-    let w = settled_within c.args.range.low c.args.range.high c.args.d c.args.number c.args.price c.requires.positive c.requires.ordered top bottom in
+    let w =
+    settled_within c.args.range.low c.args.range.high c.args.d c.args.number c.args.price
+    c.requires.positive c.requires.ordered top bottom in
     let g = simp to_z-of_z at c.is_within.ensures in
     (λ h. w.0 (g.0 h), λ h. g.1 (w.1 h))

@@ -12,5 +12,8 @@ returns-clause-ordered c =
     let high : SFits w128 c.args.unit.high = search rules in
     let a : SFits w128 c.scaled-2.result = search rules in
     let b : SFits w128 c.scaled-3.result = search rules in
-    simp to_z-of_z (divided_order c.args.sizes c.args.unit.low c.args.unit.high c.scaled-2.result c.scaled-3.result c.requires.sizes c.requires.low_divided c.requires.high_divided c.requires.ordered
+    simp to_z-of_z
+    (divided_order c.args.sizes c.args.unit.low c.args.unit.high c.scaled-2.result
+    c.scaled-3.result c.requires.sizes c.requires.low_divided c.requires.high_divided
+    c.requires.ordered
     (simp to_z-of_z at c.scaled-2.ensures) (simp to_z-of_z at c.scaled-3.ensures))

@@ -18,17 +18,25 @@ returns-then-is_settled-clause-settled c =
     let high : SFits w128 c.args.unit.high = search rules in
     let a : SFits w128 c.in_ok-cost.cost = search rules in
     let b : SFits w128 c.in_ok-price.price = search rules in
-    let paid : ℤ = total (λ j. entry c.args.y_at.now j *ℤ int_div (entry c.args.rates.now j) (rate_divisor c.args.scales.now j)) c.args.materials in
+    let paid : ℤ =
+    total
+    (λ j. entry c.args.y_at.now j *ℤ int_div (entry c.args.rates.now j)
+    (rate_divisor c.args.scales.now j)) c.args.materials in
     let h = simp to_z-of_z at c.in_ok-cost.ensures in
     let k = simp to_z-of_z at c.in_ok-price.ensures in
     let g = simp to_z-of_z at c.is_settled.ensures in
     let t : c.is_settled.result ≡ true = search rules in
-    let s = settled_same c.args.unit.low c.args.unit.low c.args.unit.high c.args.unit.high c.args.d c.args.size c.args.size c.in_ok-price.price (c.args.scale *ℤ c.args.unit.cost -ℤ paid) refl refl refl
+    let s =
+    settled_same c.args.unit.low c.args.unit.low c.args.unit.high c.args.unit.high c.args.d
+    c.args.size c.args.size c.in_ok-price.price (c.args.scale *ℤ c.args.unit.cost -ℤ paid) refl
+    refl refl
     (k ∙ ap (λ (z : ℤ). z -ℤ paid) h.1) (g.0 t) in
-    some_of c.checked_product-then-is_settled.result _ _ _ (λ x e. s) c.checked_product-then-is_settled.ensures
+    some_of c.checked_product-then-is_settled.result _ _ _ (λ x e. s)
+    c.checked_product-then-is_settled.ensures
 
 pub returns-then-is_settled-clause-cost : goal.returns-then-is_settled-clause-cost
 returns-then-is_settled-clause-cost c =
     let size = c.ranges.size in
     let co : SFits w128 c.args.unit.cost = search rules in
-    some_of c.checked_product-then-is_settled.result _ _ _ (λ x e. e) (simp to_z-of_z at c.checked_product-then-is_settled.ensures)
+    some_of c.checked_product-then-is_settled.result _ _ _ (λ x e. e)
+    (simp to_z-of_z at c.checked_product-then-is_settled.ensures)

@@ -7,7 +7,10 @@ use Rattle.search_tree.proofs.growth.branch.Given as goal
 
 abbrev pub invariant-children : goal.invariant-children
 invariant-children l =
-    IsGrowing l.fn.pool (slice_set l.fn.pool.payloads l.leaf (as_parent (cell_at l.fn.pool.payloads l.leaf) l.first (end_of l.fn.end)) ++ cells_in_turn l.fn.children.items)
+    IsGrowing l.fn.pool
+    (slice_set l.fn.pool.payloads l.leaf
+    (as_parent (cell_at l.fn.pool.payloads l.leaf) l.first (end_of l.fn.end))
+    ++ cells_in_turn l.fn.children.items)
     (l.fn.pool.values ++ values_in_turn l.fn.children.items) l.leaf l.pool l.children.items
 
 abbrev pub decreases-children : goal.decreases-children

@@ -9,6 +9,8 @@ pub returns : goal.returns
 returns c = λ partial p start claim cells order grown claimed preorder. record {
   claimed = claimed;
   passes =
-      passes (shape_of p) (LeafPasses partial p (claimed_cost claim)) start cells grown.linked grown.fits (start ∷ []) (0 ∷ []) order
-      (aligned_start (shape_of p) (LeafPasses partial p (claimed_cost claim)) start cells grown.linked grown.fits) preorder;
+      passes (shape_of p) (LeafPasses partial p (claimed_cost claim)) start cells grown.linked
+      grown.fits (start ∷ []) (0 ∷ []) order
+      (aligned_start (shape_of p) (LeafPasses partial p (claimed_cost claim)) start cells
+      grown.linked grown.fits) preorder;
 }

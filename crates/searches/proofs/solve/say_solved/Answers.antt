@@ -11,10 +11,14 @@ say_found-requires g c = (c.args.effort.budget, c.search_all-found.ensures)
 
 pub returns-in_default : goal.returns-in_default
 returns-in_default g c =
-    Ends-map _ _ c.args.out.now _ _ (only_in (Tells (SolveWork c.args.effort.budget c.args.problem.now)) Memory _ (Tells-memory (SolveWork c.args.effort.budget c.args.problem.now))) c.say_memory.ensures
+    Ends-map _ _ c.args.out.now _ _
+    (only_in (Tells (SolveWork c.args.effort.budget c.args.problem.now)) Memory _
+    (Tells-memory (SolveWork c.args.effort.budget c.args.problem.now))) c.say_memory.ensures
 
 pub returns : goal.returns
 returns g c =
     let p = c.args.problem.now in
-    Ends-map _ _ c.args.out.now _ _ (Tells-map (FoundSays p c.search_all-found.result) (SolveWork c.args.effort.budget p)
-    (found_solves c.accepted_is_optimal.ensures p c.is_valid.ensures.valid c.args.effort.budget c.search_all-found.result c.search_all-found.ensures)) c.say_found.ensures
+    Ends-map _ _ c.args.out.now _ _
+    (Tells-map (FoundSays p c.search_all-found.result) (SolveWork c.args.effort.budget p)
+    (found_solves c.accepted_is_optimal.ensures p c.is_valid.ensures.valid c.args.effort.budget
+    c.search_all-found.result c.search_all-found.ensures)) c.say_found.ensures

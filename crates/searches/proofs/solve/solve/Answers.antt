@@ -15,7 +15,8 @@ returns-in-Ok-clause-ends g c =
     let work : Problem → Status → List (List ℕ) → Type 0 = SolveWork c.args.effort.budget in
     let Q : Status → List ℕ → Type 0 = FileSays work c.args.file.now old new in
     Ends-from (Tells (work c.in-Ok.problem)) Q c.args.out.now _ _ _ c.in-Ok.ensures.silent
-    (on_file-work work old new c.args.file.now c.in-Ok.problem c.in-Ok.ensures.problem) c.say_solved.ensures
+    (on_file-work work old new c.args.file.now c.in-Ok.problem c.in-Ok.ensures.problem)
+    c.say_solved.ensures
 
 pub returns-in-Err-clause-ends : goal.returns-in-Err-clause-ends
 returns-in-Err-clause-ends g c =
@@ -23,4 +24,5 @@ returns-in-Err-clause-ends g c =
     let new = g.F.Shelf.state c.problem_of.new.shelf in
     let work : Problem → Status → List (List ℕ) → Type 0 = SolveWork c.args.effort.budget in
     let Q : Status → List ℕ → Type 0 = FileSays work c.args.file.now old new in
-    Ends-map _ Q c.args.out.now _ _ (on_file-faults work old new c.args.file.now) c.in-Err.ensures.told
+    Ends-map _ Q c.args.out.now _ _ (on_file-faults work old new c.args.file.now)
+    c.in-Err.ensures.told

@@ -21,12 +21,18 @@ returns-in-Some g c =
     let Q : Status → List ℕ → Type 0 = Tells (CertificateShows p q) in
     let told = c.in-Some.ensures in
     let says : ReportSays p q.claim q.tree told.0 =
-    subst (λ (k : Claim). ReportSays p k q.tree told.0) c.into_parts-claim.ensures.claim (subst (λ (t : Tree). ReportSays p (claim_of parts.0) t told.0) c.into_parts-claim.ensures.tree told.1) in
+    subst (λ (k : Claim). ReportSays p k q.tree told.0) c.into_parts-claim.ensures.claim
+    (subst (λ (t : Tree). ReportSays p (claim_of parts.0) t told.0)
+    c.into_parts-claim.ensures.tree told.1) in
     Ends-map _ Q c.args.out.now _ _
-    (only_in Q (status_of (tail_of parts.2)) c.deref.result.now (tells_of (CertificateShows p q) (tail_of parts.2) told.0 c.deref.result.now (ap status_of c.into_parts-claim.ensures.tail, says) (c.deref.ensures.value ∙ told.2)))
+    (only_in Q (status_of (tail_of parts.2)) c.deref.result.now
+    (tells_of (CertificateShows p q) (tail_of parts.2) told.0 c.deref.result.now
+    (ap status_of c.into_parts-claim.ensures.tail, says) (c.deref.ensures.value ∙ told.2)))
     c.say_report.ensures
 
 pub returns : goal.returns
 returns g c =
-    let Q : Status → List ℕ → Type 0 = Tells (CertificateShows c.args.site.now c.args.certificate) in
-    Ends-map _ Q c.args.out.now _ _ (only_in Q Memory (line (codes "memory")) ([], inl refl, refl)) c.say_memory.ensures
+    let Q : Status → List ℕ → Type 0 =
+    Tells (CertificateShows c.args.site.now c.args.certificate) in
+    Ends-map _ Q c.args.out.now _ _ (only_in Q Memory (line (codes "memory")) ([], inl refl, refl))
+    c.say_memory.ensures

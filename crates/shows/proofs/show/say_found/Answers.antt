@@ -11,7 +11,9 @@ use Rattle.shows.proofs.show.say_found.Goals as goal
 pub say_certificate-requires : goal.say_certificate-requires
 say_certificate-requires g c =
     let f = c.args.found in
-    let can = can_print c.requires.0 c.args.site.now f c.requires.1 c.in-Some.certificate (sym c.certificate_of.ensures ∙ c.in-Some.is) in
+    let can =
+    can_print c.requires.0 c.args.site.now f c.requires.1 c.in-Some.certificate
+    (sym c.certificate_of.ensures ∙ c.in-Some.is) in
     record { few = can.few }
 
 pub returns-in-Some : goal.returns-in-Some
@@ -19,8 +21,13 @@ returns-in-Some g c =
     let p = c.args.site.now in
     let f = c.args.found in
     let q : Certificate = c.in-Some.certificate in
-    Ends-map _ _ c.args.out.now _ _ (Tells-map (CertificateShows p q) (FoundShows p f) (λ s lines h. (q, sym c.certificate_of.ensures ∙ c.in-Some.is, h))) c.say_certificate.ensures
+    Ends-map _ _ c.args.out.now _ _
+    (Tells-map (CertificateShows p q) (FoundShows p f)
+    (λ s lines h. (q, sym c.certificate_of.ensures ∙ c.in-Some.is, h)))
+    c.say_certificate.ensures
 
 pub returns-in-None : goal.returns-in-None
 returns-in-None g c =
-    Ends-map _ _ c.args.out.now _ _ (only_in (Tells (FoundShows c.args.site.now c.args.found)) Memory _ (Tells-memory (FoundShows c.args.site.now c.args.found))) c.say_memory.ensures
+    Ends-map _ _ c.args.out.now _ _
+    (only_in (Tells (FoundShows c.args.site.now c.args.found)) Memory _
+    (Tells-memory (FoundShows c.args.site.now c.args.found))) c.say_memory.ensures

@@ -11,17 +11,25 @@ use Rattle.shows.proofs.Shown.{found_shows}
 use Rattle.shows.proofs.show.say_shown.Goals as goal
 
 pub say_found-requires : goal.say_found-requires
-say_found-requires g c =
-    (c.args.effort.budget, subst (λ (p : Problem). IsFound p first_node c.args.effort.budget c.search_all-found.result) (sym c.of-site.ensures) c.search_all-found.ensures)
+say_found-requires g c = (
+  c.args.effort.budget,
+  subst (λ (p : Problem). IsFound p first_node c.args.effort.budget c.search_all-found.result)
+      (sym c.of-site.ensures) c.search_all-found.ensures,
+)
 
 pub returns-in_default : goal.returns-in_default
 returns-in_default g c =
-    Ends-map _ _ c.args.out.now _ _ (only_in (Tells (ShowWork c.args.effort.budget c.args.problem.now)) Memory _ (Tells-memory (ShowWork c.args.effort.budget c.args.problem.now))) c.say_memory.ensures
+    Ends-map _ _ c.args.out.now _ _
+    (only_in (Tells (ShowWork c.args.effort.budget c.args.problem.now)) Memory _
+    (Tells-memory (ShowWork c.args.effort.budget c.args.problem.now))) c.say_memory.ensures
 
 pub returns : goal.returns
 returns g c =
     let p = c.args.problem.now in
     let f = c.search_all-found.result in
     Ends-map _ _ c.args.out.now _ _ (Tells-map (FoundShows p f) (ShowWork c.args.effort.budget p)
-    (found_shows c.accepted_is_optimal.ensures p c.is_valid.ensures.valid c.args.effort.budget f c.search_all-found.ensures))
-    (subst (λ (q : Problem). Ends (Tells (FoundShows q f)) c.args.out.now c.say_found.new.out c.say_found.result) c.of-site.ensures c.say_found.ensures)
+    (found_shows c.accepted_is_optimal.ensures p c.is_valid.ensures.valid c.args.effort.budget f
+    c.search_all-found.ensures))
+    (subst
+    (λ (q : Problem). Ends (Tells (FoundShows q f)) c.args.out.now c.say_found.new.out
+    c.say_found.result) c.of-site.ensures c.say_found.ensures)

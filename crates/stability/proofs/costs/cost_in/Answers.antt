@@ -13,4 +13,6 @@ returns-clause-in_range c =
     let set = has c.units.result in
     let sizes = beside c.units.result c.sizes.result.now in
     let d = to_z w128 (of_z w128 c.d.result) in
-    cost_in_range c.cost_of.result (cost_steps net set sizes d) (cost net set sizes d) c.cost_of.ensures.value c.cost_of.ensures.in_range (c.sums_are_last.ensures.cost c.args.problem.now set sizes d)
+    cost_in_range c.cost_of.result (cost_steps net set sizes d) (cost net set sizes d)
+    c.cost_of.ensures.value c.cost_of.ensures.in_range
+    (c.sums_are_last.ensures.cost c.args.problem.now set sizes d)

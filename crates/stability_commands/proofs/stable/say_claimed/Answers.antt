@@ -16,7 +16,13 @@ returns-in-Ok-network_of g c =
     let work = SpotWork c.args.spot c.args.effort.budget in
     let Q : Status → List ℕ → Type 0 = Tells (OnNetwork work p claim c.args.tree.now) in
     Ends-from (Tells (work p w)) Q c.args.out.now _ _ _ c.in-Ok-network_of.ensures.silent
-    (Tells-map (work p w) (OnNetwork work p claim c.args.tree.now) (λ s lines h. inr (w, subst (λ (q : Problem). ClaimsNetwork q claim w) c.of-site.ensures c.in-Ok-network_of.ensures.network, h))) c.say_range.ensures
+    (Tells-map (work p w) (OnNetwork work p claim c.args.tree.now)
+    (λ s lines h. inr (
+      w,
+      subst (λ (q : Problem). ClaimsNetwork q claim w) c.of-site.ensures
+          c.in-Ok-network_of.ensures.network,
+      h,
+    ))) c.say_range.ensures
 
 pub returns-in-Err : goal.returns-in-Err
 returns-in-Err g c =
@@ -24,9 +30,14 @@ returns-in-Err g c =
     let claim = claim_of c.args.claim in
     let work = SpotWork c.args.spot c.args.effort.budget in
     let Q : Status → List ℕ → Type 0 = Tells (OnNetwork work p claim c.args.tree.now) in
-    Ends-map (Tells (ClaimRefusal p claim)) Q c.args.out.now _ _ (Tells-map (ClaimRefusal p claim) (OnNetwork work p claim c.args.tree.now) (λ s lines h. inl h))
-    (subst (λ (q : Problem). Ends (Tells (ClaimRefusal q claim)) c.args.out.now c.network_of.new.out c.in-Err.status) c.of-site.ensures c.in-Err.ensures.told)
+    Ends-map (Tells (ClaimRefusal p claim)) Q c.args.out.now _ _
+    (Tells-map (ClaimRefusal p claim) (OnNetwork work p claim c.args.tree.now)
+    (λ s lines h. inl h))
+    (subst
+    (λ (q : Problem). Ends (Tells (ClaimRefusal q claim)) c.args.out.now c.network_of.new.out
+    c.in-Err.status) c.of-site.ensures c.in-Err.ensures.told)
 
 pub say_range-requires-clause-passes : goal.say_range-requires-clause-passes
 say_range-requires-clause-passes g c =
-    (subst (λ (q : Problem). ClaimsNetwork q (claim_of c.args.claim) c.in-Ok-network_of.network) c.of-site.ensures c.in-Ok-network_of.ensures.network).1
+    (subst (λ (q : Problem). ClaimsNetwork q (claim_of c.args.claim) c.in-Ok-network_of.network)
+    c.of-site.ensures c.in-Ok-network_of.ensures.network).1

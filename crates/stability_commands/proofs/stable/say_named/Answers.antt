@@ -14,17 +14,24 @@ returns-in-Some g c =
     let p = c.args.problem.now in
     let claim = claim_of c.args.claim in
     let work = OnNetwork (SpotWork c.in-Some.spot c.args.effort.budget) p claim c.args.tree.now in
-    Ends-map _ _ c.args.out.now _ _ (Tells-map work (NamedWork c.args.spot c.args.effort.budget p claim c.args.tree.now)
-    (λ s lines h. subst (λ (spot : Option Spot). NamedWork spot c.args.effort.budget p claim c.args.tree.now s lines) (sym c.in-Some.is) h)) c.say_claimed.ensures
+    Ends-map _ _ c.args.out.now _ _
+    (Tells-map work (NamedWork c.args.spot c.args.effort.budget p claim c.args.tree.now)
+    (λ s lines h. subst
+    (λ (spot : Option Spot). NamedWork spot c.args.effort.budget p claim c.args.tree.now s
+    lines) (sym c.in-Some.is) h)) c.say_claimed.ensures
 
 pub returns-in-None : goal.returns-in-None
 returns-in-None g c =
     let p = c.args.problem.now in
     let claim = claim_of c.args.claim in
     let lines : List (List ℕ) = codes "unknown name" ∷ [] in
-    Ends-map _ _ c.args.out.now _ _ (only_in (Tells (NamedWork c.args.spot c.args.effort.budget p claim c.args.tree.now)) UnknownName (text_of lines) (
+    Ends-map _ _ c.args.out.now _ _
+    (only_in (Tells (NamedWork c.args.spot c.args.effort.budget p claim c.args.tree.now))
+    UnknownName (text_of lines) (
       lines,
-      subst (λ (spot : Option Spot). NamedWork spot c.args.effort.budget p claim c.args.tree.now UnknownName lines) (sym c.in-None.is) (refl, refl),
+      subst
+          (λ (spot : Option Spot). NamedWork spot c.args.effort.budget p claim c.args.tree.now
+          UnknownName lines) (sym c.in-None.is) (refl, refl),
       refl,
     ))
     c.tell.ensures

@@ -14,4 +14,5 @@ returns g c =
     let lines = past_cost_lines c.args.value c.args.at in
     let says = Tells (OneAnswer Past lines) in
     Ends-from says says c.args.out.now _ c.say_printed.new.out _ c.out.view_is (λ s t h. h)
-    (c.say_printed.ensures lines _ refl c.print_past_cost-printed.ensures.later (simp to_z-of_z at c.print_past_cost-printed.ensures.prints))
+    (c.say_printed.ensures lines _ refl c.print_past_cost-printed.ensures.later
+    (simp to_z-of_z at c.print_past_cost-printed.ensures.prints))

@@ -20,14 +20,20 @@ pub reads_back-requires : goal.reads_back-requires
 reads_back-requires g c =
     let q = valued c.args.problem.now c.args.spot c.args.value in
     let f : SFits w64 c.args.value = search rules in
-    let can : CanPrint c.in-Ok.other c.in-Some.certificate = can_print_there q c.in-Ok.other c.requires.found.0 c.args.found c.in-Some.certificate c.certificate_of.result (simp to_z-of_z at c.in-Ok.ensures) c.requires.found.1 c.certificate_of.ensures c.in-Some.is in
+    let can : CanPrint c.in-Ok.other c.in-Some.certificate =
+    can_print_there q c.in-Ok.other c.requires.found.0 c.args.found c.in-Some.certificate
+    c.certificate_of.result (simp to_z-of_z at c.in-Ok.ensures) c.requires.found.1
+    c.certificate_of.ensures c.in-Some.is in
     record { claim = can.claim; tree = can.tree; tail = can.tail; few = can.few }
 
 pub print_stopped-printed-requires : goal.print_stopped-printed-requires
 print_stopped-printed-requires g c =
     let q = valued c.args.problem.now c.args.spot c.args.value in
     let f : SFits w64 c.args.value = search rules in
-    let can : CanPrint c.in-Ok.other c.in-Some.certificate = can_print_there q c.in-Ok.other c.requires.found.0 c.args.found c.in-Some.certificate c.certificate_of.result (simp to_z-of_z at c.in-Ok.ensures) c.requires.found.1 c.certificate_of.ensures c.in-Some.is in
+    let can : CanPrint c.in-Ok.other c.in-Some.certificate =
+    can_print_there q c.in-Ok.other c.requires.found.0 c.args.found c.in-Some.certificate
+    c.certificate_of.result (simp to_z-of_z at c.in-Ok.ensures) c.requires.found.1
+    c.certificate_of.ensures c.in-Some.is in
     record { claim = can.claim; tree = can.tree; tail = can.tail }
 
 pub say_printed-requires : goal.say_printed-requires
@@ -35,8 +41,10 @@ say_printed-requires g c = is_printing c.in-Some.certificate.tail c.status.resul
 
 pub returns-in_default : goal.returns-in_default
 returns-in_default g c =
-    let says = StopSays (valued c.args.problem.now c.args.spot c.args.value) c.args.value c.args.found in
-    Ends-map _ _ c.args.out.now _ _ (only_in (Tells says) Memory _ (Tells-memory says)) c.say_memory.ensures
+    let says =
+    StopSays (valued c.args.problem.now c.args.spot c.args.value) c.args.value c.args.found in
+    Ends-map _ _ c.args.out.now _ _ (only_in (Tells says) Memory _ (Tells-memory says))
+    c.say_memory.ensures
 
 pub returns-in-Some : goal.returns-in-Some
 returns-in-Some g c =
@@ -47,11 +55,17 @@ returns-in-Some g c =
     let same : r ≡ q = simp to_z-of_z at c.in-Ok.ensures in
     let d : Certificate = c.in-Some.certificate in
     let lines : List (List Token) = at_line v ∷ tree_text_lines r d.claim d.tree d.tail in
-    Ends-from _ _ c.args.out.now _ c.say_printed.new.out _ c.out.view_is (Tells-map (OneAnswer c.status.result lines) (StopSays q v c.args.found)
-    (λ s ls h. subst (λ (t : Problem). StopSays t v c.args.found s ls) same (stop_says r v c.args.found d (sym c.certificate_of.ensures ∙ c.in-Some.is) c.reads_back.ensures c.status.result c.status.ensures s ls h)))
-    (c.say_printed.ensures lines _ refl c.print_stopped-printed.ensures.later (simp to_z-of_z at c.print_stopped-printed.ensures.prints))
+    Ends-from _ _ c.args.out.now _ c.say_printed.new.out _ c.out.view_is
+    (Tells-map (OneAnswer c.status.result lines) (StopSays q v c.args.found)
+    (λ s ls h. subst (λ (t : Problem). StopSays t v c.args.found s ls) same
+    (stop_says r v c.args.found d (sym c.certificate_of.ensures ∙ c.in-Some.is)
+    c.reads_back.ensures c.status.result c.status.ensures s ls h)))
+    (c.say_printed.ensures lines _ refl c.print_stopped-printed.ensures.later
+    (simp to_z-of_z at c.print_stopped-printed.ensures.prints))
 
 pub returns : goal.returns
 returns g c =
-    let says = StopSays (valued c.args.problem.now c.args.spot c.args.value) c.args.value c.args.found in
-    Ends-map _ _ c.args.out.now _ _ (only_in (Tells says) Memory _ (Tells-memory says)) c.say_memory-in-None.ensures
+    let says =
+    StopSays (valued c.args.problem.now c.args.spot c.args.value) c.args.value c.args.found in
+    Ends-map _ _ c.args.out.now _ _ (only_in (Tells says) Memory _ (Tells-memory says))
+    c.say_memory-in-None.ensures

@@ -13,7 +13,8 @@ use Rattle.stability_commands.proofs.stable.say_tree.Goals as goal
 
 pub say_named-requires-clause-known : goal.say_named-requires-clause-known
 say_named-requires-clause-known g c =
-    subst (λ (spot : Option Spot). IfSome spot (KnowsSpot c.args.problem.now)) (sym c.spot_named-spot.ensures) (spot_known c.args.problem.now c.args.kind c.args.name.now)
+    subst (λ (spot : Option Spot). IfSome spot (KnowsSpot c.args.problem.now))
+    (sym c.spot_named-spot.ensures) (spot_known c.args.problem.now c.args.kind c.args.name.now)
 
 pub returns-in-Ok-clause-ends : goal.returns-in-Ok-clause-ends
 returns-in-Ok-clause-ends g c =
@@ -24,11 +25,25 @@ returns-in-Ok-clause-ends g c =
     let read = c.in-Ok.ensures.tree in
     let claim = claim_of c.in-Ok.claim in
     let work = StableWork c.args.kind c.args.name.now c.args.effort.budget in
-    let P : Status → List (List ℕ) → Type 0 = NamedWork c.spot_named-spot.result c.args.effort.budget p claim c.in-Ok.tree in
-    let Q : Status → List ℕ → Type 0 = Says (OnTree work old.held file p) (λ other. other ≡ file) old new in
+    let P : Status → List (List ℕ) → Type 0 =
+    NamedWork c.spot_named-spot.result c.args.effort.budget p claim c.in-Ok.tree in
+    let Q : Status → List ℕ → Type 0 =
+    Says (OnTree work old.held file p) (λ other. other ≡ file) old new in
     Ends-from (Tells P) Q c.args.out.now _ _ _ c.in-Ok.ensures.silent
     (Says-told P (OnTree work old.held file p) (λ other. other ≡ file) old new
-    (λ s lines h. (read.0, read.1, inr (claim, c.in-Ok.tree, read.2, subst (λ (spot : Option Spot). NamedWork spot c.args.effort.budget p claim c.in-Ok.tree s lines) c.spot_named-spot.ensures h))))
+    (λ s lines h. (
+      read.0,
+      read.1,
+      inr (
+        claim,
+        c.in-Ok.tree,
+        read.2,
+        subst
+            (λ (spot : Option Spot). NamedWork spot c.args.effort.budget p claim c.in-Ok.tree s
+            lines)
+            c.spot_named-spot.ensures h,
+      ),
+    )))
     c.say_named.ensures
 
 pub returns-in-Err-clause-ends : goal.returns-in-Err-clause-ends
@@ -38,5 +53,8 @@ returns-in-Err-clause-ends g c =
     let p = c.args.problem.now in
     let file = c.args.file.now in
     let work = StableWork c.args.kind c.args.name.now c.args.effort.budget in
-    let Q : Status → List ℕ → Type 0 = Says (OnTree work old.held file p) (λ other. other ≡ file) old new in
-    Ends-map _ Q c.args.out.now _ _ (on_second-faults (TreeSays work file) (TreeFault file p) old new file p (λ file s lines h. inl h)) c.in-Err.ensures.told
+    let Q : Status → List ℕ → Type 0 =
+    Says (OnTree work old.held file p) (λ other. other ≡ file) old new in
+    Ends-map _ Q c.args.out.now _ _
+    (on_second-faults (TreeSays work file) (TreeFault file p) old new file p
+    (λ file s lines h. inl h)) c.in-Err.ensures.told

@@ -7,7 +7,8 @@ use Rattle.stability_commands.proofs.text.print_past_cost.Goals as goal
 pub returns-in-Ok-clause-prints : goal.returns-in-Ok-clause-prints
 returns-in-Ok-clause-prints g c =
     let r : SFits w64 c.args.value = search rules in
-    two_printed _ _ _ _ _ _ c.put_number.ensures.later (simp to_z-of_z at c.in-Ok.ensures.prints) c.put_step.ensures.prints
+    two_printed _ _ _ _ _ _ c.put_number.ensures.later (simp to_z-of_z at c.in-Ok.ensures.prints)
+    c.put_step.ensures.prints
 
 pub returns-in-Err-clause-prints : goal.returns-in-Err-clause-prints
 returns-in-Err-clause-prints g c =

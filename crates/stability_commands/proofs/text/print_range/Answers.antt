@@ -8,7 +8,8 @@ pub returns-in-Ok-clause-prints : goal.returns-in-Ok-clause-prints
 returns-in-Ok-clause-prints g c =
     let r : SFits w64 c.args.range.now.from = search rules in
     let q : SFits w64 c.args.range.now.to = search rules in
-    two_printed _ _ _ _ _ _ c.put_end.ensures.later (simp to_z-of_z at c.in-Ok.ensures.prints) (simp to_z-of_z at c.put_end-in-Ok.ensures.prints)
+    two_printed _ _ _ _ _ _ c.put_end.ensures.later (simp to_z-of_z at c.in-Ok.ensures.prints)
+    (simp to_z-of_z at c.put_end-in-Ok.ensures.prints)
 
 pub returns-in-Err-clause-prints : goal.returns-in-Err-clause-prints
 returns-in-Err-clause-prints g c =

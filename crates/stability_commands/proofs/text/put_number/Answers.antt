@@ -9,4 +9,5 @@ returns-in-Ok-clause-prints g c =
     let r : SFits w64 c.args.number = search rules in
     c.put.ensures.prints (c.args.head.now ∷ signed_decimal c.args.number ∷ [])
     (c.as_bytes.ensures.value
-    ∙ subst (λ (z : ℤ). string_bytes c.in-Ok.line ≡ c.args.head.now ++ 32 ∷ signed_decimal z ++ 10 ∷ []) (to_z-of_z w64 c.args.number r) c.in-Ok.ensures)
+    ∙ subst (λ (z : ℤ). string_bytes c.in-Ok.line ≡ c.args.head.now ++ 32 ∷ signed_decimal z ++ 10
+    ∷ []) (to_z-of_z w64 c.args.number r) c.in-Ok.ensures)

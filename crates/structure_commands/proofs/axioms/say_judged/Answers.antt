@@ -15,8 +15,12 @@ returns-in-Some g c =
     let Q : Status → List ℕ → Type 0 = Tells (AxiomsWork names p) in
     let told : List ℕ = breaks_line S3 c.in-Some.name.now in
     Ends-map _ Q c.args.out.now _ _
-    (only_or_memory_in Q Refused (line told)
-    (told ∷ [], subst (λ (o : Option (List ℕ)). NamesSay names p o Refused (told ∷ [])) c.in-Some.ensures (refl, refl), one_line told)
+    (only_or_memory_in Q Refused (line told) (
+      told ∷ [],
+      subst (λ (o : Option (List ℕ)). NamesSay names p o Refused (told ∷ [])) c.in-Some.ensures
+          (refl, refl),
+      one_line told,
+    )
     ([], inl refl, refl))
     c.say_breaks.ensures
 
@@ -26,5 +30,7 @@ returns-in-None g c =
     let names = c.args.units.now in
     let Q : Status → List ℕ → Type 0 = Tells (AxiomsWork names p) in
     Ends-map _ Q c.args.out.now _ _
-    (Tells-map _ (AxiomsWork names p) (λ s lines h. subst (λ (o : Option (List ℕ)). NamesSay names p o s lines) c.in-None.ensures h))
+    (Tells-map _ (AxiomsWork names p)
+    (λ s lines h. subst (λ (o : Option (List ℕ)). NamesSay names p o s lines) c.in-None.ensures
+    h))
     c.say_known.ensures

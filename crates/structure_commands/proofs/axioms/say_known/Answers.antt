@@ -15,6 +15,9 @@ returns g c =
     let v = c.judge-verdict.result in
     let judged : Judges (shape_of p) (units_named p names) v =
     subst (λ (s : ℕ → Bool). Judges (shape_of p) s v) c.units_named.ensures.named
-    (subst (λ (h : Shape). Judges h (has c.units_named.result) v) c.in-Ok.ensures c.judge-verdict.ensures.judges) in
+    (subst (λ (h : Shape). Judges h (has c.units_named.result) v) c.in-Ok.ensures
+    c.judge-verdict.ensures.judges) in
     let Q : Status → List ℕ → Type 0 = Tells (NamesSay names p None) in
-    Ends-map (Tells (VerdictSays p v)) Q c.args.out.now _ _ (Tells-map (VerdictSays p v) (NamesSay names p None) (λ s lines h. (v, judged, h))) c.say_verdict.ensures
+    Ends-map (Tells (VerdictSays p v)) Q c.args.out.now _ _
+    (Tells-map (VerdictSays p v) (NamesSay names p None) (λ s lines h. (v, judged, h)))
+    c.say_verdict.ensures

@@ -6,6 +6,7 @@ use Rattle.structure_commands.proofs.axioms.units_named.Given as goal
 -- the set so far and the names that are left give the whole set
 abbrev pub invariant-finding : goal.invariant-finding
 invariant-finding l = record {
-  named : (u : ℕ) → (has l.set u || units_named l.problem (drop l.k l.units) u) ≡ units_named l.problem l.units u;
+  named : (u : ℕ) → (has l.set u || units_named l.problem (drop l.k l.units) u)
+      ≡ units_named l.problem l.units u;
   known : (u : ℕ) → has l.set u ≡ true → u < length l.problem.units;
 }

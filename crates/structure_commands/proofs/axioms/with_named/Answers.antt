@@ -13,5 +13,6 @@ returns-in-Some-clause-named c u =
 
 pub returns-in-Some-clause-known : goal.returns-in-Some-clause-known
 returns-in-Some-clause-known c all u h =
-    with_known (length c.args.problem.now.units) c.in-Some.unit c.args.set (named_known c.args.problem.now c.args.name.now c.in-Some.unit c.in-Some.ensures) all u
+    with_known (length c.args.problem.now.units) c.in-Some.unit c.args.set
+    (named_known c.args.problem.now c.args.name.now c.in-Some.unit c.in-Some.ensures) all u
     (sym (ap (λ (s : List ℕ). has s u) c.with.ensures) ∙ h)

@@ -19,14 +19,21 @@ returns-in-Some g c =
     let first : List ℕ = units_line p s in
     let second : List ℕ = materials_line p (mats (shape_of p) s) in
     let Q : Status → List ℕ → Type 0 = Tells (MaxWork p) in
-    let is = maximal_from (shape c.in-Ok.graph) (shape_of p) c.empty.result c.in-Some.set c.in-Ok.ensures c.empty.ensures c.in-Some.ensures.union c.in-Some.ensures.structure in
+    let is =
+    maximal_from (shape c.in-Ok.graph) (shape_of p) c.empty.result c.in-Some.set c.in-Ok.ensures
+    c.empty.ensures c.in-Some.ensures.union c.in-Some.ensures.structure in
     Ends-map _ Q c.args.out.now _ _
-    (only_or_memory_in Q Done (line first ++ line second) (first ∷ second ∷ [], inr (s, is, refl), two_lines first second) ([], inl refl, refl))
+    (only_or_memory_in Q Done (line first ++ line second)
+    (first ∷ second ∷ [], inr (s, is, refl), two_lines first second) ([], inl refl, refl))
     c.say_structure.ensures
 
 pub returns : goal.returns
 returns g c =
     let p = c.args.problem.now in
     let Q : Status → List ℕ → Type 0 = Tells (MaxWork p) in
-    let no = none_from (shape c.in-Ok.graph) (shape_of p) c.empty.result c.in-Ok.ensures c.empty.ensures c.in-None.ensures.none in
-    Ends-map _ Q c.args.out.now _ _ (only_in Q Done (line (codes "none")) (codes "none" ∷ [], inl (no, refl), refl)) c.say.ensures
+    let no =
+    none_from (shape c.in-Ok.graph) (shape_of p) c.empty.result c.in-Ok.ensures c.empty.ensures
+    c.in-None.ensures.none in
+    Ends-map _ Q c.args.out.now _ _
+    (only_in Q Done (line (codes "none")) (codes "none" ∷ [], inl (no, refl), refl))
+    c.say.ensures

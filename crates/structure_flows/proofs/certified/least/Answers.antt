@@ -12,5 +12,8 @@ returns c =
     let us = c.args.set in
     let b = c.args.bound in
     let h : IsBounded p (Some (cost_over b.value)) (decided p us) b.scaled.d b.scaled.ys =
-    subst (λ (m : Mixed). IsBounded p (Some (cost_over m)) (decided p us) b.scaled.d b.scaled.ys) c.requires.exact c.requires.bound.bounded in
-    least_for c.weak_duality.ensures c.multipliers_prove.ensures.least p c.is_valid.ensures.valid us c.args.network c.rises.ensures c.is_sized.ensures.sized.unit_set c.requires.units b.value b.scaled.d b.scaled.ys c.requires.network h c.are_in_range.ensures.scale
+    subst (λ (m : Mixed). IsBounded p (Some (cost_over m)) (decided p us) b.scaled.d b.scaled.ys)
+    c.requires.exact c.requires.bound.bounded in
+    least_for c.weak_duality.ensures c.multipliers_prove.ensures.least p c.is_valid.ensures.valid us
+    c.args.network c.rises.ensures c.is_sized.ensures.sized.unit_set c.requires.units b.value
+    b.scaled.d b.scaled.ys c.requires.network h c.are_in_range.ensures.scale

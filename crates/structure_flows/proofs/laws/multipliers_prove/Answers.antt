@@ -19,13 +19,17 @@ returns-clause-least c = λ p valid w structure d ys flows proved. record {
       let y = beside (rows_of p w.units) ys in
       let positive : pos 1 ≤ℤ d = proved.positive in
       let zero : pos 0 ≤ℤ d = omega (arith, ints) in
-      least_cost w.d (bound (net_of p) n d y) w.cost d e (cost (net_of p) (has w.units) z e) flows.flows.positive positive proved.reached
-      (c.weak_duality.ensures p valid n (has w.units) (is_between p w.units structure) z e h d zero y);
+      least_cost w.d (bound (net_of p) n d y) w.cost d e (cost (net_of p) (has w.units) z e)
+      flows.flows.positive positive proved.reached
+      (c.weak_duality.ensures p valid n (has w.units) (is_between p w.units structure) z e h d zero
+      y);
 }
 
 pub returns-clause-none : goal.returns-clause-none
 returns-clause-none c = λ p valid us structure ys one_each refutes. record {
   one_each = one_each;
   refutes = refutes;
-  none = λ z e h. c.refutation.ensures.structures p valid (decided p us) (beside (rows_of p us) ys) refutes (has us) (is_between p us structure) z e h;
+  none =
+      λ z e h. c.refutation.ensures.structures p valid (decided p us) (beside (rows_of p us) ys)
+      refutes (has us) (is_between p us structure) z e h;
 }

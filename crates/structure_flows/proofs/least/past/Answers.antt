@@ -18,7 +18,9 @@ returns c =
     let columns : List Column = c.args.bench.now.nonbasic in
     let whole : IsPastFor p us columns c.args.place = record {
       past = past;
-      columns = subst (λ (cs : List Column). Each (KnowsColumn p) cs) (sym past.nonbasic_are) (columns_known p n (program_of (net_of p) n) past.last refl);
+      columns =
+          subst (λ (cs : List Column). Each (KnowsColumn p) cs) (sym past.nonbasic_are)
+          (columns_known p n (program_of (net_of p) n) past.last refl);
       known = c.requires.known;
     } in
     let are : c.from_vec.result ≡ columns = search rules in

@@ -26,21 +26,31 @@ pub past-requires-clause-past : goal.past-requires-clause-past
 past-requires-clause-past c =
     let p = c.problem-problem.result.now in
     let n = decided p c.args.set in
-    let own : c.in_ok-program.program ≡ program_of (net_of p) n = c.in_ok-program.ensures ∙ ap (λ (m : Node). program_of (net_of p) m) c.node_of-node.ensures.node in
-    c.entry_is_past.ensures (net_of p) n c.in_ok-program.program c.least.new.self c.in-Err.place own c.in-Err.ensures.past
+    let own : c.in_ok-program.program ≡ program_of (net_of p) n =
+    c.in_ok-program.ensures
+    ∙ ap (λ (m : Node). program_of (net_of p) m) c.node_of-node.ensures.node in
+    c.entry_is_past.ensures (net_of p) n c.in_ok-program.program c.least.new.self c.in-Err.place own
+    c.in-Err.ensures.past
 
 pub past-requires-clause-known : goal.past-requires-clause-known
 past-requires-clause-known c =
     let p = c.problem-problem.result.now in
     let n = decided p c.args.set in
-    let own : c.in_ok-program.program ≡ program_of (net_of p) n = c.in_ok-program.ensures ∙ ap (λ (m : Node). program_of (net_of p) m) c.node_of-node.ensures.node in
-    let past : IsPastOf c.in_ok-program.program c.least.new.self c.in-Err.place = c.in-Err.ensures.past in
-    subst (KnowsPlace p) (sym past.named) (entry_known p n c.in_ok-program.program own past.leaves past.enters past.row past.column past.which)
+    let own : c.in_ok-program.program ≡ program_of (net_of p) n =
+    c.in_ok-program.ensures
+    ∙ ap (λ (m : Node). program_of (net_of p) m) c.node_of-node.ensures.node in
+    let past : IsPastOf c.in_ok-program.program c.least.new.self c.in-Err.place =
+    c.in-Err.ensures.past in
+    subst (KnowsPlace p) (sym past.named)
+    (entry_known p n c.in_ok-program.program own past.leaves past.enters past.row past.column
+    past.which)
 
 pub returns-in-Ok-None : goal.returns-in-Ok-None
 returns-in-Ok-None c =
-    subst (λ (p : Problem). IfOk c.refuted.result (AnswersFor p c.args.set)) c.problem-problem.ensures.same c.refuted.ensures
+    subst (λ (p : Problem). IfOk c.refuted.result (AnswersFor p c.args.set))
+    c.problem-problem.ensures.same c.refuted.ensures
 
 pub returns : goal.returns
 returns c =
-    subst (λ (p : Problem). IfOk c.past.result (AnswersFor p c.args.set)) c.problem-problem.ensures.same c.past.ensures
+    subst (λ (p : Problem). IfOk c.past.result (AnswersFor p c.args.set))
+    c.problem-problem.ensures.same c.past.ensures

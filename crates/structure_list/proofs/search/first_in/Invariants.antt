@@ -11,8 +11,11 @@ invariant-descend g l = record {
   stack : IsStack (shape l.graph) (l.stack ++ l.here ∷ []);
   same : HaveSame (shape l.graph) (l.fn.stack ++ l.fn.position ∷ []) (l.stack ++ l.here ∷ []);
   allowed : IsAllowed (shape l.graph) (has l.here.decided.node.inside);
-  less : weight (shape l.graph) (l.stack ++ l.here ∷ []) ≤ weight (shape l.graph) (l.fn.stack ++ l.fn.position ∷ []);
-  few : (shape l.graph).exclusions ≡ 0 → l.steps + free_count (shape l.graph) l.here.decided.node ≤ l.fn.steps + free_count (shape l.graph) l.fn.position.decided.node;
+  less : weight (shape l.graph) (l.stack ++ l.here ∷ [])
+      ≤ weight (shape l.graph) (l.fn.stack ++ l.fn.position ∷ []);
+  few : (shape l.graph).exclusions ≡ 0
+      → l.steps + free_count (shape l.graph) l.here.decided.node ≤ l.fn.steps
+      + free_count (shape l.graph) l.fn.position.decided.node;
 }
 
 abbrev pub decreases-descend : goal.decreases-descend

@@ -17,5 +17,7 @@ returns c =
     let p = c.start.result in
     let most = c.in-Some.most in
     starts g c.is_proper.ensures.proper p most c.start.ensures.position c.start.ensures.inside
-    (out_of g most p.decided.node.outside c.minus-others.result c.below.result c.unit_count.result c.start.ensures.outside c.minus-others.ensures c.below.ensures c.unit_count.ensures)
-    (union_of g c.empty.result most c.empty.ensures c.in-Some.ensures.union) c.in-Some.ensures.structure.meets c.rises.ensures
+    (out_of g most p.decided.node.outside c.minus-others.result c.below.result c.unit_count.result
+    c.start.ensures.outside c.minus-others.ensures c.below.ensures c.unit_count.ensures)
+    (union_of g c.empty.result most c.empty.ensures c.in-Some.ensures.union)
+    c.in-Some.ensures.structure.meets c.rises.ensures

@@ -1,5 +1,9 @@
 use Rattle.std.proofs.Common.{refl, sym, ap, subst, arith, ◌≤◌, ℕ, List, map, string_bytes}
-use Rattle.studio_rules.specs.Command.{Command, Max, Axioms, Flows, Listing, Migrate, Editing, Undoing, Checking, RankChecking, Solving, Showing, Ranking, Telling, AreWithin, Table, Splitting, Expanding, Drawing, DrawingNetwork, Reporting, Json, Ranging, Planning, Parting, PartingAgainst, Merging}
+use Rattle.studio_rules.specs.Command.{Command, Max, Axioms, Flows, Listing, Migrate, Editing}
+use Rattle.studio_rules.specs.Command.{Undoing, Checking, RankChecking, Solving, Showing, Ranking}
+use Rattle.studio_rules.specs.Command.{Telling, AreWithin, Table, Splitting, Expanding, Drawing}
+use Rattle.studio_rules.specs.Command.{DrawingNetwork, Reporting, Json, Ranging, Planning, Parting}
+use Rattle.studio_rules.specs.Command.{PartingAgainst, Merging}
 use Rattle.studio_words.specs.View.{command_view}
 use Rattle.studio_rules.specs.Answers.{CommandSays}
 use Rattle.studio_rules.specs.Make.{MakeWork}
@@ -17,15 +21,18 @@ returns-in-Max-clause-ends g c =
     let new = g.F.Shelf.state c.max.new.shelf in
     let Q : Status → List ℕ → Type 0 = CommandSays old new (command_view c.args.command) in
     Ends-map (CommandSays old new (Max c.in-Max.file.now)) Q c.args.out.now _ _
-    (λ s t h. subst (λ (v : Command). CommandSays old new v s t) (sym (ap command_view c.in-Max.is)) h) c.max.ensures.ends
+    (λ s t h. subst (λ (v : Command). CommandSays old new v s t) (sym (ap command_view c.in-Max.is))
+    h) c.max.ensures.ends
 
 pub returns-in-Axioms-clause-ends : goal.returns-in-Axioms-clause-ends
 returns-in-Axioms-clause-ends g c =
     let old = g.F.Shelf.state c.args.shelf.now in
     let new = g.F.Shelf.state c.axioms.new.shelf in
     let Q : Status → List ℕ → Type 0 = CommandSays old new (command_view c.args.command) in
-    Ends-map (CommandSays old new (Axioms c.in-Axioms.file.now c.in-Axioms.units)) Q c.args.out.now _ _
-    (λ s t h. subst (λ (v : Command). CommandSays old new v s t) (sym (ap command_view c.in-Axioms.is)) h) c.axioms.ensures.ends
+    Ends-map (CommandSays old new (Axioms c.in-Axioms.file.now c.in-Axioms.units)) Q c.args.out.now
+    _ _
+    (λ s t h. subst (λ (v : Command). CommandSays old new v s t)
+    (sym (ap command_view c.in-Axioms.is)) h) c.axioms.ensures.ends
 
 pub returns-in-Flows-clause-ends : goal.returns-in-Flows-clause-ends
 returns-in-Flows-clause-ends g c =
@@ -33,28 +40,36 @@ returns-in-Flows-clause-ends g c =
     let new = g.F.Shelf.state c.flows.new.shelf in
     let Q : Status → List ℕ → Type 0 = CommandSays old new (command_view c.args.command) in
     Ends-map (CommandSays old new (Flows c.in-Flows.file.now c.in-Flows.units)) Q c.args.out.now _ _
-    (λ s t h. subst (λ (v : Command). CommandSays old new v s t) (sym (ap command_view c.in-Flows.is)) h) c.flows.ensures.ends
+    (λ s t h. subst (λ (v : Command). CommandSays old new v s t)
+    (sym (ap command_view c.in-Flows.is)) h) c.flows.ensures.ends
 
 pub returns-in-Listing-clause-ends : goal.returns-in-Listing-clause-ends
 returns-in-Listing-clause-ends g c =
     let old = g.F.Shelf.state c.args.shelf.now in
     let new = g.F.Shelf.state c.list.new.shelf in
     let Q : Status → List ℕ → Type 0 = CommandSays old new (command_view c.args.command) in
-    Ends-map (CommandSays old new (Listing c.in-Listing.file.now c.in-Listing.after.now c.in-Listing.count)) Q c.args.out.now _ _
-    (λ s t h. subst (λ (v : Command). CommandSays old new v s t) (sym (ap command_view c.in-Listing.is)) h) c.list.ensures.ends
+    Ends-map
+    (CommandSays old new
+    (Listing c.in-Listing.file.now c.in-Listing.after.now c.in-Listing.count)) Q c.args.out.now
+    _ _
+    (λ s t h. subst (λ (v : Command). CommandSays old new v s t)
+    (sym (ap command_view c.in-Listing.is)) h) c.list.ensures.ends
 
 pub returns-in-Make-clause-ends : goal.returns-in-Make-clause-ends
 returns-in-Make-clause-ends g c =
     let shelf = g.F.Shelf.state c.args.shelf.now in
     let Q : Status → List ℕ → Type 0 = CommandSays shelf shelf (command_view c.args.command) in
     Ends-map _ Q c.args.out.now _ _
-    (λ s t h. subst (λ (v : Command). CommandSays shelf shelf v s t) (sym (ap command_view c.in-Make.is))
-    (Says-told (MakeWork c.in-Make.number c.in-Make.units) (MakeWork c.in-Make.number c.in-Make.units) _ shelf shelf (λ s lines h. h) s t h))
+    (λ s t h. subst (λ (v : Command). CommandSays shelf shelf v s t)
+    (sym (ap command_view c.in-Make.is))
+    (Says-told (MakeWork c.in-Make.number c.in-Make.units)
+    (MakeWork c.in-Make.number c.in-Make.units) _ shelf shelf (λ s lines h. h) s t h))
     c.make.ensures
 
 pub make-requires : goal.make-requires
 make-requires g c =
-    let within : (1 ≤ c.in-Make.units) × (c.in-Make.units ≤ 128) = subst AreWithin (ap command_view c.in-Make.is) c.requires in
+    let within : (1 ≤ c.in-Make.units) × (c.in-Make.units ≤ 128) =
+    subst AreWithin (ap command_view c.in-Make.is) c.requires in
     record { some = within.0; few = within.1 }
 
 pub migrate-requires : goal.migrate-requires
@@ -65,64 +80,81 @@ returns-in-Migrate-clause-ends g c =
     let old = g.F.Shelf.state c.args.shelf.now in
     let new = g.F.Shelf.state c.migrate.new.shelf in
     let Q : Status → List ℕ → Type 0 = CommandSays old new (command_view c.args.command) in
-    Ends-map (CommandSays old new (Migrate c.in-Migrate.file.now c.in-Migrate.years)) Q c.args.out.now _ _
-    (λ s t h. subst (λ (v : Command). CommandSays old new v s t) (sym (ap command_view c.in-Migrate.is)) h) c.migrate.ensures.ends
+    Ends-map (CommandSays old new (Migrate c.in-Migrate.file.now c.in-Migrate.years)) Q
+    c.args.out.now _ _
+    (λ s t h. subst (λ (v : Command). CommandSays old new v s t)
+    (sym (ap command_view c.in-Migrate.is)) h) c.migrate.ensures.ends
 
 pub returns-in-Editing-clause-ends : goal.returns-in-Editing-clause-ends
 returns-in-Editing-clause-ends g c =
     let old = g.F.Shelf.state c.args.shelf.now in
     let new = g.F.Shelf.state c.edit.new.shelf in
     let Q : Status → List ℕ → Type 0 = CommandSays old new (command_view c.args.command) in
-    Ends-map (CommandSays old new (Editing c.in-Editing.file.now c.in-Editing.script.now)) Q c.args.out.now _ _
-    (λ s t h. subst (λ (v : Command). CommandSays old new v s t) (sym (ap command_view c.in-Editing.is)) h) c.edit.ensures.ends
+    Ends-map (CommandSays old new (Editing c.in-Editing.file.now c.in-Editing.script.now)) Q
+    c.args.out.now _ _
+    (λ s t h. subst (λ (v : Command). CommandSays old new v s t)
+    (sym (ap command_view c.in-Editing.is)) h) c.edit.ensures.ends
 
 pub returns-in-Undoing-clause-ends : goal.returns-in-Undoing-clause-ends
 returns-in-Undoing-clause-ends g c =
     let old = g.F.Shelf.state c.args.shelf.now in
     let new = g.F.Shelf.state c.undo.new.shelf in
     let Q : Status → List ℕ → Type 0 = CommandSays old new (command_view c.args.command) in
-    Ends-map (CommandSays old new (Undoing c.in-Undoing.file.now c.in-Undoing.script.now)) Q c.args.out.now _ _
-    (λ s t h. subst (λ (v : Command). CommandSays old new v s t) (sym (ap command_view c.in-Undoing.is)) h) c.undo.ensures.ends
+    Ends-map (CommandSays old new (Undoing c.in-Undoing.file.now c.in-Undoing.script.now)) Q
+    c.args.out.now _ _
+    (λ s t h. subst (λ (v : Command). CommandSays old new v s t)
+    (sym (ap command_view c.in-Undoing.is)) h) c.undo.ensures.ends
 
 pub returns-in-Expanding-clause-ends : goal.returns-in-Expanding-clause-ends
 returns-in-Expanding-clause-ends g c =
     let old = g.F.Shelf.state c.args.shelf.now in
     let new = g.F.Shelf.state c.expand.new.shelf in
     let Q : Status → List ℕ → Type 0 = CommandSays old new (command_view c.args.command) in
-    Ends-map (CommandSays old new (Expanding c.in-Expanding.file.now c.in-Expanding.plan.now)) Q c.args.out.now _ _
-    (λ s t h. subst (λ (v : Command). CommandSays old new v s t) (sym (ap command_view c.in-Expanding.is)) h) c.expand.ensures.ends
+    Ends-map (CommandSays old new (Expanding c.in-Expanding.file.now c.in-Expanding.plan.now)) Q
+    c.args.out.now _ _
+    (λ s t h. subst (λ (v : Command). CommandSays old new v s t)
+    (sym (ap command_view c.in-Expanding.is)) h) c.expand.ensures.ends
 
 pub returns-in-Checking-clause-ends : goal.returns-in-Checking-clause-ends
 returns-in-Checking-clause-ends g c =
     let old = g.F.Shelf.state c.args.shelf.now in
     let new = g.F.Shelf.state c.check.new.shelf in
     let Q : Status → List ℕ → Type 0 = CommandSays old new (command_view c.args.command) in
-    Ends-map (CommandSays old new (Checking c.in-Checking.file.now c.in-Checking.tree.now)) Q c.args.out.now _ _
-    (λ s t h. subst (λ (v : Command). CommandSays old new v s t) (sym (ap command_view c.in-Checking.is)) h) c.check.ensures.ends
+    Ends-map (CommandSays old new (Checking c.in-Checking.file.now c.in-Checking.tree.now)) Q
+    c.args.out.now _ _
+    (λ s t h. subst (λ (v : Command). CommandSays old new v s t)
+    (sym (ap command_view c.in-Checking.is)) h) c.check.ensures.ends
 
 pub returns-in-RankChecking-clause-ends : goal.returns-in-RankChecking-clause-ends
 returns-in-RankChecking-clause-ends g c =
     let old = g.F.Shelf.state c.args.shelf.now in
     let new = g.F.Shelf.state c.rankcheck.new.shelf in
     let Q : Status → List ℕ → Type 0 = CommandSays old new (command_view c.args.command) in
-    Ends-map (CommandSays old new (RankChecking c.in-RankChecking.file.now c.in-RankChecking.rank.now)) Q c.args.out.now _ _
-    (λ s t h. subst (λ (v : Command). CommandSays old new v s t) (sym (ap command_view c.in-RankChecking.is)) h) c.rankcheck.ensures.ends
+    Ends-map
+    (CommandSays old new (RankChecking c.in-RankChecking.file.now c.in-RankChecking.rank.now)) Q
+    c.args.out.now _ _
+    (λ s t h. subst (λ (v : Command). CommandSays old new v s t)
+    (sym (ap command_view c.in-RankChecking.is)) h) c.rankcheck.ensures.ends
 
 pub returns-in-Table-clause-ends : goal.returns-in-Table-clause-ends
 returns-in-Table-clause-ends g c =
     let old = g.F.Shelf.state c.args.shelf.now in
     let new = g.F.Shelf.state c.table.new.shelf in
     let Q : Status → List ℕ → Type 0 = CommandSays old new (command_view c.args.command) in
-    Ends-map (CommandSays old new (Table c.in-Table.file.now c.in-Table.tree.now)) Q c.args.out.now _ _
-    (λ s t h. subst (λ (v : Command). CommandSays old new v s t) (sym (ap command_view c.in-Table.is)) h) c.table.ensures.ends
+    Ends-map (CommandSays old new (Table c.in-Table.file.now c.in-Table.tree.now)) Q c.args.out.now
+    _ _
+    (λ s t h. subst (λ (v : Command). CommandSays old new v s t)
+    (sym (ap command_view c.in-Table.is)) h) c.table.ensures.ends
 
 pub returns-in-Reporting-clause-ends : goal.returns-in-Reporting-clause-ends
 returns-in-Reporting-clause-ends g c =
     let old = g.F.Shelf.state c.args.shelf.now in
     let new = g.F.Shelf.state c.report.new.shelf in
     let Q : Status → List ℕ → Type 0 = CommandSays old new (command_view c.args.command) in
-    Ends-map (CommandSays old new (Reporting c.in-Reporting.file.now c.in-Reporting.tree.now)) Q c.args.out.now _ _
-    (λ s t h. subst (λ (v : Command). CommandSays old new v s t) (sym (ap command_view c.in-Reporting.is)) h) c.report.ensures.ends
+    Ends-map (CommandSays old new (Reporting c.in-Reporting.file.now c.in-Reporting.tree.now)) Q
+    c.args.out.now _ _
+    (λ s t h. subst (λ (v : Command). CommandSays old new v s t)
+    (sym (ap command_view c.in-Reporting.is)) h) c.report.ensures.ends
 
 pub returns-in-Json-clause-ends : goal.returns-in-Json-clause-ends
 returns-in-Json-clause-ends g c =
@@ -130,15 +162,18 @@ returns-in-Json-clause-ends g c =
     let new = g.F.Shelf.state c.json.new.shelf in
     let Q : Status → List ℕ → Type 0 = CommandSays old new (command_view c.args.command) in
     Ends-map (CommandSays old new (Json c.in-Json.file.now c.in-Json.tree.now)) Q c.args.out.now _ _
-    (λ s t h. subst (λ (v : Command). CommandSays old new v s t) (sym (ap command_view c.in-Json.is)) h) c.json.ensures.ends
+    (λ s t h. subst (λ (v : Command). CommandSays old new v s t)
+    (sym (ap command_view c.in-Json.is)) h) c.json.ensures.ends
 
 pub returns-in-Splitting-clause-ends : goal.returns-in-Splitting-clause-ends
 returns-in-Splitting-clause-ends g c =
     let old = g.F.Shelf.state c.args.shelf.now in
     let new = g.F.Shelf.state c.split.new.shelf in
     let Q : Status → List ℕ → Type 0 = CommandSays old new (command_view c.args.command) in
-    Ends-map (CommandSays old new (Splitting c.in-Splitting.file.now c.in-Splitting.tree.now)) Q c.args.out.now _ _
-    (λ s t h. subst (λ (v : Command). CommandSays old new v s t) (sym (ap command_view c.in-Splitting.is)) h) c.split.ensures.ends
+    Ends-map (CommandSays old new (Splitting c.in-Splitting.file.now c.in-Splitting.tree.now)) Q
+    c.args.out.now _ _
+    (λ s t h. subst (λ (v : Command). CommandSays old new v s t)
+    (sym (ap command_view c.in-Splitting.is)) h) c.split.ensures.ends
 
 pub returns-in-Drawing-clause-ends : goal.returns-in-Drawing-clause-ends
 returns-in-Drawing-clause-ends g c =
@@ -146,19 +181,25 @@ returns-in-Drawing-clause-ends g c =
     let new = g.F.Shelf.state c.plant_graph.new.shelf in
     let Q : Status → List ℕ → Type 0 = CommandSays old new (command_view c.args.command) in
     Ends-map (CommandSays old new (Drawing c.in-Drawing.file.now)) Q c.args.out.now _ _
-    (λ s t h. subst (λ (v : Command). CommandSays old new v s t) (sym (ap command_view c.in-Drawing.is)) h) c.plant_graph.ensures.ends
+    (λ s t h. subst (λ (v : Command). CommandSays old new v s t)
+    (sym (ap command_view c.in-Drawing.is)) h) c.plant_graph.ensures.ends
 
 pub returns-in-DrawingNetwork-clause-ends : goal.returns-in-DrawingNetwork-clause-ends
 returns-in-DrawingNetwork-clause-ends g c =
     let old = g.F.Shelf.state c.args.shelf.now in
     let new = g.F.Shelf.state c.graph.new.shelf in
     let Q : Status → List ℕ → Type 0 = CommandSays old new (command_view c.args.command) in
-    Ends-map (CommandSays old new (DrawingNetwork c.in-DrawingNetwork.file.now c.in-DrawingNetwork.tree.now)) Q c.args.out.now _ _
-    (λ s t h. subst (λ (v : Command). CommandSays old new v s t) (sym (ap command_view c.in-DrawingNetwork.is)) h) c.graph.ensures.ends
+    Ends-map
+    (CommandSays old new
+    (DrawingNetwork c.in-DrawingNetwork.file.now c.in-DrawingNetwork.tree.now)) Q c.args.out.now
+    _ _
+    (λ s t h. subst (λ (v : Command). CommandSays old new v s t)
+    (sym (ap command_view c.in-DrawingNetwork.is)) h) c.graph.ensures.ends
 
 pub stable-requires : goal.stable-requires
 stable-requires g c =
-    let within : (1 ≤ c.in-Ranging.budget) × (c.in-Ranging.budget ≤ 1000000) = subst AreWithin (ap command_view c.in-Ranging.is) c.requires in
+    let within : (1 ≤ c.in-Ranging.budget) × (c.in-Ranging.budget ≤ 1000000) =
+    subst AreWithin (ap command_view c.in-Ranging.is) c.requires in
     record { some = within.0; few = within.1 }
 
 pub returns-in-Ranging-clause-ends : goal.returns-in-Ranging-clause-ends
@@ -166,12 +207,17 @@ returns-in-Ranging-clause-ends g c =
     let old = g.F.Shelf.state c.args.shelf.now in
     let new = g.F.Shelf.state c.stable.new.shelf in
     let Q : Status → List ℕ → Type 0 = CommandSays old new (command_view c.args.command) in
-    Ends-map (CommandSays old new (Ranging c.in-Ranging.file.now c.in-Ranging.tree.now c.in-Ranging.kind c.in-Ranging.name.now c.in-Ranging.budget)) Q c.args.out.now _ _
-    (λ s t h. subst (λ (v : Command). CommandSays old new v s t) (sym (ap command_view c.in-Ranging.is)) h) c.stable.ensures.ends
+    Ends-map
+    (CommandSays old new
+    (Ranging c.in-Ranging.file.now c.in-Ranging.tree.now c.in-Ranging.kind c.in-Ranging.name.now
+    c.in-Ranging.budget)) Q c.args.out.now _ _
+    (λ s t h. subst (λ (v : Command). CommandSays old new v s t)
+    (sym (ap command_view c.in-Ranging.is)) h) c.stable.ensures.ends
 
 pub periods-requires : goal.periods-requires
 periods-requires g c =
-    let within : (1 ≤ c.in-Planning.budget) × (c.in-Planning.budget ≤ 1000000) = subst AreWithin (ap command_view c.in-Planning.is) c.requires in
+    let within : (1 ≤ c.in-Planning.budget) × (c.in-Planning.budget ≤ 1000000) =
+    subst AreWithin (ap command_view c.in-Planning.is) c.requires in
     record { some = within.0; few = within.1 }
 
 pub returns-in-Planning-clause-ends : goal.returns-in-Planning-clause-ends
@@ -179,12 +225,17 @@ returns-in-Planning-clause-ends g c =
     let old = g.F.Shelf.state c.args.shelf.now in
     let new = g.F.Shelf.state c.periods.new.shelf in
     let Q : Status → List ℕ → Type 0 = CommandSays old new (command_view c.args.command) in
-    Ends-map (CommandSays old new (Planning c.in-Planning.file.now c.in-Planning.plan.now c.in-Planning.budget)) Q c.args.out.now _ _
-    (λ s t h. subst (λ (v : Command). CommandSays old new v s t) (sym (ap command_view c.in-Planning.is)) h) c.periods.ensures.ends
+    Ends-map
+    (CommandSays old new
+    (Planning c.in-Planning.file.now c.in-Planning.plan.now c.in-Planning.budget)) Q
+    c.args.out.now _ _
+    (λ s t h. subst (λ (v : Command). CommandSays old new v s t)
+    (sym (ap command_view c.in-Planning.is)) h) c.periods.ensures.ends
 
 pub part-requires : goal.part-requires
 part-requires g c =
-    let within : (1 ≤ c.in-Parting.budget) × (c.in-Parting.budget ≤ 1000000) = subst AreWithin (ap command_view c.in-Parting.is) c.requires in
+    let within : (1 ≤ c.in-Parting.budget) × (c.in-Parting.budget ≤ 1000000) =
+    subst AreWithin (ap command_view c.in-Parting.is) c.requires in
     record { some = within.0; few = within.1 }
 
 pub returns-in-Parting-clause-ends : goal.returns-in-Parting-clause-ends
@@ -192,12 +243,17 @@ returns-in-Parting-clause-ends g c =
     let old = g.F.Shelf.state c.args.shelf.now in
     let new = g.F.Shelf.state c.part.new.shelf in
     let Q : Status → List ℕ → Type 0 = CommandSays old new (command_view c.args.command) in
-    Ends-map (CommandSays old new (Parting c.in-Parting.file.now c.in-Parting.inside.now c.in-Parting.outside.now c.in-Parting.budget)) Q c.args.out.now _ _
-    (λ s t h. subst (λ (v : Command). CommandSays old new v s t) (sym (ap command_view c.in-Parting.is)) h) c.part.ensures.ends
+    Ends-map
+    (CommandSays old new
+    (Parting c.in-Parting.file.now c.in-Parting.inside.now c.in-Parting.outside.now
+    c.in-Parting.budget)) Q c.args.out.now _ _
+    (λ s t h. subst (λ (v : Command). CommandSays old new v s t)
+    (sym (ap command_view c.in-Parting.is)) h) c.part.ensures.ends
 
 pub part_against-requires : goal.part_against-requires
 part_against-requires g c =
-    let within : (1 ≤ c.in-PartingAgainst.budget) × (c.in-PartingAgainst.budget ≤ 1000000) = subst AreWithin (ap command_view c.in-PartingAgainst.is) c.requires in
+    let within : (1 ≤ c.in-PartingAgainst.budget) × (c.in-PartingAgainst.budget ≤ 1000000) =
+    subst AreWithin (ap command_view c.in-PartingAgainst.is) c.requires in
     record { some = within.0; few = within.1 }
 
 pub returns-in-PartingAgainst-clause-ends : goal.returns-in-PartingAgainst-clause-ends
@@ -205,20 +261,30 @@ returns-in-PartingAgainst-clause-ends g c =
     let old = g.F.Shelf.state c.args.shelf.now in
     let new = g.F.Shelf.state c.part_against.new.shelf in
     let Q : Status → List ℕ → Type 0 = CommandSays old new (command_view c.args.command) in
-    Ends-map (CommandSays old new (PartingAgainst c.in-PartingAgainst.file.now c.in-PartingAgainst.inside.now c.in-PartingAgainst.outside.now c.in-PartingAgainst.budget c.in-PartingAgainst.tree.now)) Q c.args.out.now _ _
-    (λ s t h. subst (λ (v : Command). CommandSays old new v s t) (sym (ap command_view c.in-PartingAgainst.is)) h) c.part_against.ensures.ends
+    Ends-map
+    (CommandSays old new
+    (PartingAgainst c.in-PartingAgainst.file.now c.in-PartingAgainst.inside.now
+    c.in-PartingAgainst.outside.now c.in-PartingAgainst.budget c.in-PartingAgainst.tree.now)) Q
+    c.args.out.now _ _
+    (λ s t h. subst (λ (v : Command). CommandSays old new v s t)
+    (sym (ap command_view c.in-PartingAgainst.is)) h) c.part_against.ensures.ends
 
 pub returns-in-Merging-clause-ends : goal.returns-in-Merging-clause-ends
 returns-in-Merging-clause-ends g c =
     let old = g.F.Shelf.state c.args.shelf.now in
     let new = g.F.Shelf.state c.merge.new.shelf in
     let Q : Status → List ℕ → Type 0 = CommandSays old new (command_view c.args.command) in
-    Ends-map (CommandSays old new (Merging c.in-Merging.file.now c.in-Merging.tree.now (map string_bytes c.in-Merging.parts.now))) Q c.args.out.now _ _
-    (λ s t h. subst (λ (v : Command). CommandSays old new v s t) (sym (ap command_view c.in-Merging.is)) h) c.merge.ensures.ends
+    Ends-map
+    (CommandSays old new
+    (Merging c.in-Merging.file.now c.in-Merging.tree.now
+    (map string_bytes c.in-Merging.parts.now))) Q c.args.out.now _ _
+    (λ s t h. subst (λ (v : Command). CommandSays old new v s t)
+    (sym (ap command_view c.in-Merging.is)) h) c.merge.ensures.ends
 
 pub solve-requires : goal.solve-requires
 solve-requires g c =
-    let within : (1 ≤ c.in-Solving.budget) × (c.in-Solving.budget ≤ 1000000) = subst AreWithin (ap command_view c.in-Solving.is) c.requires in
+    let within : (1 ≤ c.in-Solving.budget) × (c.in-Solving.budget ≤ 1000000) =
+    subst AreWithin (ap command_view c.in-Solving.is) c.requires in
     record { some = within.0; few = within.1 }
 
 pub returns-in-Solving-clause-ends : goal.returns-in-Solving-clause-ends
@@ -226,12 +292,15 @@ returns-in-Solving-clause-ends g c =
     let old = g.F.Shelf.state c.args.shelf.now in
     let new = g.F.Shelf.state c.solve.new.shelf in
     let Q : Status → List ℕ → Type 0 = CommandSays old new (command_view c.args.command) in
-    Ends-map (CommandSays old new (Solving c.in-Solving.file.now c.in-Solving.budget)) Q c.args.out.now _ _
-    (λ s t h. subst (λ (v : Command). CommandSays old new v s t) (sym (ap command_view c.in-Solving.is)) h) c.solve.ensures.ends
+    Ends-map (CommandSays old new (Solving c.in-Solving.file.now c.in-Solving.budget)) Q
+    c.args.out.now _ _
+    (λ s t h. subst (λ (v : Command). CommandSays old new v s t)
+    (sym (ap command_view c.in-Solving.is)) h) c.solve.ensures.ends
 
 pub show-requires : goal.show-requires
 show-requires g c =
-    let within : (1 ≤ c.in-Showing.budget) × (c.in-Showing.budget ≤ 1000000) = subst AreWithin (ap command_view c.in-Showing.is) c.requires in
+    let within : (1 ≤ c.in-Showing.budget) × (c.in-Showing.budget ≤ 1000000) =
+    subst AreWithin (ap command_view c.in-Showing.is) c.requires in
     record { some = within.0; few = within.1 }
 
 pub returns-in-Showing-clause-ends : goal.returns-in-Showing-clause-ends
@@ -239,12 +308,16 @@ returns-in-Showing-clause-ends g c =
     let old = g.F.Shelf.state c.args.shelf.now in
     let new = g.F.Shelf.state c.show.new.shelf in
     let Q : Status → List ℕ → Type 0 = CommandSays old new (command_view c.args.command) in
-    Ends-map (CommandSays old new (Showing c.in-Showing.file.now c.in-Showing.budget)) Q c.args.out.now _ _
-    (λ s t h. subst (λ (v : Command). CommandSays old new v s t) (sym (ap command_view c.in-Showing.is)) h) c.show.ensures.ends
+    Ends-map (CommandSays old new (Showing c.in-Showing.file.now c.in-Showing.budget)) Q
+    c.args.out.now _ _
+    (λ s t h. subst (λ (v : Command). CommandSays old new v s t)
+    (sym (ap command_view c.in-Showing.is)) h) c.show.ensures.ends
 
 pub rank-requires : goal.rank-requires
 rank-requires g c =
-    let within : ((1 ≤ c.in-Ranking.count) × (c.in-Ranking.count ≤ 1000)) × ((1 ≤ c.in-Ranking.budget) × (c.in-Ranking.budget ≤ 1000000)) = subst AreWithin (ap command_view c.in-Ranking.is) c.requires in
+    let within : ((1 ≤ c.in-Ranking.count) × (c.in-Ranking.count ≤ 1000))
+    × ((1 ≤ c.in-Ranking.budget) × (c.in-Ranking.budget ≤ 1000000)) =
+    subst AreWithin (ap command_view c.in-Ranking.is) c.requires in
     record { asked = within.0.0; within = within.0.1; some = within.1.0; few = within.1.1 }
 
 pub returns-in-Ranking-clause-ends : goal.returns-in-Ranking-clause-ends
@@ -252,21 +325,28 @@ returns-in-Ranking-clause-ends g c =
     let old = g.F.Shelf.state c.args.shelf.now in
     let new = g.F.Shelf.state c.rank.new.shelf in
     let Q : Status → List ℕ → Type 0 = CommandSays old new (command_view c.args.command) in
-    Ends-map (CommandSays old new (Ranking c.in-Ranking.file.now c.in-Ranking.count c.in-Ranking.budget)) Q c.args.out.now _ _
-    (λ s t h. subst (λ (v : Command). CommandSays old new v s t) (sym (ap command_view c.in-Ranking.is)) h) c.rank.ensures.ends
+    Ends-map
+    (CommandSays old new (Ranking c.in-Ranking.file.now c.in-Ranking.count c.in-Ranking.budget))
+    Q c.args.out.now _ _
+    (λ s t h. subst (λ (v : Command). CommandSays old new v s t)
+    (sym (ap command_view c.in-Ranking.is)) h) c.rank.ensures.ends
 
 pub trial-requires : goal.trial-requires
 trial-requires g c =
-    let within : ((1 ≤ c.in-Trial.units) × (c.in-Trial.units ≤ 128)) × ((1 ≤ c.in-Trial.budget) × (c.in-Trial.budget ≤ 1000000)) = subst AreWithin (ap command_view c.in-Trial.is) c.requires in
+    let within : ((1 ≤ c.in-Trial.units) × (c.in-Trial.units ≤ 128))
+    × ((1 ≤ c.in-Trial.budget) × (c.in-Trial.budget ≤ 1000000)) =
+    subst AreWithin (ap command_view c.in-Trial.is) c.requires in
     record { some = within.0.0; few = within.0.1; some_nodes = within.1.0; few_nodes = within.1.1 }
 
 pub returns-in-Trial-clause-ends : goal.returns-in-Trial-clause-ends
 returns-in-Trial-clause-ends g c =
     let shelf = g.F.Shelf.state c.args.shelf.now in
     let Q : Status → List ℕ → Type 0 = CommandSays shelf shelf (command_view c.args.command) in
-    let work : Status → List (List ℕ) → Type 0 = TrialWork c.in-Trial.number c.in-Trial.units c.in-Trial.budget in
+    let work : Status → List (List ℕ) → Type 0 =
+    TrialWork c.in-Trial.number c.in-Trial.units c.in-Trial.budget in
     Ends-map _ Q c.args.out.now _ _
-    (λ s t h. subst (λ (v : Command). CommandSays shelf shelf v s t) (sym (ap command_view c.in-Trial.is))
+    (λ s t h. subst (λ (v : Command). CommandSays shelf shelf v s t)
+    (sym (ap command_view c.in-Trial.is))
     (Says-told work work _ shelf shelf (λ s lines h. h) s t h))
     c.trial.ensures
 
@@ -277,8 +357,10 @@ returns-in-Telling-clause-ends g c =
     let text : List ℕ = c.in-Telling.text.now in
     let whole : IsOfLines text = subst AreWithin (ap command_view c.in-Telling.is) c.requires in
     Ends-map _ Q c.args.out.now _ _
-    (λ s t h. subst (λ (v : Command). CommandSays shelf shelf v s t) (sym (ap command_view c.in-Telling.is))
-    (only_in (CommandSays shelf shelf (Telling text)) Done text (whole.0, (refl, whole.1), whole.1) s t h))
+    (λ s t h. subst (λ (v : Command). CommandSays shelf shelf v s t)
+    (sym (ap command_view c.in-Telling.is))
+    (only_in (CommandSays shelf shelf (Telling text)) Done text (whole.0, (refl, whole.1), whole.1)
+    s t h))
     c.say_text.ensures
 
 pub returns-in-Make-clause-keeps : goal.returns-in-Make-clause-keeps

@@ -1,4 +1,5 @@
-use Rattle.std.proofs.Common.{◌≡◌, ◌∷◌, [], Some, None, IfSome, IsSomeAnd, map, refl, inl, List, ℕ, Option, codes, string_bytes, subst, ap, sym, ◌∙◌, option_map}
+use Rattle.std.proofs.Common.{◌≡◌, ◌∷◌, [], Some, None, IfSome, IsSomeAnd, map, refl, inl, List, ℕ}
+use Rattle.std.proofs.Common.{Option, codes, string_bytes, subst, ap, sym, ◌∙◌, option_map}
 use Rattle.studio_rules.specs.Lines.{line}
 use Rattle.studio_rules.specs.Command.{Command, command_of, AreWithin, IsFileOf, IsFileWord}
 use Rattle.studio_words.specs.View.{command_view}
@@ -13,7 +14,8 @@ use Rattle.studio.proofs.call.run.Goals as goal
 pub perform-requires : goal.perform-requires
 perform-requires g c =
     let words = map string_bytes c.args.words.now in
-    let found : Some (command_view c.in-Some.command) ≡ command_of words = ap (option_map command_view) (sym c.in-Some.is) ∙ c.in-Ok.ensures in
+    let found : Some (command_view c.in-Some.command) ≡ command_of words =
+    ap (option_map command_view) (sym c.in-Some.is) ∙ c.in-Ok.ensures in
     subst (λ (f : Option Command). IfSome f AreWithin) (sym found) (words_within words)
 
 pub returns-in_default-clause-ends : goal.returns-in_default-clause-ends
@@ -21,7 +23,8 @@ returns-in_default-clause-ends g c =
     let words = map string_bytes c.args.words.now in
     let shelf = g.F.Shelf.state c.args.shelf.now in
     let Q : Status → List ℕ → Type 0 = WordsSay shelf shelf words in
-    Ends-map _ Q c.args.out.now _ _ (only_in Q Memory (line (codes "memory")) ([], inl refl, refl)) c.say_memory.ensures
+    Ends-map _ Q c.args.out.now _ _ (only_in Q Memory (line (codes "memory")) ([], inl refl, refl))
+    c.say_memory.ensures
 
 pub returns-in-Some-clause-ends : goal.returns-in-Some-clause-ends
 returns-in-Some-clause-ends g c =
@@ -30,11 +33,14 @@ returns-in-Some-clause-ends g c =
     let new = g.F.Shelf.state c.perform.new.shelf in
     let Q : Status → List ℕ → Type 0 = WordsSay old new words in
     let command = command_view c.in-Some.command in
-    let found : Some command ≡ command_of words = ap (option_map command_view) (sym c.in-Some.is) ∙ c.in-Ok.ensures in
+    let found : Some command ≡ command_of words =
+    ap (option_map command_view) (sym c.in-Some.is) ∙ c.in-Ok.ensures in
     Ends-map (CommandSays old new command) Q c.args.out.now _ _
-    (Says-map (CommandAnswers old.held command) (Answers old.held words) (IsFileOf command) (IsFileWord words) old new
+    (Says-map (CommandAnswers old.held command) (Answers old.held words) (IsFileOf command)
+    (IsFileWord words) old new
     (λ s lines h. subst (λ (f : Option Command). AnswersTo old.held f s lines) found h)
-    (λ name h. subst (λ (f : Option Command). IsSomeAnd f (λ command. IsFileOf command name)) found h))
+    (λ name h. subst (λ (f : Option Command). IsSomeAnd f (λ command. IsFileOf command name)) found
+    h))
     c.perform.ensures.ends
 
 pub returns-in-None-clause-ends : goal.returns-in-None-clause-ends
@@ -42,9 +48,15 @@ returns-in-None-clause-ends g c =
     let words = map string_bytes c.args.words.now in
     let shelf = g.F.Shelf.state c.args.shelf.now in
     let Q : Status → List ℕ → Type 0 = WordsSay shelf shelf words in
-    let found : None ≡ command_of words = ap (option_map command_view) (sym c.in-None.is) ∙ c.in-Ok.ensures in
+    let found : None ≡ command_of words =
+    ap (option_map command_view) (sym c.in-None.is) ∙ c.in-Ok.ensures in
     Ends-map _ Q c.args.out.now _ _
-    (only_in Q Usage (line (codes "usage")) (codes "usage" ∷ [], subst (λ (f : Option Command). AnswersTo shelf.held f Usage (codes "usage" ∷ [])) found (refl, refl), refl))
+    (only_in Q Usage (line (codes "usage")) (
+      codes "usage" ∷ [],
+      subst (λ (f : Option Command). AnswersTo shelf.held f Usage (codes "usage" ∷ [])) found
+          (refl, refl),
+      refl,
+    ))
     c.tell_usage.ensures
 
 pub returns-in_default-clause-keeps : goal.returns-in_default-clause-keeps

@@ -1,5 +1,6 @@
 use Rattle.std.proofs.Common.{map, string_bytes}
-use Rattle.studio.proofs.Statuses.{usage_ends, no_form_ends, read_fault_ends, write_fault_ends, complete_ends, accepted_ends, ranked_ends, missing_ends}
+use Rattle.studio.proofs.Statuses.{usage_ends, no_form_ends, read_fault_ends, write_fault_ends}
+use Rattle.studio.proofs.Statuses.{complete_ends, accepted_ends, ranked_ends, missing_ends}
 use Rattle.studio.proofs.Finished.{finish_ends}
 use Rattle.studio.proofs.Causes.{exact_ends}
 use Rattle.studio.proofs.Noted.{finished_as, still_fault}
@@ -17,24 +18,36 @@ returns g c =
     let noted = c.note_fault.ensures in
     record {
       ends =
-          finished_as (WordsSay old new words) before mid after c.run-status.result c.run-status.ensures.ends noted;
+          finished_as (WordsSay old new words) before mid after c.run-status.result
+          c.run-status.ensures.ends noted;
       keeps = c.run-status.ensures.keeps.held;
       later = c.run-status.ensures.keeps.later;
       usage = usage_ends old new words before mid c.run-status.result c.run-status.ensures.ends;
       no_form = no_form_ends old new words before mid c.run-status.result c.run-status.ensures.ends;
-      read_fault = read_fault_ends old new words before mid c.run-status.result c.run-status.ensures.ends;
+      read_fault =
+          read_fault_ends old new words before mid c.run-status.result c.run-status.ensures.ends;
       write_fault = λ is.
           still_fault before mid after c.run-status.result noted
-          (write_fault_ends old new words before mid c.run-status.result c.run-status.ensures.ends is);
+          (write_fault_ends old new words before mid c.run-status.result c.run-status.ensures.ends
+          is);
       missing = missing_ends old new words before mid c.run-status.result c.run-status.ensures.ends;
-      exact = exact_ends c.parts_are_read_once.ensures old new words before mid c.run-status.result c.run-status.ensures.ends;
+      exact =
+          exact_ends c.parts_are_read_once.ensures old new words before mid c.run-status.result
+          c.run-status.ensures.ends;
       complete = λ command is calm.
-          complete_ends old new words before mid c.run-status.result c.run-status.ensures.ends command is (record {
+          complete_ends old new words before mid c.run-status.result c.run-status.ensures.ends
+          command is (record {
             held = calm.held;
             read = calm.read;
-            written = λ fault. calm.written (still_fault before mid after c.run-status.result noted fault);
+            written =
+                λ fault. calm.written
+                (still_fault before mid after c.run-status.result noted fault);
           });
       finishes = finish_ends old new words before mid c.run-status.result c.run-status.ensures.ends;
-      accepted = accepted_ends old new words before mid c.accepted_is_best.ensures c.run-status.result c.run-status.ensures.ends;
-      ranked = ranked_ends old new words before mid c.accepted_are_best.ensures c.run-status.result c.run-status.ensures.ends;
+      accepted =
+          accepted_ends old new words before mid c.accepted_is_best.ensures c.run-status.result
+          c.run-status.ensures.ends;
+      ranked =
+          ranked_ends old new words before mid c.accepted_are_best.ensures c.run-status.result
+          c.run-status.ensures.ends;
     }

@@ -3,5 +3,7 @@ use Rattle.studio.proofs.laws.check_accepts_merged.Goals as goal
 
 pub returns : goal.returns
 returns c =
-    check_accepts_merged c.spelled_texts_read.ensures c.read_texts_are_spelled.ensures c.read_parts_are_spelled.ensures c.grafts_are_partial.ensures.tree
-    c.open_leaves_stand.ensures c.open_leaves_decide.ensures.closed c.claim_has_one_fault.ensures.passes c.tree_has_one_fault.ensures.passes
+    check_accepts_merged c.spelled_texts_read.ensures c.read_texts_are_spelled.ensures
+    c.read_parts_are_spelled.ensures c.grafts_are_partial.ensures.tree
+    c.open_leaves_stand.ensures c.open_leaves_decide.ensures.closed
+    c.claim_has_one_fault.ensures.passes c.tree_has_one_fault.ensures.passes

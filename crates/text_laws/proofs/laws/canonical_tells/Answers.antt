@@ -8,4 +8,6 @@ one_value : (p q : Problem) → let P : Result Problem Fault = Ok p in P ≡ Ok 
 one_value p q e = cc
 
 pub returns : goal.returns
-returns c = λ p q one two same. one_value p q (sym (c.canonical_reads.ensures p one) ∙ ap read_text same ∙ c.canonical_reads.ensures q two)
+returns c =
+    λ p q one two same. one_value p q
+    (sym (c.canonical_reads.ensures p one) ∙ ap read_text same ∙ c.canonical_reads.ensures q two)

@@ -1,7 +1,8 @@
 use Rattle.std.proofs.Common.{◌∷◌, ◌++◌, List, ℕ, refl, ap, sym, ◌∙◌, append_assoc, arith}
 use Rattle.text_rules.specs.Amount.{number_from}
 use Rattle.text_laws.proofs.Digits.{number-append}
-use Rattle.text_lines.proofs.Fronts.{digits_pass, points_none, digits_count, behind_none, point_passes, point_one, point_count, point_behind}
+use Rattle.text_lines.proofs.Fronts.{digits_pass, points_none, digits_count, behind_none}
+use Rattle.text_lines.proofs.Fronts.{point_passes, point_one, point_count, point_behind}
 use Rattle.text_lines.proofs.amount.front_of.Goals as goal
 
 pub returns-in-Some : goal.returns-in-Some
@@ -15,11 +16,15 @@ returns-in-Some c =
     let few = behind.ensures.few in
     record {
       part = ds ++ 46 ∷ fs;
-      cut = front.ensures.cut ∙ ap (λ (t : List ℕ). ds ++ t) (c.in-Some.ensures.some ∙ ap (λ (t : List ℕ). 46 ∷ t) behind.ensures.cut) ∙ sym (append_assoc ds (46 ∷ fs) behind.result.2.now);
+      cut = front.ensures.cut
+          ∙ ap (λ (t : List ℕ). ds ++ t)
+          (c.in-Some.ensures.some ∙ ap (λ (t : List ℕ). 46 ∷ t) behind.ensures.cut)
+          ∙ sym (append_assoc ds (46 ∷ fs) behind.result.2.now);
       passes = point_passes ds fs front.ensures.digits behind.ensures.digits;
       points = omega (arith, one);
       digits = point_count ds fs front.ensures.digits behind.ensures.digits;
-      number = number-append 0 ds (46 ∷ fs) ∙ ap (λ n. number_from n fs) (sym front.ensures.value) ∙ sym behind.ensures.value;
+      number = number-append 0 ds (46 ∷ fs) ∙ ap (λ n. number_from n fs) (sym front.ensures.value)
+          ∙ sym behind.ensures.value;
       places = point_behind ds fs front.ensures.digits behind.ensures.digits;
       digit_ends = λ lt. behind.ensures.end (omega (arith, lt));
       point_ends = λ none. absurd (omega (arith, one, none));

@@ -10,5 +10,9 @@ returns-then-at-rest-clause-cut c =
     let rest : List ℕ = c.args.rest.now in
     let at : ℕ = c.place_of-at.result in
     lines_cut drops rest at c.place_of-at.ensures.place c.if-at-rest.true
-    ∙ ap (λ (left : List ℕ). line_by drops (take at rest) ∷ lines_by drops left) (sym (take_rest rest (at + 1)))
-    ∙ ap (λ (line : List ℕ). line ∷ lines_by drops (take (length rest - (at + 1)) (drop (at + 1) rest))) (sym c.dropped.ensures)
+    ∙ ap (λ (left : List ℕ). line_by drops (take at rest) ∷ lines_by drops left)
+    (sym (take_rest rest (at + 1)))
+    ∙ ap
+    (λ (line : List ℕ). line
+    ∷ lines_by drops (take (length rest - (at + 1)) (drop (at + 1) rest)))
+    (sym c.dropped.ensures)

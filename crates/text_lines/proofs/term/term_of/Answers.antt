@@ -3,7 +3,8 @@ use Rattle.text_lines.proofs.Sides.{no_token, one_token, two_tokens, more_tokens
 use Rattle.text_lines.proofs.term.term_of.Goals as goal
 
 pub returns-in-len1 : goal.returns-in-len1
-returns-in-len1 c = one_token c.args.tokens.now _ c.as_slice.result.now (omega arith) c.as_slice.ensures
+returns-in-len1 c =
+    one_token c.args.tokens.now _ c.as_slice.result.now (omega arith) c.as_slice.ensures
 
 pub returns-in-len2 : goal.returns-in-len2
 returns-in-len2 c = two_tokens c.args.tokens.now _ _ (omega arith)

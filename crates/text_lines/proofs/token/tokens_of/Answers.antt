@@ -5,4 +5,7 @@ use Rattle.script_rules.specs.Line.{is_space}
 use Rattle.text_lines.proofs.token.tokens_of.Goals as goal
 
 pub returns : goal.returns
-returns c = map_from_collect _ c.collect.ensures.ran (YieldsList-from_slice_split _ is_space c.args.text.now c.split.ensures.rest c.split.ensures.done c.split.ensures.closure (λ x b q called. search rules))
+returns c =
+    map_from_collect _ c.collect.ensures.ran
+    (YieldsList-from_slice_split _ is_space c.args.text.now c.split.ensures.rest
+    c.split.ensures.done c.split.ensures.closure (λ x b q called. search rules))

@@ -10,8 +10,11 @@ returns-then-eq c =
     let b = c.args.b.now in
     let inside = bytes_eq-Decides a.inside b.inside in
     let outside = bytes_eq-Decides a.outside b.outside in (
-      (λ h. same_nodes a b (inside.0 (sym c.eq.ensures ∙ c.if-eq.true)) (outside.0 (sym c.eq-then-eq.ensures ∙ h))),
-      (λ e. let k = nodes_same a b c.rises.ensures c.rises-2.ensures c.rises-3.ensures c.rises-4.ensures e in c.eq-then-eq.ensures ∙ outside.1 k.1),
+      (λ h. same_nodes a b (inside.0 (sym c.eq.ensures ∙ c.if-eq.true))
+          (outside.0 (sym c.eq-then-eq.ensures ∙ h))),
+      (λ e. let k =
+          nodes_same a b c.rises.ensures c.rises-2.ensures c.rises-3.ensures c.rises-4.ensures e in
+          c.eq-then-eq.ensures ∙ outside.1 k.1),
     )
 
 pub returns-else-eq : goal.returns-else-eq
@@ -20,5 +23,7 @@ returns-else-eq c =
     let b = c.args.b.now in
     let inside = bytes_eq-Decides a.inside b.inside in (
       (λ h. absurd (both_ways c.eq.result c.if-eq.false h)),
-      (λ e. let k = nodes_same a b c.rises.ensures c.rises-2.ensures c.rises-3.ensures c.rises-4.ensures e in c.eq.ensures ∙ inside.1 k.0),
+      (λ e. let k =
+          nodes_same a b c.rises.ensures c.rises-2.ensures c.rises-3.ensures c.rises-4.ensures e in
+          c.eq.ensures ∙ inside.1 k.0),
     )

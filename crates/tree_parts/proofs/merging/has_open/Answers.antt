@@ -7,10 +7,14 @@ use Rattle.tree_parts.proofs.merging.has_open.Goals as goal
 
 pub returns-then-is_open : goal.returns-then-is_open
 returns-then-is_open c =
-    open_at c.args.nodes.now c.looking.node-index c.node-item.result c.looking-test.true c.node-item.is
-    (ap (λ (t : TreeNode Leaf). is_open t.end) (sym c.node.view_is) ∙ sym c.is_open.ensures ∙ c.if-is_open.true)
+    open_at c.args.nodes.now c.looking.node-index c.node-item.result c.looking-test.true
+    c.node-item.is
+    (ap (λ (t : TreeNode Leaf). is_open t.end) (sym c.node.view_is) ∙ sym c.is_open.ensures
+    ∙ c.if-is_open.true)
 
 pub looking-preserved : goal.looking-preserved
 looking-preserved c =
-    shut_more c.args.nodes.now c.looking.node-index c.node-item.result c.looking-test.true c.node-item.is
-    (ap (λ (t : TreeNode Leaf). is_open t.end) (sym c.node.view_is) ∙ sym c.is_open.ensures ∙ c.if-is_open.false) c.looking.invariant
+    shut_more c.args.nodes.now c.looking.node-index c.node-item.result c.looking-test.true
+    c.node-item.is
+    (ap (λ (t : TreeNode Leaf). is_open t.end) (sym c.node.view_is) ∙ sym c.is_open.ensures
+    ∙ c.if-is_open.false) c.looking.invariant

@@ -16,7 +16,9 @@ returns-clause-partial c =
     let claim = claim_of c.args.claim.now in
     let tree = c.args.tree.now in
     let r = c.check_from.result in
-    let start : node_of (record { inside = c.empty.result; outside = c.empty-2.result }) ≡ first_node = λ i. record { inside = has (c.empty.ensures i); outside = has (c.empty-2.ensures i) } in
+    let start : node_of (record { inside = c.empty.result; outside = c.empty-2.result })
+    ≡ first_node =
+    λ i. record { inside = has (c.empty.ensures i); outside = has (c.empty-2.ensures i) } in
     subst (λ (n : Node). OnOk r (Proves true p n claim tree)) start c.check_from.ensures.proves
 
 pub returns-clause-opens : goal.returns-clause-opens
@@ -25,8 +27,11 @@ returns-clause-opens c =
     let claim = claim_of c.args.claim.now in
     let tree = c.args.tree.now in
     let r = c.check_from.result in
-    let start : node_of (record { inside = c.empty.result; outside = c.empty-2.result }) ≡ first_node = λ i. record { inside = has (c.empty.ensures i); outside = has (c.empty-2.ensures i) } in
-    λ h. c.check_from.ensures.accepts (subst (λ (n : Node). Proves true p n claim tree) (sym start) h)
+    let start : node_of (record { inside = c.empty.result; outside = c.empty-2.result })
+    ≡ first_node =
+    λ i. record { inside = has (c.empty.ensures i); outside = has (c.empty-2.ensures i) } in
+    λ h. c.check_from.ensures.accepts
+    (subst (λ (n : Node). Proves true p n claim tree) (sym start) h)
 
 pub returns-clause-leaves : goal.returns-clause-leaves
 returns-clause-leaves c =
@@ -34,8 +39,11 @@ returns-clause-leaves c =
     let claim = claim_of c.args.claim.now in
     let tree = c.args.tree.now in
     let r = c.check_from.result in
-    let start : node_of (record { inside = c.empty.result; outside = c.empty-2.result }) ≡ first_node = λ i. record { inside = has (c.empty.ensures i); outside = has (c.empty-2.ensures i) } in
-    subst (λ (n : Node). IfOk r (λ v. leaves_at v.items ≡ open_leaves (shape_of p) (n ∷ []) tree 0)) start c.check_from.ensures.leaves
+    let start : node_of (record { inside = c.empty.result; outside = c.empty-2.result })
+    ≡ first_node =
+    λ i. record { inside = has (c.empty.ensures i); outside = has (c.empty-2.ensures i) } in
+    subst (λ (n : Node). IfOk r (λ v. leaves_at v.items ≡ open_leaves (shape_of p) (n ∷ []) tree 0))
+    start c.check_from.ensures.leaves
 
 pub returns-clause-refused : goal.returns-clause-refused
 returns-clause-refused c =
@@ -43,7 +51,9 @@ returns-clause-refused c =
     let claim = claim_of c.args.claim.now in
     let tree = c.args.tree.now in
     let r = c.check_from.result in
-    let start : node_of (record { inside = c.empty.result; outside = c.empty-2.result }) ≡ first_node = λ i. record { inside = has (c.empty.ensures i); outside = has (c.empty-2.ensures i) } in
+    let start : node_of (record { inside = c.empty.result; outside = c.empty-2.result })
+    ≡ first_node =
+    λ i. record { inside = has (c.empty.ensures i); outside = has (c.empty-2.ensures i) } in
     subst (λ (n : Node). IfErr r (Refuses true p n claim tree)) start c.check_from.ensures.refuses
 
 pub returns-clause-names_node : goal.returns-clause-names_node
@@ -52,5 +62,8 @@ returns-clause-names_node c =
     let claim = claim_of c.args.claim.now in
     let tree = c.args.tree.now in
     let r = c.check_from.result in
-    let start : node_of (record { inside = c.empty.result; outside = c.empty-2.result }) ≡ first_node = λ i. record { inside = has (c.empty.ensures i); outside = has (c.empty-2.ensures i) } in
-    λ k why passes fault. c.check_from.ensures.names_node k why passes (subst (λ (n : Node). NodeIsFault true p n claim tree k why) (sym start) fault)
+    let start : node_of (record { inside = c.empty.result; outside = c.empty-2.result })
+    ≡ first_node =
+    λ i. record { inside = has (c.empty.ensures i); outside = has (c.empty-2.ensures i) } in
+    λ k why passes fault. c.check_from.ensures.names_node k why passes
+    (subst (λ (n : Node). NodeIsFault true p n claim tree k why) (sym start) fault)

@@ -9,23 +9,36 @@ pub splicing-preserved : goal.splicing-preserved
 splicing-preserved c =
     let all : List Splice = splices_of c.args.waiting.items in
     let left : List Splice = splices_of c.pop.new.self.items in
-    let last = ap (λ (ws : List Waiting). splices_of ws) c.in-Some.ensures.items ∙ splices-push c.pop.new.self.items c.in-Some.part in
-    one_spliced all c.args.tree.items c.splicing.nodes.items c.splicing.back.items c.put_in.new.nodes.items c.put_in.new.back.items left (splice_of c.in-Some.part) c.requires.rising
-    (subst (λ (ss : List Splice). IsSplicing all c.args.tree.items c.splicing.nodes.items c.splicing.back.items ss) last c.splicing.invariant)
+    let last = ap (λ (ws : List Waiting). splices_of ws) c.in-Some.ensures.items
+    ∙ splices-push c.pop.new.self.items c.in-Some.part in
+    one_spliced all c.args.tree.items c.splicing.nodes.items c.splicing.back.items
+    c.put_in.new.nodes.items c.put_in.new.back.items left (splice_of c.in-Some.part)
+    c.requires.rising
+    (subst
+    (λ (ss : List Splice). IsSplicing all c.args.tree.items c.splicing.nodes.items
+    c.splicing.back.items ss) last c.splicing.invariant)
     c.in_ok-put_in.ensures.whole c.in_ok-put_in.ensures.kept
 
 pub put_in-requires-clause-within : goal.put_in-requires-clause-within
 put_in-requires-clause-within c =
     let all : List Splice = splices_of c.args.waiting.items in
     let left : List Splice = splices_of c.pop.new.self.items in
-    let last = ap (λ (ws : List Waiting). splices_of ws) c.in-Some.ensures.items ∙ splices-push c.pop.new.self.items c.in-Some.part in
-    let before = subst (λ (ss : List Splice). IsSplicing all c.args.tree.items c.splicing.nodes.items c.splicing.back.items ss) last c.splicing.invariant in
+    let last = ap (λ (ws : List Waiting). splices_of ws) c.in-Some.ensures.items
+    ∙ splices-push c.pop.new.self.items c.in-Some.part in
+    let before =
+    subst
+    (λ (ss : List Splice). IsSplicing all c.args.tree.items c.splicing.nodes.items
+    c.splicing.back.items ss) last c.splicing.invariant in
     (last_within (length c.splicing.nodes.items) left (splice_of c.in-Some.part) before.within).0
 
 pub put_in-requires-clause-some : goal.put_in-requires-clause-some
 put_in-requires-clause-some c =
     let all : List Splice = splices_of c.args.waiting.items in
     let left : List Splice = splices_of c.pop.new.self.items in
-    let last = ap (λ (ws : List Waiting). splices_of ws) c.in-Some.ensures.items ∙ splices-push c.pop.new.self.items c.in-Some.part in
-    let before = subst (λ (ss : List Splice). IsSplicing all c.args.tree.items c.splicing.nodes.items c.splicing.back.items ss) last c.splicing.invariant in
+    let last = ap (λ (ws : List Waiting). splices_of ws) c.in-Some.ensures.items
+    ∙ splices-push c.pop.new.self.items c.in-Some.part in
+    let before =
+    subst
+    (λ (ss : List Splice). IsSplicing all c.args.tree.items c.splicing.nodes.items
+    c.splicing.back.items ss) last c.splicing.invariant in
     (last_within (length c.splicing.nodes.items) left (splice_of c.in-Some.part) before.within).1

@@ -9,7 +9,9 @@ use Rattle.tree_reading.proofs.column_list.columns_of.Given as goal
 -- what was read, and what the rest gives
 abbrev pub invariant-reading : goal.invariant-reading
 invariant-reading l = record {
-  whole : joined (so_far l.fault l.columns.items) (rules.each (rules.column_of l.fn.problem) (tokens_in l.rest)) ≡ rules.each (rules.column_of l.fn.problem) (tokens_in l.fn.fields);
+  whole : joined (so_far l.fault l.columns.items)
+      (rules.each (rules.column_of l.fn.problem) (tokens_in l.rest))
+      ≡ rules.each (rules.column_of l.fn.problem) (tokens_in l.fn.fields);
   known : Each (KnowsColumn l.fn.problem) l.columns.items;
 }
 

@@ -9,8 +9,11 @@ use Rattle.tree_reading.proofs.head.read_steps.Given as goal
 -- the steps so far and the lines that are left give all steps
 abbrev pub invariant-steps : goal.invariant-steps
 invariant-steps l = record {
-  whole : steps_taken l.fn.problem (record { option = l.fn.option; steps = map step_of l.steps.items }) l.at.line (lines_at l.fn.bytes l.at)
-      ≡ steps_taken l.fn.problem (record { option = l.fn.option; steps = [] }) l.fn.cut.line (lines_at l.fn.bytes l.fn.cut);
+  whole : steps_taken l.fn.problem
+      (record { option = l.fn.option; steps = map step_of l.steps.items }) l.at.line
+      (lines_at l.fn.bytes l.at)
+      ≡ steps_taken l.fn.problem (record { option = l.fn.option; steps = [] }) l.fn.cut.line
+      (lines_at l.fn.bytes l.fn.cut);
   reached : IsReached l.fn.bytes l.fn.cut l.at;
   known : Each (KnowsStep l.fn.problem) (map step_of l.steps.items);
 }

@@ -8,7 +8,8 @@ use Rattle.tree_reading.proofs.list.numbers_of.Given as goal
 -- what was read, and what the rest gives
 abbrev pub invariant-reading : goal.invariant-reading
 invariant-reading l = record {
-  whole : joined (Ok l.numbers.items) (rules.each rules.number_of (tokens_in l.rest)) ≡ rules.each rules.number_of (tokens_in l.fn.fields);
+  whole : joined (Ok l.numbers.items) (rules.each rules.number_of (tokens_in l.rest))
+      ≡ rules.each rules.number_of (tokens_in l.fn.fields);
   range : AllInRange l.numbers.items;
 }
 

@@ -8,5 +8,7 @@ use Rattle.tree_reading.proofs.name.exclusion_of.Given as goal
 abbrev pub invariant-looking : goal.invariant-looking
 invariant-looking l = record {
   place : l.number ≡ l.exclusion-index;
-  none : l.number + position_or_len (λ word. bytes_eq word l.token) (exclusion_names (drop l.exclusion-index l.exclusions)) ≡ position_or_len (λ word. bytes_eq word l.token) (exclusion_names l.exclusions);
+  none : l.number + position_or_len (λ word. bytes_eq word l.token)
+      (exclusion_names (drop l.exclusion-index l.exclusions))
+      ≡ position_or_len (λ word. bytes_eq word l.token) (exclusion_names l.exclusions);
 }

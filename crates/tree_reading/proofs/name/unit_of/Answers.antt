@@ -5,8 +5,18 @@ use Rattle.tree_reading.proofs.name.unit_of.Goals as goal
 
 pub returns-in-Ok : goal.returns-in-Ok
 returns-in-Ok c =
-    let value = named (unit_names c.args.problem.now.units) c.in-Ok.name.now c.args.token.now c.unit_named.result c.ok_or.result c.in-Ok.ensures.cases.0 c.unit_named.ensures c.ok_or.ensures.value in
-    record { value = value; below = named_below (λ (x : OperatingUnit). x.name) c.args.problem.now.units _ c.ok_or.result value }
+    let value =
+    named (unit_names c.args.problem.now.units) c.in-Ok.name.now c.args.token.now
+    c.unit_named.result c.ok_or.result c.in-Ok.ensures.cases.0 c.unit_named.ensures
+    c.ok_or.ensures.value in
+    record {
+      value = value;
+      below =
+          named_below (λ (x : OperatingUnit). x.name) c.args.problem.now.units _ c.ok_or.result
+          value;
+    }
 
 pub returns-in-Err-clause-value : goal.returns-in-Err-clause-value
-returns-in-Err-clause-value c = sym (no_unit c.args.problem.now c.args.token.now c.is_valid.ensures.well_formed c.in-Err.ensures.cases.0)
+returns-in-Err-clause-value c =
+    sym (no_unit c.args.problem.now c.args.token.now c.is_valid.ensures.well_formed
+    c.in-Err.ensures.cases.0)

@@ -9,7 +9,9 @@ use Rattle.tree_reading.proofs.nodes.read_nodes.Given as goal
 -- subtrees
 abbrev pub invariant-nodes : goal.invariant-nodes
 invariant-nodes l = record {
-  whole : IsBegun l.fn.problem (begun l.fn.problem [] zero l.fn.cut.line (lines_at l.fn.bytes l.fn.cut)) l.nodes.items l.option l.pending l.at.line (lines_at l.fn.bytes l.at);
+  whole : IsBegun l.fn.problem
+      (begun l.fn.problem [] zero l.fn.cut.line (lines_at l.fn.bytes l.fn.cut)) l.nodes.items
+      l.option l.pending l.at.line (lines_at l.fn.bytes l.at);
   reached : IsReached l.fn.bytes l.fn.cut l.at;
   count : length l.nodes.items ≤ l.at.at;
   few : l.pending ≤ l.at.at * 4294967295;

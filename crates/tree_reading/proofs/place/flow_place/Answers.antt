@@ -10,15 +10,29 @@ use Rattle.tree_reading.proofs.place.flow_place.Goals as goal
 pub returns-in_err-unit-clause-value : goal.returns-in_err-unit-clause-value
 returns-in_err-unit-clause-value c =
     let e = err_from_is_err_and c.from_residual.result c.from_residual.ensures.1 in
-    rw (e.1, e.2, c.in_err-unit.ensures.fault.0, not_two (rules.unit_of c.args.problem.now) rules.flow_of (tokens_in c.args.fields) c.in_err-unit.ensures.fault.1) refl
+    rw (
+      e.1,
+      e.2,
+      c.in_err-unit.ensures.fault.0,
+      not_two (rules.unit_of c.args.problem.now) rules.flow_of (tokens_in c.args.fields)
+          c.in_err-unit.ensures.fault.1,
+    ) refl
 
 pub returns-in_err-unit-2-clause-value : goal.returns-in_err-unit-2-clause-value
 returns-in_err-unit-2-clause-value c =
-    let e = err_from_is_err_and c.from_residual-in_err-unit-2.result c.from_residual-in_err-unit-2.ensures.1 in
-    rw (e.1, e.2) (two_read (λ found. Flow found.0 found.1) (rules.unit_of c.args.problem.now) rules.flow_of (tokens_in c.args.fields) _ c.in_ok-unit.ensures.ok c.unit_of.ensures.value c.flow_of.ensures c.in_err-unit-2.ensures.value)
+    let e =
+    err_from_is_err_and c.from_residual-in_err-unit-2.result
+    c.from_residual-in_err-unit-2.ensures.1 in
+    rw (e.1, e.2)
+    (two_read (λ found. Flow found.0 found.1) (rules.unit_of c.args.problem.now) rules.flow_of
+    (tokens_in c.args.fields) _ c.in_ok-unit.ensures.ok c.unit_of.ensures.value
+    c.flow_of.ensures c.in_err-unit-2.ensures.value)
 
 pub returns-clause-value : goal.returns-clause-value
-returns-clause-value c = two_read (λ found. Flow found.0 found.1) (rules.unit_of c.args.problem.now) rules.flow_of (tokens_in c.args.fields) _ c.in_ok-unit.ensures.ok c.unit_of.ensures.value c.flow_of.ensures c.in_ok-unit-2.ensures.value
+returns-clause-value c =
+    two_read (λ found. Flow found.0 found.1) (rules.unit_of c.args.problem.now) rules.flow_of
+    (tokens_in c.args.fields) _ c.in_ok-unit.ensures.ok c.unit_of.ensures.value c.flow_of.ensures
+    c.in_ok-unit-2.ensures.value
 
 pub returns-clause-known : goal.returns-clause-known
 returns-clause-known c = IfOk-at_ok _ c.in_ok-unit-2.ensures.parts.0 c.unit_of.ensures.below

@@ -8,4 +8,6 @@ returns-in_err-word-clause-value c =
     rw (e.1, e.2, c.in_err-word.ensures.fault.0, c.in_err-word.ensures.fault.1) refl
 
 pub returns-then-eq-clause-value : goal.returns-then-eq-clause-value
-returns-then-eq-clause-value c = rw (c.in_ok-word.ensures.ok, ← c.as_slice.ensures, ← c.eq.ensures, c.if-eq.true) c.entry_of.ensures.value
+returns-then-eq-clause-value c =
+    rw (c.in_ok-word.ensures.ok, ← c.as_slice.ensures, ← c.eq.ensures, c.if-eq.true)
+    c.entry_of.ensures.value

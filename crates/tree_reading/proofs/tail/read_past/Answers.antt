@@ -13,15 +13,22 @@ use Rattle.tree_reading.proofs.tail.read_past.Goals as goal
 
 pub returns-in_err-place : goal.returns-in_err-place
 returns-in_err-place c =
-    let e = err_from_is_err_and c.from_residual-in_err-place.result c.from_residual-in_err-place.ensures.1 in
+    let e =
+    err_from_is_err_and c.from_residual-in_err-place.result
+    c.from_residual-in_err-place.ensures.1 in
     let p = c.args.problem.now in
     let bytes = c.args.bytes.now in
     let first = c.in_ok-line.first in
     let columns = c.in_ok-nonbasic.nonbasic.items in
-    let one : line_taken (nonbasic_read p) c.args.cut.line (lines_at bytes c.args.cut) ≡ Ok (taken columns bytes first) = search rules in
-    let two : Tells (line_taken (place_read p) first.line (lines_at bytes first)) c.in_err-place.field-0.0 = search rules in
+    let one : line_taken (nonbasic_read p) c.args.cut.line (lines_at bytes c.args.cut)
+    ≡ Ok (taken columns bytes first) = search rules in
+    let two : Tells (line_taken (place_read p) first.line (lines_at bytes first))
+    c.in_err-place.field-0.0 = search rules in
     rw (e.1, e.2)
     (subst (λ (r : Result Tail Fault). Tells r c.in_err-place.field-0.0)
     (sym (first_next (nonbasic_read p) c.args.cut.line (lines_at bytes c.args.cut)
-    (λ (columns : List Column) (number : ℕ) (lines : List Line). first_line (place_read p) number lines (λ place lines. close_taken (past c.args.node columns place) (suc number) lines)) (taken columns bytes first) one))
-    (first_tells (place_read p) first.line (lines_at bytes first) (λ place lines. close_taken (past c.args.node columns place) (suc first.line) lines) _ two))
+    (λ (columns : List Column) (number : ℕ) (lines : List Line). first_line (place_read p) number
+    lines (λ place lines. close_taken (past c.args.node columns place) (suc number) lines))
+    (taken columns bytes first) one))
+    (first_tells (place_read p) first.line (lines_at bytes first)
+    (λ place lines. close_taken (past c.args.node columns place) (suc first.line) lines) _ two))

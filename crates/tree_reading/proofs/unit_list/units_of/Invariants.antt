@@ -10,7 +10,8 @@ use Rattle.tree_reading.proofs.unit_list.units_of.Given as goal
 abbrev pub invariant-reading : goal.invariant-reading
 invariant-reading l = record {
   read : List ℕ;
-  whole : joined (Ok read) (rules.each (rules.unit_of l.fn.problem) (tokens_in l.rest)) ≡ rules.each (rules.unit_of l.fn.problem) (tokens_in l.fn.fields);
+  whole : joined (Ok read) (rules.each (rules.unit_of l.fn.problem) (tokens_in l.rest))
+      ≡ rules.each (rules.unit_of l.fn.problem) (tokens_in l.fn.fields);
   front : IsFront l.rises l.least l.units read;
   below : AreBelow (length l.fn.problem.units) read;
 }

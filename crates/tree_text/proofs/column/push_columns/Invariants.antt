@@ -8,5 +8,7 @@ use Rattle.tree_text.proofs.column.push_columns.Given as goal
 abbrev pub invariant-printing : goal.invariant-printing
 invariant-printing l = record {
   known : Each (KnowsColumn l.problem) (drop l.column-index l.columns);
-  line : appended (string_bytes l.line) (map (column_text l.problem) (drop l.column-index l.columns)) ≡ appended (string_bytes l.fn.line) (map (column_text l.problem) l.columns);
+  line : appended (string_bytes l.line)
+      (map (column_text l.problem) (drop l.column-index l.columns))
+      ≡ appended (string_bytes l.fn.line) (map (column_text l.problem) l.columns);
 }

@@ -8,5 +8,6 @@ use Rattle.tree_text.proofs.field.push_units.Given as goal
 abbrev pub invariant-loop-unit : goal.invariant-loop-unit
 invariant-loop-unit l = record {
   known : AreUnits l.problem l.unit-iterator;
-  line : appended (string_bytes l.line) (map (unit_name l.problem) l.unit-iterator) ≡ appended (string_bytes l.fn.line) (map (unit_name l.problem) l.fn.units);
+  line : appended (string_bytes l.line) (map (unit_name l.problem) l.unit-iterator)
+      ≡ appended (string_bytes l.fn.line) (map (unit_name l.problem) l.fn.units);
 }

@@ -9,5 +9,6 @@ use Rattle.tree_text.proofs.line.make.Given as goal
 abbrev pub invariant-printing : goal.invariant-printing
 invariant-printing l = record {
   known : Each (KnowsField l.problem) (drop l.field-index l.fields);
-  line : appended (string_bytes l.line) (tokens_of l.problem (drop l.field-index l.fields)) ≡ joined 32 (l.word ∷ tokens_of l.problem l.fields);
+  line : appended (string_bytes l.line) (tokens_of l.problem (drop l.field-index l.fields))
+      ≡ joined 32 (l.word ∷ tokens_of l.problem l.fields);
 }

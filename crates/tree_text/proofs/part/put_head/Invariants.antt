@@ -9,5 +9,7 @@ use Rattle.tree_text.proofs.part.put_head.Given as goal
 abbrev pub invariant-printing : goal.invariant-printing
 invariant-printing g l = record {
   known : Each (KnowsStep l.problem) (map step_of (drop l.step-index l.steps));
-  finishes : Finishes (map (step_line l.problem) (map step_of (drop l.step-index l.steps))) (head_lines l.problem l.fn.option (map step_of l.steps)) (g.K.Sink.state l.fn.out) (g.K.Sink.state l.out);
+  finishes : Finishes (map (step_line l.problem) (map step_of (drop l.step-index l.steps)))
+      (head_lines l.problem l.fn.option (map step_of l.steps)) (g.K.Sink.state l.fn.out)
+      (g.K.Sink.state l.out);
 }

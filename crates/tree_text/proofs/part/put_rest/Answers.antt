@@ -3,10 +3,18 @@ use Rattle.tree_text.proofs.Printed.{both_put, first_failed}
 use Rattle.tree_text.proofs.part.put_rest.Goals as goal
 
 pub returns-in_err-put_claim : goal.returns-in_err-put_claim
-returns-in_err-put_claim g c = first_failed _ c.in_err-put_claim.ensures c.from_residual.ensures.1 refl
+returns-in_err-put_claim g c =
+    first_failed _ c.in_err-put_claim.ensures c.from_residual.ensures.1 refl
 
 pub returns-in_err-put_nodes : goal.returns-in_err-put_nodes
-returns-in_err-put_nodes g c = rw (← c.nodes.ensures) (both_put c.in_ok-put_claim.ensures (first_failed _ c.in_err-put_nodes.ensures c.from_residual-in_err-put_nodes.ensures.1 refl) refl)
+returns-in_err-put_nodes g c =
+    rw (← c.nodes.ensures)
+    (both_put c.in_ok-put_claim.ensures
+    (first_failed _ c.in_err-put_nodes.ensures c.from_residual-in_err-put_nodes.ensures.1 refl)
+    refl)
 
 pub returns : goal.returns
-returns g c = rw (← c.nodes.ensures) (both_put c.in_ok-put_claim.ensures (both_put c.in_ok-put_nodes.ensures c.put_tail.ensures refl) refl)
+returns g c =
+    rw (← c.nodes.ensures)
+    (both_put c.in_ok-put_claim.ensures (both_put c.in_ok-put_nodes.ensures c.put_tail.ensures refl)
+    refl)

@@ -1,4 +1,5 @@
-use Rattle.tree_text_laws.proofs.NodeLines.{root_lines, option_lines, step_back, step_again, end_lines}
+use Rattle.tree_text_laws.proofs.NodeLines.{root_lines, option_lines, step_back, step_again}
+use Rattle.tree_text_laws.proofs.NodeLines.{end_lines}
 use Rattle.tree_text_laws.proofs.line_laws.node_lines_are_read.Goals as goal
 
 pub returns : goal.returns

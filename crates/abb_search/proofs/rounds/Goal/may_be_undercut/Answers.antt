@@ -12,6 +12,10 @@ returns-in-Some c =
     let at = c.args.leaf in
     let r = c.reached_at-reached.result in
     let is = c.in-Some.ensures in (
-      λ t. undercuts_by s undercut at r c.reached_at-reached.ensures (subst (λ (o : Option CostOver). IsAtMost o (numerator r) (denominator r)) is (c.is_within.ensures.0 t)),
-      λ may. c.is_within.ensures.1 (subst (λ (o : Option CostOver). IsAtMost o (numerator r) (denominator r)) (sym is) (reaches s undercut at r c.reached_at-reached.ensures may)),
+      λ t. undercuts_by s undercut at r c.reached_at-reached.ensures
+          (subst (λ (o : Option CostOver). IsAtMost o (numerator r) (denominator r)) is
+          (c.is_within.ensures.0 t)),
+      λ may. c.is_within.ensures.1
+          (subst (λ (o : Option CostOver). IsAtMost o (numerator r) (denominator r)) (sym is)
+          (reaches s undercut at r c.reached_at-reached.ensures may)),
     )

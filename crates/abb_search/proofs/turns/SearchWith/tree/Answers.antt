@@ -11,13 +11,21 @@ pub returns-clause-stopped : goal.returns-clause-stopped
 returns-clause-stopped g c =
     let s = c.self.inside.growing in
     let w = c.in_ok-placed.placed in
-    let t = stands_tree g.E.Evaluator.past c.self.inside.site s c.self.inside.looked (c.self.invariant.1.stands (ap (λ (v : Searched). v.ended) c.self.view_is ∙ c.requires)) in
-    subst (λ (v : Searched). IsStopped v.problem (node_of v.start) (claim_with v.best) w.tree) c.self.view_is
-    (stopped c.self.inside.site s t 0 w.place w.tree c.in_ok-placed.ensures.tree c.in_ok-placed.ensures.sized)
+    let t =
+    stands_tree g.E.Evaluator.past c.self.inside.site s c.self.inside.looked
+    (c.self.invariant.1.stands (ap (λ (v : Searched). v.ended) c.self.view_is ∙ c.requires)) in
+    subst (λ (v : Searched). IsStopped v.problem (node_of v.start) (claim_with v.best) w.tree)
+    c.self.view_is
+    (stopped c.self.inside.site s t 0 w.place w.tree c.in_ok-placed.ensures.tree
+    c.in_ok-placed.ensures.sized)
 
 pub returns-clause-nodes : goal.returns-clause-nodes
 returns-clause-nodes g c =
     let s = c.self.inside.growing in
     let w = c.in_ok-placed.placed in
-    let t = stands_tree g.E.Evaluator.past c.self.inside.site s c.self.inside.looked (c.self.invariant.1.stands (ap (λ (v : Searched). v.ended) c.self.view_is ∙ c.requires)) in
-    subst (λ (v : Searched). AreNodesOf v.cells w.tree) c.self.view_is (nodes_of_tree s.pool.payloads t.kept.grown.linked 0 w.place w.tree c.in_ok-placed.ensures.tree)
+    let t =
+    stands_tree g.E.Evaluator.past c.self.inside.site s c.self.inside.looked
+    (c.self.invariant.1.stands (ap (λ (v : Searched). v.ended) c.self.view_is ∙ c.requires)) in
+    subst (λ (v : Searched). AreNodesOf v.cells w.tree) c.self.view_is
+    (nodes_of_tree s.pool.payloads t.kept.grown.linked 0 w.place w.tree
+    c.in_ok-placed.ensures.tree)

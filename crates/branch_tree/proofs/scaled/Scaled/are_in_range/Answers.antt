@@ -1,9 +1,12 @@
 use Rattle.branch_tree.proofs.ScaledLemmas.{multipliers_in_range}
-use Rattle.std.proofs.Common.{rules, ◌≡◌, ◌<◌, length, ℕ, ◌+◌, ◌-◌, ◌*◌, ◌≤◌, ◌/◌, ◌%◌, Bool, true, false, nat_eq, nat_lt, List, [], ◌∷◌, ◌++◌, slice_index_or, slice_set, bit_and, bit_or, Fits, w8, w32, w64, Bor, MutBor}
+use Rattle.std.proofs.Common.{rules, ◌≡◌, ◌<◌, length, ℕ, ◌+◌, ◌-◌, ◌*◌, ◌≤◌, ◌/◌, ◌%◌, Bool, true}
+use Rattle.std.proofs.Common.{false, nat_eq, nat_lt, List, [], ◌∷◌, ◌++◌, slice_index_or, slice_set}
+use Rattle.std.proofs.Common.{bit_and, bit_or, Fits, w8, w32, w64, Bor, MutBor}
 use Rattle.integer_laws.specs.Range.{InRange, AllInRange}
 use Rattle.branch_tree.specs.Scaled.{scaled_of}
 use Rattle.branch_tree.proofs.scaled.Scaled.are_in_range.Goals as goal
 
--- src/scaled.rt:60:5
 pub returns-clause-multipliers : goal.returns-clause-multipliers
-returns-clause-multipliers c = multipliers_in_range c.self.inside.numbers.items c.args.self.now c.self.view_is (c.self.invariant.1)
+returns-clause-multipliers c =
+    multipliers_in_range c.self.inside.numbers.items c.args.self.now c.self.view_is
+    (c.self.invariant.1)

@@ -19,7 +19,10 @@ returns-in-Optimum-clause-proved c =
     let own_top : numerator g ≡ w.cost = top ∙ c.cost.ensures in
     let own_den : denominator g ≡ w.d = den ∙ c.d.ensures in
     let reached : (w.cost *ℤ denominator g) ≤ℤ (numerator g *ℤ w.d) =
-    no_more_of_same (w.cost *ℤ denominator g) (numerator g *ℤ w.d) (λ i. sym own_top i *ℤ own_den i) in
+    no_more_of_same (w.cost *ℤ denominator g) (numerator g *ℤ w.d)
+    (λ i. sym own_top i *ℤ own_den i) in
     found_weaker c.proving.result _ _
-    (λ s h. reaches_less c.args.site.now (node_of c.args.node) s.d s.ys (record { cost = w.cost; d = w.d }) (cost_over g) c.is_sized.ensures.sized.positive (over_one g) reached h)
+    (λ s h. reaches_less c.args.site.now (node_of c.args.node) s.d s.ys
+    (record { cost = w.cost; d = w.d }) (cost_over g) c.is_sized.ensures.sized.positive
+    (over_one g) reached h)
     c.proving.ensures

@@ -4,12 +4,15 @@ use Rattle.pns_rules.specs.Nodes.{free_makers}
 use Rattle.pgraph.specs.Tables.{shape}
 use Rattle.pgraph.specs.View.{node_of}
 use Rattle.decisions.specs.Position.{IsPosition, undone_count}
-use Rattle.decisions.proofs.PositionLemmas.{position_of, position_passed, known_below, fewer_undone, first_due}
+use Rattle.decisions.proofs.PositionLemmas.{position_of, position_passed, known_below, fewer_undone}
+use Rattle.decisions.proofs.PositionLemmas.{first_due}
 use Rattle.decisions.proofs.position.Position.passing.Goals as goal
 
 pub with-done-requires : goal.with-done-requires
 with-done-requires c =
-    let below = known_below (shape c.args.graph.now) c.is_proper.ensures.proper c.args.self c.requires.position c.args.x c.requires.at in
+    let below =
+    known_below (shape c.args.graph.now) c.is_proper.ensures.proper c.args.self
+    c.requires.position c.args.x c.requires.at in
     let few = c.is_proper.ensures.few_materials in
     omega arith
 
@@ -21,14 +24,19 @@ returns-clause-position c =
     let at = c.least.result in
     let P = λ (xs : List ℕ). IsPosition g (position_of p.decided.node xs p.wanted at) in
     subst P (sym c.with-done.ensures)
-    (position_passed g c.is_proper.ensures.proper p c.requires.position x c.requires.at (free_makers g (node_of p.decided.node) x) refl c.requires.none_free at
+    (position_passed g c.is_proper.ensures.proper p c.requires.position x c.requires.at
+    (free_makers g (node_of p.decided.node) x) refl c.requires.none_free at
     (c.least.ensures
-    ∙ first_due g c.is_proper.ensures.proper p.decided.node.inside (with_number x p.decided.done) p.wanted c.minus-due.result c.requires.position.wanted_is
+    ∙ first_due g c.is_proper.ensures.proper p.decided.node.inside (with_number x p.decided.done)
+    p.wanted c.minus-due.result c.requires.position.wanted_is
     (c.minus-due.ensures ∙ ap (minus p.wanted) c.with-done.ensures) c.rises.ensures.rising))
 
 pub returns-clause-fewer : goal.returns-clause-fewer
 returns-clause-fewer c =
     let g = shape c.args.graph.now in
     let p = c.args.self in
-    let P = λ (xs : List ℕ). undone_count g (position_of p.decided.node xs p.wanted c.least.result) < undone_count g p in
-    subst P (sym c.with-done.ensures) (fewer_undone g c.is_proper.ensures.proper p c.requires.position c.args.x c.requires.at c.least.result)
+    let P = λ (xs : List ℕ). undone_count g (position_of p.decided.node xs p.wanted c.least.result)
+    < undone_count g p in
+    subst P (sym c.with-done.ensures)
+    (fewer_undone g c.is_proper.ensures.proper p c.requires.position c.args.x c.requires.at
+    c.least.result)

@@ -13,8 +13,13 @@ returns-clause-position c =
     let g = shape c.args.graph.now in
     let wanted = c.needed-wanted.result in
     let at = c.first_needed-at.result in
-    let P = λ (xs ys : List ℕ). IsPosition g (position_of (record { inside = xs; outside = c.args.outside }) ys wanted at) in
+    let P =
+    λ (xs ys : List ℕ). IsPosition g
+    (position_of (record { inside = xs; outside = c.args.outside }) ys wanted at) in
     subst₂ P (sym c.empty-none.ensures) (sym c.empty.ensures)
     (position_start g c.args.outside wanted at
-    (λ x. ap (λ t. t x) c.needed-wanted.ensures ∙ ap (λ xs. is_needed g (has xs) x) c.empty-none.ensures)
-    (c.first_needed-at.ensures ∙ ap₂ (λ (xs ys : List ℕ). least_below g.materials (is_due g (has xs) (has ys))) c.empty-none.ensures c.empty.ensures))
+    (λ x. ap (λ t. t x) c.needed-wanted.ensures
+    ∙ ap (λ xs. is_needed g (has xs) x) c.empty-none.ensures)
+    (c.first_needed-at.ensures
+    ∙ ap₂ (λ (xs ys : List ℕ). least_below g.materials (is_due g (has xs) (has ys)))
+    c.empty-none.ensures c.empty.ensures))

@@ -9,15 +9,20 @@ pub returns-in_default-clause-settled : goal.returns-in_default-clause-settled
 returns-in_default-clause-settled c =
     let g = shape c.args.graph.now in
     let P = λ (n : Node). IsSettled g n in
-    subst P c.pass.invariant.node (settled_at g c.is_proper.ensures.proper c.pass.here c.pass.invariant.position c.in_default.is)
+    subst P c.pass.invariant.node
+    (settled_at g c.is_proper.ensures.proper c.pass.here c.pass.invariant.position
+    c.in_default.is)
 
 pub options-free-requires : goal.options-free-requires
 options-free-requires c =
-    known_below (shape c.args.graph.now) c.is_proper.ensures.proper c.pass.here c.pass.invariant.position c.in-Some.x c.in-Some.is
+    known_below (shape c.args.graph.now) c.is_proper.ensures.proper c.pass.here
+    c.pass.invariant.position c.in-Some.x c.in-Some.is
 
 pub returns-in-Some-greatest-clause-turn : goal.returns-in-Some-greatest-clause-turn
 returns-in-Some-greatest-clause-turn c =
     let g = shape c.args.graph.now in
     let few : g.units < 129 = omega (arith, c.is_proper.ensures.few_units) in
-    turn_found g c.is_proper.ensures.proper c.pass.here c.pass.invariant.position c.in-Some.x c.in-Some.is
-    c.options-free.result.1 c.options-free.ensures.free c.in-Some-greatest.unit few c.in-Some-greatest.ensures.some
+    turn_found g c.is_proper.ensures.proper c.pass.here c.pass.invariant.position c.in-Some.x
+    c.in-Some.is
+    c.options-free.result.1 c.options-free.ensures.free c.in-Some-greatest.unit few
+    c.in-Some-greatest.ensures.some

@@ -3,4 +3,6 @@ use Rattle.pgraph.specs.View.{node_of}
 use Rattle.flow_evaluator.proofs.evaluator.FlowEvaluator.certify_noted.Goals as goal
 
 pub returns-clause-evaluated : goal.returns-clause-evaluated
-returns-clause-evaluated c = c.evaluation_of.ensures c.args.site.now (node_of c.args.node) false c.in_ok-told.ensures.certified
+returns-clause-evaluated c =
+    c.evaluation_of.ensures c.args.site.now (node_of c.args.node) false
+    c.in_ok-told.ensures.certified

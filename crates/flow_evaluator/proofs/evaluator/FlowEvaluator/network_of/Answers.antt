@@ -10,10 +10,18 @@ pub look-requires-clause-sound : goal.look-requires-clause-sound
 look-requires-clause-sound c =
     let p = c.args.site.now in
     let f = c.requires.family in
-    subst (λ (n : Node). IsSound (shape_of p) n) (sym (c.node_of-decided.ensures.node ∙ ap (λ (q : Problem). decided q c.args.set) c.problem.ensures.same)) (c.allowed_is_decided.ensures p c.problem.ensures.valid c.args.set f.between.meets f.allowed).0
+    subst (λ (n : Node). IsSound (shape_of p) n)
+    (sym (c.node_of-decided.ensures.node
+    ∙ ap (λ (q : Problem). decided q c.args.set) c.problem.ensures.same))
+    (c.allowed_is_decided.ensures p c.problem.ensures.valid c.args.set f.between.meets
+    f.allowed).0
 
 pub look-requires-clause-split : goal.look-requires-clause-split
 look-requires-clause-split c = λ is.
     let p = c.args.site.now in
     let f = c.requires.family in
-    subst (λ (n : Node). IsDecided (shape_of p) n) (sym (c.node_of-decided.ensures.node ∙ ap (λ (q : Problem). decided q c.args.set) c.problem.ensures.same)) (c.allowed_is_decided.ensures p c.problem.ensures.valid c.args.set f.between.meets f.allowed).1
+    subst (λ (n : Node). IsDecided (shape_of p) n)
+    (sym (c.node_of-decided.ensures.node
+    ∙ ap (λ (q : Problem). decided q c.args.set) c.problem.ensures.same))
+    (c.allowed_is_decided.ensures p c.problem.ensures.valid c.args.set f.between.meets
+    f.allowed).1

@@ -12,6 +12,12 @@ pub returns-in-Some-clause-evaluated : goal.returns-in-Some-clause-evaluated
 returns-in-Some-clause-evaluated c =
     let p = c.args.site.now in
     let n = node_of c.args.node in
-    let past : IsEvaluated IsPastAt p n c.args.decided (Stopped c.in-Stopped.stop) = subst (IsEvaluated IsPastAt p n c.args.decided) c.in-Stopped.is c.requires.told in
-    let found : IfSome (Some c.in-Some.between) (IsBetween p n) = subst (λ (o : Option Between). IfSome o (IsBetween p n)) c.in-Some.is c.in_ok-between-in-Stopped.ensures.between in
-    (c.if-decided.false, between_is c.relaxed_duality.ensures p n c.in-Some.between c.in-Stopped.stop c.bound_between.result c.bound_between.ensures found past)
+    let past : IsEvaluated IsPastAt p n c.args.decided (Stopped c.in-Stopped.stop) =
+    subst (IsEvaluated IsPastAt p n c.args.decided) c.in-Stopped.is c.requires.told in
+    let found : IfSome (Some c.in-Some.between) (IsBetween p n) =
+    subst (λ (o : Option Between). IfSome o (IsBetween p n)) c.in-Some.is
+    c.in_ok-between-in-Stopped.ensures.between in (
+      c.if-decided.false,
+      between_is c.relaxed_duality.ensures p n c.in-Some.between c.in-Stopped.stop
+          c.bound_between.result c.bound_between.ensures found past,
+    )

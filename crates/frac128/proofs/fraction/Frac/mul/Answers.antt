@@ -30,7 +30,9 @@ of_products-requires-clause-positive c =
     let fe : SFits w128 e = fits_from_range e r.second_in_range in
     let left : IsLowest s.num o.den n d = simp to_z-of_z at l.lowest in
     let right : IsLowest o.num s.den m e = simp to_z-of_z at r.lowest in
-    let coprime : IsGcd (unsigned_abs (n *ℤ m)) (unsigned_abs (d *ℤ e)) 1 = products_coprime s.num s.den o.num o.den n d m e s.lowest o.lowest left right l.coprime r.coprime in
+    let coprime : IsGcd (unsigned_abs (n *ℤ m)) (unsigned_abs (d *ℤ e)) 1 =
+    products_coprime s.num s.den o.num o.den n d m e s.lowest o.lowest left right l.coprime
+    r.coprime in
     simp to_z-of_z (mul_pos d e l.second_positive r.second_positive)
 
 pub of_products-requires-clause-coprime : goal.of_products-requires-clause-coprime
@@ -53,7 +55,9 @@ of_products-requires-clause-coprime c =
     let fe : SFits w128 e = fits_from_range e r.second_in_range in
     let left : IsLowest s.num o.den n d = simp to_z-of_z at l.lowest in
     let right : IsLowest o.num s.den m e = simp to_z-of_z at r.lowest in
-    let coprime : IsGcd (unsigned_abs (n *ℤ m)) (unsigned_abs (d *ℤ e)) 1 = products_coprime s.num s.den o.num o.den n d m e s.lowest o.lowest left right l.coprime r.coprime in
+    let coprime : IsGcd (unsigned_abs (n *ℤ m)) (unsigned_abs (d *ℤ e)) 1 =
+    products_coprime s.num s.den o.num o.den n d m e s.lowest o.lowest left right l.coprime
+    r.coprime in
     simp to_z-of_z coprime
 
 pub returns-clause-value : goal.returns-clause-value
@@ -76,10 +80,19 @@ returns-clause-value c =
     let fe : SFits w128 e = fits_from_range e r.second_in_range in
     let left : IsLowest s.num o.den n d = simp to_z-of_z at l.lowest in
     let right : IsLowest o.num s.den m e = simp to_z-of_z at r.lowest in
-    let coprime : IsGcd (unsigned_abs (n *ℤ m)) (unsigned_abs (d *ℤ e)) 1 = products_coprime s.num s.den o.num o.den n d m e s.lowest o.lowest left right l.coprime r.coprime in
-    let low : IsLowest (s.num *ℤ o.num) (s.den *ℤ o.den) (n *ℤ m) (d *ℤ e) = product_lowest s.num s.den o.num o.den n d m e s.positive o.positive l.second_positive r.second_positive left right coprime in
-    let value : IfOk c.of_products.result (λ f. (f.num ≡ n *ℤ m) × (f.den ≡ d *ℤ e)) = simp to_z-of_z at c.of_products.ensures.value in
-    IfOk-weaker c.of_products.result _ _ (λ f same. subst (λ (z : ℤ). IsLowest (s.num *ℤ o.num) (s.den *ℤ o.den) z f.den) (sym same.0) (subst (λ (z : ℤ). IsLowest (s.num *ℤ o.num) (s.den *ℤ o.den) (n *ℤ m) z) (sym same.1) low)) value
+    let coprime : IsGcd (unsigned_abs (n *ℤ m)) (unsigned_abs (d *ℤ e)) 1 =
+    products_coprime s.num s.den o.num o.den n d m e s.lowest o.lowest left right l.coprime
+    r.coprime in
+    let low : IsLowest (s.num *ℤ o.num) (s.den *ℤ o.den) (n *ℤ m) (d *ℤ e) =
+    product_lowest s.num s.den o.num o.den n d m e s.positive o.positive l.second_positive
+    r.second_positive left right coprime in
+    let value : IfOk c.of_products.result (λ f. (f.num ≡ n *ℤ m) × (f.den ≡ d *ℤ e)) =
+    simp to_z-of_z at c.of_products.ensures.value in
+    IfOk-weaker c.of_products.result _ _
+    (λ f same. subst (λ (z : ℤ). IsLowest (s.num *ℤ o.num) (s.den *ℤ o.den) z f.den)
+    (sym same.0)
+    (subst (λ (z : ℤ). IsLowest (s.num *ℤ o.num) (s.den *ℤ o.den) (n *ℤ m) z) (sym same.1) low))
+    value
 
 pub returns-clause-past : goal.returns-clause-past
 returns-clause-past c =
@@ -101,8 +114,15 @@ returns-clause-past c =
     let fe : SFits w128 e = fits_from_range e r.second_in_range in
     let left : IsLowest s.num o.den n d = simp to_z-of_z at l.lowest in
     let right : IsLowest o.num s.den m e = simp to_z-of_z at r.lowest in
-    let coprime : IsGcd (unsigned_abs (n *ℤ m)) (unsigned_abs (d *ℤ e)) 1 = products_coprime s.num s.den o.num o.den n d m e s.lowest o.lowest left right l.coprime r.coprime in
-    let low : IsLowest (s.num *ℤ o.num) (s.den *ℤ o.den) (n *ℤ m) (d *ℤ e) = product_lowest s.num s.den o.num o.den n d m e s.positive o.positive l.second_positive r.second_positive left right coprime in
-    let past : IsErr c.of_products.result ↔ (¬ (InRange (n *ℤ m) × InRange (d *ℤ e))) = simp to_z-of_z at c.of_products.ensures.past in
-    let whole = past_lowest (s.num *ℤ o.num) (s.den *ℤ o.den) (n *ℤ m) (d *ℤ e) (mul_pos s.den o.den s.positive o.positive) low in
+    let coprime : IsGcd (unsigned_abs (n *ℤ m)) (unsigned_abs (d *ℤ e)) 1 =
+    products_coprime s.num s.den o.num o.den n d m e s.lowest o.lowest left right l.coprime
+    r.coprime in
+    let low : IsLowest (s.num *ℤ o.num) (s.den *ℤ o.den) (n *ℤ m) (d *ℤ e) =
+    product_lowest s.num s.den o.num o.den n d m e s.positive o.positive l.second_positive
+    r.second_positive left right coprime in
+    let past : IsErr c.of_products.result ↔ (¬ (InRange (n *ℤ m) × InRange (d *ℤ e))) =
+    simp to_z-of_z at c.of_products.ensures.past in
+    let whole =
+    past_lowest (s.num *ℤ o.num) (s.den *ℤ o.den) (n *ℤ m) (d *ℤ e)
+    (mul_pos s.den o.den s.positive o.positive) low in
     (λ r. whole.0 (past.0 r), λ r. past.1 (whole.1 r))

@@ -12,7 +12,10 @@ invariant_of-result-clause-lowest c =
     let d = c.lowest_terms-num.result.1 in
     let fn : SFits w128 n = fits_from_range n k.first_in_range in
     let fd : SFits w128 d = fits_from_range d k.second_in_range in
-    subst (λ (z : ℤ). IsGcd (unsigned_abs z) (unsigned_abs (to_z w128 (of_z w128 d))) 1) (sym (to_z-of_z w128 n fn)) (subst (λ (z : ℤ). IsGcd (unsigned_abs n) (unsigned_abs z) 1) (sym (to_z-of_z w128 d fd)) k.coprime)
+    subst (λ (z : ℤ). IsGcd (unsigned_abs z) (unsigned_abs (to_z w128 (of_z w128 d))) 1)
+    (sym (to_z-of_z w128 n fn))
+    (subst (λ (z : ℤ). IsGcd (unsigned_abs n) (unsigned_abs z) 1) (sym (to_z-of_z w128 d fd))
+    k.coprime)
 
 pub invariant_of-result-clause-positive : goal.invariant_of-result-clause-positive
 invariant_of-result-clause-positive c =

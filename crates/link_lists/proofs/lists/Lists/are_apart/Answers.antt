@@ -10,7 +10,8 @@ returns-clause-apart c =
     let ok = s.links.ok in
     let room_links = held.room_links in
     let small = held.few in
-    subst (λ (r : Rows). AreApart r.lists) c.self.view_is (apart_lists s.lists s.cells s.links.items s.stack.items s.depth held)
+    subst (λ (r : Rows). AreApart r.lists) c.self.view_is
+    (apart_lists s.lists s.cells s.links.items s.stack.items s.depth held)
 
 pub returns-clause-below : goal.returns-clause-below
 returns-clause-below c =
@@ -19,4 +20,5 @@ returns-clause-below c =
     let ok = s.links.ok in
     let room_links = held.room_links in
     let small = held.few in
-    subst (λ (r : Rows). AreBelow r.cells r.lists) c.self.view_is (rep s.lists s.cells s.links.items s.stack.items s.depth held).below
+    subst (λ (r : Rows). AreBelow r.cells r.lists) c.self.view_is
+    (rep s.lists s.cells s.links.items s.stack.items s.depth held).below

@@ -1,4 +1,5 @@
-use Rattle.std.proofs.Common.{◌<◌, ◌-◌, cond, nat_lt, None, Some, length, arith, sym, ap, ◌∙◌, subst}
+use Rattle.std.proofs.Common.{◌<◌, ◌-◌, cond, nat_lt, None, Some, length, arith, sym, ap, ◌∙◌}
+use Rattle.std.proofs.Common.{subst}
 use Rattle.link_lists.specs.Lists.{Rows, row, first}
 use Rattle.link_lists.proofs.States.{length_rows, first_state}
 use Rattle.link_lists.proofs.lists.Lists.first.Goals as goal
@@ -10,8 +11,12 @@ next_node-requires c =
     let ok = s.links.ok in
     let room_links = held.room_links in
     let small = held.few in
-    let low : c.args.list < s.lists = subst (λ m. c.args.list < m) (ap (λ (r : Rows). length r.lists) (sym c.self.view_is) ∙ length_rows s.lists s.cells s.links.items s.stack.items s.depth held) c.requires in
-    let first_of = first_state s.lists s.cells s.links.items s.stack.items s.depth held c.args.list low in
+    let low : c.args.list < s.lists =
+    subst (λ m. c.args.list < m)
+    (ap (λ (r : Rows). length r.lists) (sym c.self.view_is)
+    ∙ length_rows s.lists s.cells s.links.items s.stack.items s.depth held) c.requires in
+    let first_of =
+    first_state s.lists s.cells s.links.items s.stack.items s.depth held c.args.list low in
     let near = first_of.0 in
     omega arith
 
@@ -22,8 +27,12 @@ cell_of-requires c =
     let ok = s.links.ok in
     let room_links = held.room_links in
     let small = held.few in
-    let low : c.args.list < s.lists = subst (λ m. c.args.list < m) (ap (λ (r : Rows). length r.lists) (sym c.self.view_is) ∙ length_rows s.lists s.cells s.links.items s.stack.items s.depth held) c.requires in
-    let first_of = first_state s.lists s.cells s.links.items s.stack.items s.depth held c.args.list low in
+    let low : c.args.list < s.lists =
+    subst (λ m. c.args.list < m)
+    (ap (λ (r : Rows). length r.lists) (sym c.self.view_is)
+    ∙ length_rows s.lists s.cells s.links.items s.stack.items s.depth held) c.requires in
+    let first_of =
+    first_state s.lists s.cells s.links.items s.stack.items s.depth held c.args.list low in
     let near = first_of.0 in
     let read = c.next_node.ensures in
     omega arith
@@ -35,8 +44,12 @@ returns c =
     let ok = s.links.ok in
     let room_links = held.room_links in
     let small = held.few in
-    let low : c.args.list < s.lists = subst (λ m. c.args.list < m) (ap (λ (r : Rows). length r.lists) (sym c.self.view_is) ∙ length_rows s.lists s.cells s.links.items s.stack.items s.depth held) c.requires in
-    let first_of = first_state s.lists s.cells s.links.items s.stack.items s.depth held c.args.list low in
+    let low : c.args.list < s.lists =
+    subst (λ m. c.args.list < m)
+    (ap (λ (r : Rows). length r.lists) (sym c.self.view_is)
+    ∙ length_rows s.lists s.cells s.links.items s.stack.items s.depth held) c.requires in
+    let first_of =
+    first_state s.lists s.cells s.links.items s.stack.items s.depth held c.args.list low in
     let near = first_of.0 in
     c.cell_of.ensures
     ∙ (ap (λ x. cond (nat_lt x s.lists) None (Some (x - s.lists))) c.next_node.ensures

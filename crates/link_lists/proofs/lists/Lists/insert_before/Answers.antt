@@ -11,13 +11,20 @@ splice-requires-clause-after c =
     let ok = s.links.ok in
     let room_links = held.room_links in
     let small = held.few in
-    let free : IsFree (rows_of s.lists s.cells (next_of s.links.items)) c.args.cell = subst (λ (r : Rows). IsFree r.lists c.args.cell) (sym c.self.view_is) c.requires.free in
-    let known : c.args.cell < s.cells = subst (λ m. c.args.cell < m) (ap (λ (r : Rows). r.cells) (sym c.self.view_is)) c.requires.cell in
-    let empty : (state_of s.lists s.cells s.links.items s.stack.items s.depth).stack ≡ [] = ap (λ (r : Rows). r.stack) c.self.view_is ∙ c.requires.none_unlinked in
-    let listed : IsListed (rows_of s.lists s.cells (next_of s.links.items)) c.args.at = subst (λ (r : Rows). IsListed r.lists c.args.at) (sym c.self.view_is) c.requires.listed in
+    let free : IsFree (rows_of s.lists s.cells (next_of s.links.items)) c.args.cell =
+    subst (λ (r : Rows). IsFree r.lists c.args.cell) (sym c.self.view_is) c.requires.free in
+    let known : c.args.cell < s.cells =
+    subst (λ m. c.args.cell < m) (ap (λ (r : Rows). r.cells) (sym c.self.view_is))
+    c.requires.cell in
+    let empty : (state_of s.lists s.cells s.links.items s.stack.items s.depth).stack ≡ [] =
+    ap (λ (r : Rows). r.stack) c.self.view_is ∙ c.requires.none_unlinked in
+    let listed : IsListed (rows_of s.lists s.cells (next_of s.links.items)) c.args.at =
+    subst (λ (r : Rows). IsListed r.lists c.args.at) (sym c.self.view_is) c.requires.listed in
     let few = few_cell s.lists s.cells s.links.items s.stack.items s.depth held c.args.at listed in
-    let near_prev = few_prev s.lists s.cells s.links.items s.stack.items s.depth held c.args.at listed in
-    let near_next = few_next s.lists s.cells s.links.items s.stack.items s.depth held c.args.at listed in
+    let near_prev =
+    few_prev s.lists s.cells s.links.items s.stack.items s.depth held c.args.at listed in
+    let near_next =
+    few_next s.lists s.cells s.links.items s.stack.items s.depth held c.args.at listed in
     omega arith
 
 pub splice-requires-clause-near : goal.splice-requires-clause-near
@@ -27,13 +34,20 @@ splice-requires-clause-near c =
     let ok = s.links.ok in
     let room_links = held.room_links in
     let small = held.few in
-    let free : IsFree (rows_of s.lists s.cells (next_of s.links.items)) c.args.cell = subst (λ (r : Rows). IsFree r.lists c.args.cell) (sym c.self.view_is) c.requires.free in
-    let known : c.args.cell < s.cells = subst (λ m. c.args.cell < m) (ap (λ (r : Rows). r.cells) (sym c.self.view_is)) c.requires.cell in
-    let empty : (state_of s.lists s.cells s.links.items s.stack.items s.depth).stack ≡ [] = ap (λ (r : Rows). r.stack) c.self.view_is ∙ c.requires.none_unlinked in
-    let listed : IsListed (rows_of s.lists s.cells (next_of s.links.items)) c.args.at = subst (λ (r : Rows). IsListed r.lists c.args.at) (sym c.self.view_is) c.requires.listed in
+    let free : IsFree (rows_of s.lists s.cells (next_of s.links.items)) c.args.cell =
+    subst (λ (r : Rows). IsFree r.lists c.args.cell) (sym c.self.view_is) c.requires.free in
+    let known : c.args.cell < s.cells =
+    subst (λ m. c.args.cell < m) (ap (λ (r : Rows). r.cells) (sym c.self.view_is))
+    c.requires.cell in
+    let empty : (state_of s.lists s.cells s.links.items s.stack.items s.depth).stack ≡ [] =
+    ap (λ (r : Rows). r.stack) c.self.view_is ∙ c.requires.none_unlinked in
+    let listed : IsListed (rows_of s.lists s.cells (next_of s.links.items)) c.args.at =
+    subst (λ (r : Rows). IsListed r.lists c.args.at) (sym c.self.view_is) c.requires.listed in
     let few = few_cell s.lists s.cells s.links.items s.stack.items s.depth held c.args.at listed in
-    let near_prev = few_prev s.lists s.cells s.links.items s.stack.items s.depth held c.args.at listed in
-    let near_next = few_next s.lists s.cells s.links.items s.stack.items s.depth held c.args.at listed in
+    let near_prev =
+    few_prev s.lists s.cells s.links.items s.stack.items s.depth held c.args.at listed in
+    let near_next =
+    few_next s.lists s.cells s.links.items s.stack.items s.depth held c.args.at listed in
     omega arith
 
 pub invariant_of-self : goal.invariant_of-self
@@ -43,14 +57,23 @@ invariant_of-self c =
     let ok = s.links.ok in
     let room_links = held.room_links in
     let small = held.few in
-    let free : IsFree (rows_of s.lists s.cells (next_of s.links.items)) c.args.cell = subst (λ (r : Rows). IsFree r.lists c.args.cell) (sym c.self.view_is) c.requires.free in
-    let known : c.args.cell < s.cells = subst (λ m. c.args.cell < m) (ap (λ (r : Rows). r.cells) (sym c.self.view_is)) c.requires.cell in
-    let empty : (state_of s.lists s.cells s.links.items s.stack.items s.depth).stack ≡ [] = ap (λ (r : Rows). r.stack) c.self.view_is ∙ c.requires.none_unlinked in
-    let listed : IsListed (rows_of s.lists s.cells (next_of s.links.items)) c.args.at = subst (λ (r : Rows). IsListed r.lists c.args.at) (sym c.self.view_is) c.requires.listed in
+    let free : IsFree (rows_of s.lists s.cells (next_of s.links.items)) c.args.cell =
+    subst (λ (r : Rows). IsFree r.lists c.args.cell) (sym c.self.view_is) c.requires.free in
+    let known : c.args.cell < s.cells =
+    subst (λ m. c.args.cell < m) (ap (λ (r : Rows). r.cells) (sym c.self.view_is))
+    c.requires.cell in
+    let empty : (state_of s.lists s.cells s.links.items s.stack.items s.depth).stack ≡ [] =
+    ap (λ (r : Rows). r.stack) c.self.view_is ∙ c.requires.none_unlinked in
+    let listed : IsListed (rows_of s.lists s.cells (next_of s.links.items)) c.args.at =
+    subst (λ (r : Rows). IsListed r.lists c.args.at) (sym c.self.view_is) c.requires.listed in
     let few = few_cell s.lists s.cells s.links.items s.stack.items s.depth held c.args.at listed in
-    let near_prev = few_prev s.lists s.cells s.links.items s.stack.items s.depth held c.args.at listed in
-    let near_next = few_next s.lists s.cells s.links.items s.stack.items s.depth held c.args.at listed in
-    (insert_state s.lists s.cells s.links.items s.stack.items s.depth held empty c.args.cell c.args.at listed known free c.splice.new.links.items c.splice.ensures.next c.splice.ensures.prev c.splice.ensures.length).held
+    let near_prev =
+    few_prev s.lists s.cells s.links.items s.stack.items s.depth held c.args.at listed in
+    let near_next =
+    few_next s.lists s.cells s.links.items s.stack.items s.depth held c.args.at listed in
+    (insert_state s.lists s.cells s.links.items s.stack.items s.depth held empty c.args.cell
+    c.args.at listed known free c.splice.new.links.items c.splice.ensures.next
+    c.splice.ensures.prev c.splice.ensures.length).held
 
 pub returns : goal.returns
 returns c =
@@ -59,11 +82,21 @@ returns c =
     let ok = s.links.ok in
     let room_links = held.room_links in
     let small = held.few in
-    let free : IsFree (rows_of s.lists s.cells (next_of s.links.items)) c.args.cell = subst (λ (r : Rows). IsFree r.lists c.args.cell) (sym c.self.view_is) c.requires.free in
-    let known : c.args.cell < s.cells = subst (λ m. c.args.cell < m) (ap (λ (r : Rows). r.cells) (sym c.self.view_is)) c.requires.cell in
-    let empty : (state_of s.lists s.cells s.links.items s.stack.items s.depth).stack ≡ [] = ap (λ (r : Rows). r.stack) c.self.view_is ∙ c.requires.none_unlinked in
-    let listed : IsListed (rows_of s.lists s.cells (next_of s.links.items)) c.args.at = subst (λ (r : Rows). IsListed r.lists c.args.at) (sym c.self.view_is) c.requires.listed in
+    let free : IsFree (rows_of s.lists s.cells (next_of s.links.items)) c.args.cell =
+    subst (λ (r : Rows). IsFree r.lists c.args.cell) (sym c.self.view_is) c.requires.free in
+    let known : c.args.cell < s.cells =
+    subst (λ m. c.args.cell < m) (ap (λ (r : Rows). r.cells) (sym c.self.view_is))
+    c.requires.cell in
+    let empty : (state_of s.lists s.cells s.links.items s.stack.items s.depth).stack ≡ [] =
+    ap (λ (r : Rows). r.stack) c.self.view_is ∙ c.requires.none_unlinked in
+    let listed : IsListed (rows_of s.lists s.cells (next_of s.links.items)) c.args.at =
+    subst (λ (r : Rows). IsListed r.lists c.args.at) (sym c.self.view_is) c.requires.listed in
     let few = few_cell s.lists s.cells s.links.items s.stack.items s.depth held c.args.at listed in
-    let near_prev = few_prev s.lists s.cells s.links.items s.stack.items s.depth held c.args.at listed in
-    let near_next = few_next s.lists s.cells s.links.items s.stack.items s.depth held c.args.at listed in
-    (insert_state s.lists s.cells s.links.items s.stack.items s.depth held empty c.args.cell c.args.at listed known free c.splice.new.links.items c.splice.ensures.next c.splice.ensures.prev c.splice.ensures.length).state ∙ ap (λ r. with_inserted r c.args.cell c.args.at) c.self.view_is
+    let near_prev =
+    few_prev s.lists s.cells s.links.items s.stack.items s.depth held c.args.at listed in
+    let near_next =
+    few_next s.lists s.cells s.links.items s.stack.items s.depth held c.args.at listed in
+    (insert_state s.lists s.cells s.links.items s.stack.items s.depth held empty c.args.cell
+    c.args.at listed known free c.splice.new.links.items c.splice.ensures.next
+    c.splice.ensures.prev c.splice.ensures.length).state
+    ∙ ap (λ r. with_inserted r c.args.cell c.args.at) c.self.view_is

@@ -12,7 +12,8 @@ invariant_of-result c =
     let room : c.args.lists + c.args.cells ≤ length c.in_ok-links.links.items = omega arith in
     let room_stack : c.args.cells ≤ length c.in_ok-stack.stack.items = omega arith in
     let small : (c.args.lists < 2 ^ 32) × (c.args.cells < 2 ^ 32) = (omega arith, omega arith) in
-    (open_state c.args.lists c.args.cells c.in_ok-links.links.items c.in_ok-stack.stack.items room room_stack small c.in_ok-links.ensures.next c.in_ok-links.ensures.prev).held
+    (open_state c.args.lists c.args.cells c.in_ok-links.links.items c.in_ok-stack.stack.items room
+    room_stack small c.in_ok-links.ensures.next c.in_ok-links.ensures.prev).held
 
 pub returns : goal.returns
 returns c =
@@ -24,4 +25,5 @@ returns c =
     let room : c.args.lists + c.args.cells ≤ length c.in_ok-links.links.items = omega arith in
     let room_stack : c.args.cells ≤ length c.in_ok-stack.stack.items = omega arith in
     let small : (c.args.lists < 2 ^ 32) × (c.args.cells < 2 ^ 32) = (omega arith, omega arith) in
-    (open_state c.args.lists c.args.cells c.in_ok-links.links.items c.in_ok-stack.stack.items room room_stack small c.in_ok-links.ensures.next c.in_ok-links.ensures.prev).state
+    (open_state c.args.lists c.args.cells c.in_ok-links.links.items c.in_ok-stack.stack.items room
+    room_stack small c.in_ok-links.ensures.next c.in_ok-links.ensures.prev).state

@@ -12,11 +12,22 @@ splice-requires-clause-after c =
     let ok = s.links.ok in
     let room_links = held.room_links in
     let small = held.few in
-    let free : IsFree (rows_of s.lists s.cells (next_of s.links.items)) c.args.cell = subst (λ (r : Rows). IsFree r.lists c.args.cell) (sym c.self.view_is) c.requires.free in
-    let known : c.args.cell < s.cells = subst (λ m. c.args.cell < m) (ap (λ (r : Rows). r.cells) (sym c.self.view_is)) c.requires.cell in
-    let empty : (state_of s.lists s.cells s.links.items s.stack.items s.depth).stack ≡ [] = ap (λ (r : Rows). r.stack) c.self.view_is ∙ c.requires.none_unlinked in
-    let low : c.args.list < s.lists = subst (λ m. c.args.list < m) (ap (λ (r : Rows). length r.lists) (sym c.self.view_is) ∙ length_rows s.lists s.cells s.links.items s.stack.items s.depth held) c.requires.list in
-    let near = last_below s.lists s.cells (next_of s.links.items) (prev_of s.links.items) (rows_of s.lists s.cells (next_of s.links.items)) (rep s.lists s.cells s.links.items s.stack.items s.depth held) c.args.list c.args.cell low known free in
+    let free : IsFree (rows_of s.lists s.cells (next_of s.links.items)) c.args.cell =
+    subst (λ (r : Rows). IsFree r.lists c.args.cell) (sym c.self.view_is) c.requires.free in
+    let known : c.args.cell < s.cells =
+    subst (λ m. c.args.cell < m) (ap (λ (r : Rows). r.cells) (sym c.self.view_is))
+    c.requires.cell in
+    let empty : (state_of s.lists s.cells s.links.items s.stack.items s.depth).stack ≡ [] =
+    ap (λ (r : Rows). r.stack) c.self.view_is ∙ c.requires.none_unlinked in
+    let low : c.args.list < s.lists =
+    subst (λ m. c.args.list < m)
+    (ap (λ (r : Rows). length r.lists) (sym c.self.view_is)
+    ∙ length_rows s.lists s.cells s.links.items s.stack.items s.depth held) c.requires.list in
+    let near =
+    last_below s.lists s.cells (next_of s.links.items) (prev_of s.links.items)
+    (rows_of s.lists s.cells (next_of s.links.items))
+    (rep s.lists s.cells s.links.items s.stack.items s.depth held) c.args.list c.args.cell low
+    known free in
     omega arith
 
 pub splice-requires-clause-near : goal.splice-requires-clause-near
@@ -26,11 +37,22 @@ splice-requires-clause-near c =
     let ok = s.links.ok in
     let room_links = held.room_links in
     let small = held.few in
-    let free : IsFree (rows_of s.lists s.cells (next_of s.links.items)) c.args.cell = subst (λ (r : Rows). IsFree r.lists c.args.cell) (sym c.self.view_is) c.requires.free in
-    let known : c.args.cell < s.cells = subst (λ m. c.args.cell < m) (ap (λ (r : Rows). r.cells) (sym c.self.view_is)) c.requires.cell in
-    let empty : (state_of s.lists s.cells s.links.items s.stack.items s.depth).stack ≡ [] = ap (λ (r : Rows). r.stack) c.self.view_is ∙ c.requires.none_unlinked in
-    let low : c.args.list < s.lists = subst (λ m. c.args.list < m) (ap (λ (r : Rows). length r.lists) (sym c.self.view_is) ∙ length_rows s.lists s.cells s.links.items s.stack.items s.depth held) c.requires.list in
-    let near = last_below s.lists s.cells (next_of s.links.items) (prev_of s.links.items) (rows_of s.lists s.cells (next_of s.links.items)) (rep s.lists s.cells s.links.items s.stack.items s.depth held) c.args.list c.args.cell low known free in
+    let free : IsFree (rows_of s.lists s.cells (next_of s.links.items)) c.args.cell =
+    subst (λ (r : Rows). IsFree r.lists c.args.cell) (sym c.self.view_is) c.requires.free in
+    let known : c.args.cell < s.cells =
+    subst (λ m. c.args.cell < m) (ap (λ (r : Rows). r.cells) (sym c.self.view_is))
+    c.requires.cell in
+    let empty : (state_of s.lists s.cells s.links.items s.stack.items s.depth).stack ≡ [] =
+    ap (λ (r : Rows). r.stack) c.self.view_is ∙ c.requires.none_unlinked in
+    let low : c.args.list < s.lists =
+    subst (λ m. c.args.list < m)
+    (ap (λ (r : Rows). length r.lists) (sym c.self.view_is)
+    ∙ length_rows s.lists s.cells s.links.items s.stack.items s.depth held) c.requires.list in
+    let near =
+    last_below s.lists s.cells (next_of s.links.items) (prev_of s.links.items)
+    (rows_of s.lists s.cells (next_of s.links.items))
+    (rep s.lists s.cells s.links.items s.stack.items s.depth held) c.args.list c.args.cell low
+    known free in
     omega arith
 
 pub invariant_of-self : goal.invariant_of-self
@@ -40,12 +62,25 @@ invariant_of-self c =
     let ok = s.links.ok in
     let room_links = held.room_links in
     let small = held.few in
-    let free : IsFree (rows_of s.lists s.cells (next_of s.links.items)) c.args.cell = subst (λ (r : Rows). IsFree r.lists c.args.cell) (sym c.self.view_is) c.requires.free in
-    let known : c.args.cell < s.cells = subst (λ m. c.args.cell < m) (ap (λ (r : Rows). r.cells) (sym c.self.view_is)) c.requires.cell in
-    let empty : (state_of s.lists s.cells s.links.items s.stack.items s.depth).stack ≡ [] = ap (λ (r : Rows). r.stack) c.self.view_is ∙ c.requires.none_unlinked in
-    let low : c.args.list < s.lists = subst (λ m. c.args.list < m) (ap (λ (r : Rows). length r.lists) (sym c.self.view_is) ∙ length_rows s.lists s.cells s.links.items s.stack.items s.depth held) c.requires.list in
-    let near = last_below s.lists s.cells (next_of s.links.items) (prev_of s.links.items) (rows_of s.lists s.cells (next_of s.links.items)) (rep s.lists s.cells s.links.items s.stack.items s.depth held) c.args.list c.args.cell low known free in
-    (push_state s.lists s.cells s.links.items s.stack.items s.depth held empty c.args.list c.args.cell low known free c.splice.new.links.items c.splice.ensures.next c.splice.ensures.prev c.splice.ensures.length).held
+    let free : IsFree (rows_of s.lists s.cells (next_of s.links.items)) c.args.cell =
+    subst (λ (r : Rows). IsFree r.lists c.args.cell) (sym c.self.view_is) c.requires.free in
+    let known : c.args.cell < s.cells =
+    subst (λ m. c.args.cell < m) (ap (λ (r : Rows). r.cells) (sym c.self.view_is))
+    c.requires.cell in
+    let empty : (state_of s.lists s.cells s.links.items s.stack.items s.depth).stack ≡ [] =
+    ap (λ (r : Rows). r.stack) c.self.view_is ∙ c.requires.none_unlinked in
+    let low : c.args.list < s.lists =
+    subst (λ m. c.args.list < m)
+    (ap (λ (r : Rows). length r.lists) (sym c.self.view_is)
+    ∙ length_rows s.lists s.cells s.links.items s.stack.items s.depth held) c.requires.list in
+    let near =
+    last_below s.lists s.cells (next_of s.links.items) (prev_of s.links.items)
+    (rows_of s.lists s.cells (next_of s.links.items))
+    (rep s.lists s.cells s.links.items s.stack.items s.depth held) c.args.list c.args.cell low
+    known free in
+    (push_state s.lists s.cells s.links.items s.stack.items s.depth held empty c.args.list
+    c.args.cell low known free c.splice.new.links.items c.splice.ensures.next
+    c.splice.ensures.prev c.splice.ensures.length).held
 
 pub returns : goal.returns
 returns c =
@@ -54,9 +89,23 @@ returns c =
     let ok = s.links.ok in
     let room_links = held.room_links in
     let small = held.few in
-    let free : IsFree (rows_of s.lists s.cells (next_of s.links.items)) c.args.cell = subst (λ (r : Rows). IsFree r.lists c.args.cell) (sym c.self.view_is) c.requires.free in
-    let known : c.args.cell < s.cells = subst (λ m. c.args.cell < m) (ap (λ (r : Rows). r.cells) (sym c.self.view_is)) c.requires.cell in
-    let empty : (state_of s.lists s.cells s.links.items s.stack.items s.depth).stack ≡ [] = ap (λ (r : Rows). r.stack) c.self.view_is ∙ c.requires.none_unlinked in
-    let low : c.args.list < s.lists = subst (λ m. c.args.list < m) (ap (λ (r : Rows). length r.lists) (sym c.self.view_is) ∙ length_rows s.lists s.cells s.links.items s.stack.items s.depth held) c.requires.list in
-    let near = last_below s.lists s.cells (next_of s.links.items) (prev_of s.links.items) (rows_of s.lists s.cells (next_of s.links.items)) (rep s.lists s.cells s.links.items s.stack.items s.depth held) c.args.list c.args.cell low known free in
-    (push_state s.lists s.cells s.links.items s.stack.items s.depth held empty c.args.list c.args.cell low known free c.splice.new.links.items c.splice.ensures.next c.splice.ensures.prev c.splice.ensures.length).state ∙ ap (λ r. with_pushed r c.args.list c.args.cell) c.self.view_is
+    let free : IsFree (rows_of s.lists s.cells (next_of s.links.items)) c.args.cell =
+    subst (λ (r : Rows). IsFree r.lists c.args.cell) (sym c.self.view_is) c.requires.free in
+    let known : c.args.cell < s.cells =
+    subst (λ m. c.args.cell < m) (ap (λ (r : Rows). r.cells) (sym c.self.view_is))
+    c.requires.cell in
+    let empty : (state_of s.lists s.cells s.links.items s.stack.items s.depth).stack ≡ [] =
+    ap (λ (r : Rows). r.stack) c.self.view_is ∙ c.requires.none_unlinked in
+    let low : c.args.list < s.lists =
+    subst (λ m. c.args.list < m)
+    (ap (λ (r : Rows). length r.lists) (sym c.self.view_is)
+    ∙ length_rows s.lists s.cells s.links.items s.stack.items s.depth held) c.requires.list in
+    let near =
+    last_below s.lists s.cells (next_of s.links.items) (prev_of s.links.items)
+    (rows_of s.lists s.cells (next_of s.links.items))
+    (rep s.lists s.cells s.links.items s.stack.items s.depth held) c.args.list c.args.cell low
+    known free in
+    (push_state s.lists s.cells s.links.items s.stack.items s.depth held empty c.args.list
+    c.args.cell low known free c.splice.new.links.items c.splice.ensures.next
+    c.splice.ensures.prev c.splice.ensures.length).state
+    ∙ ap (λ r. with_pushed r c.args.list c.args.cell) c.self.view_is

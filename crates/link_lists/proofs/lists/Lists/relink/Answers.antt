@@ -11,8 +11,13 @@ restore-requires-clause-node c =
     let ok = s.links.ok in
     let room_links = held.room_links in
     let small = held.few in
-    let top : IsTop c.args.cell (vacancies (saved_of s.lists s.cells (next_of s.links.items) (prev_of s.links.items) (stacked s.stack.items s.depth))) = subst (λ (r : Rows). IsTop c.args.cell r.stack) (sym c.self.view_is) c.requires in
-    let how = relink_state s.lists s.cells s.links.items s.stack.items s.depth held c.args.cell top in
+    let top : IsTop c.args.cell
+    (vacancies
+    (saved_of s.lists s.cells (next_of s.links.items) (prev_of s.links.items)
+    (stacked s.stack.items s.depth))) =
+    subst (λ (r : Rows). IsTop c.args.cell r.stack) (sym c.self.view_is) c.requires in
+    let how =
+    relink_state s.lists s.cells s.links.items s.stack.items s.depth held c.args.cell top in
     let few = how.few_cell in
     let near_prev = how.few_prev in
     let near_next = how.few_next in
@@ -25,8 +30,13 @@ restore-requires-clause-near_prev c =
     let ok = s.links.ok in
     let room_links = held.room_links in
     let small = held.few in
-    let top : IsTop c.args.cell (vacancies (saved_of s.lists s.cells (next_of s.links.items) (prev_of s.links.items) (stacked s.stack.items s.depth))) = subst (λ (r : Rows). IsTop c.args.cell r.stack) (sym c.self.view_is) c.requires in
-    let how = relink_state s.lists s.cells s.links.items s.stack.items s.depth held c.args.cell top in
+    let top : IsTop c.args.cell
+    (vacancies
+    (saved_of s.lists s.cells (next_of s.links.items) (prev_of s.links.items)
+    (stacked s.stack.items s.depth))) =
+    subst (λ (r : Rows). IsTop c.args.cell r.stack) (sym c.self.view_is) c.requires in
+    let how =
+    relink_state s.lists s.cells s.links.items s.stack.items s.depth held c.args.cell top in
     let few = how.few_cell in
     let near_prev = how.few_prev in
     let near_next = how.few_next in
@@ -39,8 +49,13 @@ restore-requires-clause-near_next c =
     let ok = s.links.ok in
     let room_links = held.room_links in
     let small = held.few in
-    let top : IsTop c.args.cell (vacancies (saved_of s.lists s.cells (next_of s.links.items) (prev_of s.links.items) (stacked s.stack.items s.depth))) = subst (λ (r : Rows). IsTop c.args.cell r.stack) (sym c.self.view_is) c.requires in
-    let how = relink_state s.lists s.cells s.links.items s.stack.items s.depth held c.args.cell top in
+    let top : IsTop c.args.cell
+    (vacancies
+    (saved_of s.lists s.cells (next_of s.links.items) (prev_of s.links.items)
+    (stacked s.stack.items s.depth))) =
+    subst (λ (r : Rows). IsTop c.args.cell r.stack) (sym c.self.view_is) c.requires in
+    let how =
+    relink_state s.lists s.cells s.links.items s.stack.items s.depth held c.args.cell top in
     let few = how.few_cell in
     let near_prev = how.few_prev in
     let near_next = how.few_next in
@@ -53,12 +68,18 @@ invariant_of-self c =
     let ok = s.links.ok in
     let room_links = held.room_links in
     let small = held.few in
-    let top : IsTop c.args.cell (vacancies (saved_of s.lists s.cells (next_of s.links.items) (prev_of s.links.items) (stacked s.stack.items s.depth))) = subst (λ (r : Rows). IsTop c.args.cell r.stack) (sym c.self.view_is) c.requires in
-    let how = relink_state s.lists s.cells s.links.items s.stack.items s.depth held c.args.cell top in
+    let top : IsTop c.args.cell
+    (vacancies
+    (saved_of s.lists s.cells (next_of s.links.items) (prev_of s.links.items)
+    (stacked s.stack.items s.depth))) =
+    subst (λ (r : Rows). IsTop c.args.cell r.stack) (sym c.self.view_is) c.requires in
+    let how =
+    relink_state s.lists s.cells s.links.items s.stack.items s.depth held c.args.cell top in
     let few = how.few_cell in
     let near_prev = how.few_prev in
     let near_next = how.few_next in
-    (how.change c.restore.new.links.items c.restore.ensures.next c.restore.ensures.prev c.restore.ensures.length).held
+    (how.change c.restore.new.links.items c.restore.ensures.next c.restore.ensures.prev
+    c.restore.ensures.length).held
 
 pub returns : goal.returns
 returns c =
@@ -67,9 +88,15 @@ returns c =
     let ok = s.links.ok in
     let room_links = held.room_links in
     let small = held.few in
-    let top : IsTop c.args.cell (vacancies (saved_of s.lists s.cells (next_of s.links.items) (prev_of s.links.items) (stacked s.stack.items s.depth))) = subst (λ (r : Rows). IsTop c.args.cell r.stack) (sym c.self.view_is) c.requires in
-    let how = relink_state s.lists s.cells s.links.items s.stack.items s.depth held c.args.cell top in
+    let top : IsTop c.args.cell
+    (vacancies
+    (saved_of s.lists s.cells (next_of s.links.items) (prev_of s.links.items)
+    (stacked s.stack.items s.depth))) =
+    subst (λ (r : Rows). IsTop c.args.cell r.stack) (sym c.self.view_is) c.requires in
+    let how =
+    relink_state s.lists s.cells s.links.items s.stack.items s.depth held c.args.cell top in
     let few = how.few_cell in
     let near_prev = how.few_prev in
     let near_next = how.few_next in
-    (how.change c.restore.new.links.items c.restore.ensures.next c.restore.ensures.prev c.restore.ensures.length).state ∙ ap relinked c.self.view_is
+    (how.change c.restore.new.links.items c.restore.ensures.next c.restore.ensures.prev
+    c.restore.ensures.length).state ∙ ap relinked c.self.view_is

@@ -11,11 +11,16 @@ bypass-requires-clause-node c =
     let ok = s.links.ok in
     let room_links = held.room_links in
     let small = held.few in
-    let empty : (state_of s.lists s.cells s.links.items s.stack.items s.depth).stack ≡ [] = ap (λ (r : Rows). r.stack) c.self.view_is ∙ c.requires.none_unlinked in
-    let listed : IsListed (rows_of s.lists s.cells (next_of s.links.items)) c.args.cell = subst (λ (r : Rows). IsListed r.lists c.args.cell) (sym c.self.view_is) c.requires.listed in
-    let few = few_cell s.lists s.cells s.links.items s.stack.items s.depth held c.args.cell listed in
-    let near_prev = few_prev s.lists s.cells s.links.items s.stack.items s.depth held c.args.cell listed in
-    let near_next = few_next s.lists s.cells s.links.items s.stack.items s.depth held c.args.cell listed in
+    let empty : (state_of s.lists s.cells s.links.items s.stack.items s.depth).stack ≡ [] =
+    ap (λ (r : Rows). r.stack) c.self.view_is ∙ c.requires.none_unlinked in
+    let listed : IsListed (rows_of s.lists s.cells (next_of s.links.items)) c.args.cell =
+    subst (λ (r : Rows). IsListed r.lists c.args.cell) (sym c.self.view_is) c.requires.listed in
+    let few =
+    few_cell s.lists s.cells s.links.items s.stack.items s.depth held c.args.cell listed in
+    let near_prev =
+    few_prev s.lists s.cells s.links.items s.stack.items s.depth held c.args.cell listed in
+    let near_next =
+    few_next s.lists s.cells s.links.items s.stack.items s.depth held c.args.cell listed in
     omega arith
 
 pub bypass-requires-clause-near_prev : goal.bypass-requires-clause-near_prev
@@ -25,11 +30,16 @@ bypass-requires-clause-near_prev c =
     let ok = s.links.ok in
     let room_links = held.room_links in
     let small = held.few in
-    let empty : (state_of s.lists s.cells s.links.items s.stack.items s.depth).stack ≡ [] = ap (λ (r : Rows). r.stack) c.self.view_is ∙ c.requires.none_unlinked in
-    let listed : IsListed (rows_of s.lists s.cells (next_of s.links.items)) c.args.cell = subst (λ (r : Rows). IsListed r.lists c.args.cell) (sym c.self.view_is) c.requires.listed in
-    let few = few_cell s.lists s.cells s.links.items s.stack.items s.depth held c.args.cell listed in
-    let near_prev = few_prev s.lists s.cells s.links.items s.stack.items s.depth held c.args.cell listed in
-    let near_next = few_next s.lists s.cells s.links.items s.stack.items s.depth held c.args.cell listed in
+    let empty : (state_of s.lists s.cells s.links.items s.stack.items s.depth).stack ≡ [] =
+    ap (λ (r : Rows). r.stack) c.self.view_is ∙ c.requires.none_unlinked in
+    let listed : IsListed (rows_of s.lists s.cells (next_of s.links.items)) c.args.cell =
+    subst (λ (r : Rows). IsListed r.lists c.args.cell) (sym c.self.view_is) c.requires.listed in
+    let few =
+    few_cell s.lists s.cells s.links.items s.stack.items s.depth held c.args.cell listed in
+    let near_prev =
+    few_prev s.lists s.cells s.links.items s.stack.items s.depth held c.args.cell listed in
+    let near_next =
+    few_next s.lists s.cells s.links.items s.stack.items s.depth held c.args.cell listed in
     omega arith
 
 pub bypass-requires-clause-near_next : goal.bypass-requires-clause-near_next
@@ -39,11 +49,16 @@ bypass-requires-clause-near_next c =
     let ok = s.links.ok in
     let room_links = held.room_links in
     let small = held.few in
-    let empty : (state_of s.lists s.cells s.links.items s.stack.items s.depth).stack ≡ [] = ap (λ (r : Rows). r.stack) c.self.view_is ∙ c.requires.none_unlinked in
-    let listed : IsListed (rows_of s.lists s.cells (next_of s.links.items)) c.args.cell = subst (λ (r : Rows). IsListed r.lists c.args.cell) (sym c.self.view_is) c.requires.listed in
-    let few = few_cell s.lists s.cells s.links.items s.stack.items s.depth held c.args.cell listed in
-    let near_prev = few_prev s.lists s.cells s.links.items s.stack.items s.depth held c.args.cell listed in
-    let near_next = few_next s.lists s.cells s.links.items s.stack.items s.depth held c.args.cell listed in
+    let empty : (state_of s.lists s.cells s.links.items s.stack.items s.depth).stack ≡ [] =
+    ap (λ (r : Rows). r.stack) c.self.view_is ∙ c.requires.none_unlinked in
+    let listed : IsListed (rows_of s.lists s.cells (next_of s.links.items)) c.args.cell =
+    subst (λ (r : Rows). IsListed r.lists c.args.cell) (sym c.self.view_is) c.requires.listed in
+    let few =
+    few_cell s.lists s.cells s.links.items s.stack.items s.depth held c.args.cell listed in
+    let near_prev =
+    few_prev s.lists s.cells s.links.items s.stack.items s.depth held c.args.cell listed in
+    let near_next =
+    few_next s.lists s.cells s.links.items s.stack.items s.depth held c.args.cell listed in
     omega arith
 
 pub invariant_of-self : goal.invariant_of-self
@@ -53,12 +68,19 @@ invariant_of-self c =
     let ok = s.links.ok in
     let room_links = held.room_links in
     let small = held.few in
-    let empty : (state_of s.lists s.cells s.links.items s.stack.items s.depth).stack ≡ [] = ap (λ (r : Rows). r.stack) c.self.view_is ∙ c.requires.none_unlinked in
-    let listed : IsListed (rows_of s.lists s.cells (next_of s.links.items)) c.args.cell = subst (λ (r : Rows). IsListed r.lists c.args.cell) (sym c.self.view_is) c.requires.listed in
-    let few = few_cell s.lists s.cells s.links.items s.stack.items s.depth held c.args.cell listed in
-    let near_prev = few_prev s.lists s.cells s.links.items s.stack.items s.depth held c.args.cell listed in
-    let near_next = few_next s.lists s.cells s.links.items s.stack.items s.depth held c.args.cell listed in
-    (take_state s.lists s.cells s.links.items s.stack.items s.depth held empty c.args.cell listed c.bypass.new.links.items c.bypass.ensures.next c.bypass.ensures.prev c.bypass.ensures.length).held
+    let empty : (state_of s.lists s.cells s.links.items s.stack.items s.depth).stack ≡ [] =
+    ap (λ (r : Rows). r.stack) c.self.view_is ∙ c.requires.none_unlinked in
+    let listed : IsListed (rows_of s.lists s.cells (next_of s.links.items)) c.args.cell =
+    subst (λ (r : Rows). IsListed r.lists c.args.cell) (sym c.self.view_is) c.requires.listed in
+    let few =
+    few_cell s.lists s.cells s.links.items s.stack.items s.depth held c.args.cell listed in
+    let near_prev =
+    few_prev s.lists s.cells s.links.items s.stack.items s.depth held c.args.cell listed in
+    let near_next =
+    few_next s.lists s.cells s.links.items s.stack.items s.depth held c.args.cell listed in
+    (take_state s.lists s.cells s.links.items s.stack.items s.depth held empty c.args.cell listed
+    c.bypass.new.links.items c.bypass.ensures.next c.bypass.ensures.prev
+    c.bypass.ensures.length).held
 
 pub returns : goal.returns
 returns c =
@@ -67,9 +89,16 @@ returns c =
     let ok = s.links.ok in
     let room_links = held.room_links in
     let small = held.few in
-    let empty : (state_of s.lists s.cells s.links.items s.stack.items s.depth).stack ≡ [] = ap (λ (r : Rows). r.stack) c.self.view_is ∙ c.requires.none_unlinked in
-    let listed : IsListed (rows_of s.lists s.cells (next_of s.links.items)) c.args.cell = subst (λ (r : Rows). IsListed r.lists c.args.cell) (sym c.self.view_is) c.requires.listed in
-    let few = few_cell s.lists s.cells s.links.items s.stack.items s.depth held c.args.cell listed in
-    let near_prev = few_prev s.lists s.cells s.links.items s.stack.items s.depth held c.args.cell listed in
-    let near_next = few_next s.lists s.cells s.links.items s.stack.items s.depth held c.args.cell listed in
-    (take_state s.lists s.cells s.links.items s.stack.items s.depth held empty c.args.cell listed c.bypass.new.links.items c.bypass.ensures.next c.bypass.ensures.prev c.bypass.ensures.length).state ∙ ap (λ r. with_taken r c.args.cell) c.self.view_is
+    let empty : (state_of s.lists s.cells s.links.items s.stack.items s.depth).stack ≡ [] =
+    ap (λ (r : Rows). r.stack) c.self.view_is ∙ c.requires.none_unlinked in
+    let listed : IsListed (rows_of s.lists s.cells (next_of s.links.items)) c.args.cell =
+    subst (λ (r : Rows). IsListed r.lists c.args.cell) (sym c.self.view_is) c.requires.listed in
+    let few =
+    few_cell s.lists s.cells s.links.items s.stack.items s.depth held c.args.cell listed in
+    let near_prev =
+    few_prev s.lists s.cells s.links.items s.stack.items s.depth held c.args.cell listed in
+    let near_next =
+    few_next s.lists s.cells s.links.items s.stack.items s.depth held c.args.cell listed in
+    (take_state s.lists s.cells s.links.items s.stack.items s.depth held empty c.args.cell listed
+    c.bypass.new.links.items c.bypass.ensures.next c.bypass.ensures.prev
+    c.bypass.ensures.length).state ∙ ap (λ r. with_taken r c.args.cell) c.self.view_is

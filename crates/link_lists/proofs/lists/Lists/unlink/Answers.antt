@@ -12,10 +12,14 @@ bypass-requires-clause-node c =
     let ok = s.links.ok in
     let room_links = held.room_links in
     let small = held.few in
-    let listed : IsListed (rows_of s.lists s.cells (next_of s.links.items)) c.args.cell = subst (λ (r : Rows). IsListed r.lists c.args.cell) (sym c.self.view_is) c.requires in
-    let few = few_cell s.lists s.cells s.links.items s.stack.items s.depth held c.args.cell listed in
-    let near_prev = few_prev s.lists s.cells s.links.items s.stack.items s.depth held c.args.cell listed in
-    let near_next = few_next s.lists s.cells s.links.items s.stack.items s.depth held c.args.cell listed in
+    let listed : IsListed (rows_of s.lists s.cells (next_of s.links.items)) c.args.cell =
+    subst (λ (r : Rows). IsListed r.lists c.args.cell) (sym c.self.view_is) c.requires in
+    let few =
+    few_cell s.lists s.cells s.links.items s.stack.items s.depth held c.args.cell listed in
+    let near_prev =
+    few_prev s.lists s.cells s.links.items s.stack.items s.depth held c.args.cell listed in
+    let near_next =
+    few_next s.lists s.cells s.links.items s.stack.items s.depth held c.args.cell listed in
     let deep = room s.lists s.cells s.links.items s.stack.items s.depth held c.args.cell listed in
     let room_stack = held.room_stack in
     let ok_stack = s.stack.ok in
@@ -28,10 +32,14 @@ bypass-requires-clause-near_prev c =
     let ok = s.links.ok in
     let room_links = held.room_links in
     let small = held.few in
-    let listed : IsListed (rows_of s.lists s.cells (next_of s.links.items)) c.args.cell = subst (λ (r : Rows). IsListed r.lists c.args.cell) (sym c.self.view_is) c.requires in
-    let few = few_cell s.lists s.cells s.links.items s.stack.items s.depth held c.args.cell listed in
-    let near_prev = few_prev s.lists s.cells s.links.items s.stack.items s.depth held c.args.cell listed in
-    let near_next = few_next s.lists s.cells s.links.items s.stack.items s.depth held c.args.cell listed in
+    let listed : IsListed (rows_of s.lists s.cells (next_of s.links.items)) c.args.cell =
+    subst (λ (r : Rows). IsListed r.lists c.args.cell) (sym c.self.view_is) c.requires in
+    let few =
+    few_cell s.lists s.cells s.links.items s.stack.items s.depth held c.args.cell listed in
+    let near_prev =
+    few_prev s.lists s.cells s.links.items s.stack.items s.depth held c.args.cell listed in
+    let near_next =
+    few_next s.lists s.cells s.links.items s.stack.items s.depth held c.args.cell listed in
     let deep = room s.lists s.cells s.links.items s.stack.items s.depth held c.args.cell listed in
     let room_stack = held.room_stack in
     let ok_stack = s.stack.ok in
@@ -44,10 +52,14 @@ bypass-requires-clause-near_next c =
     let ok = s.links.ok in
     let room_links = held.room_links in
     let small = held.few in
-    let listed : IsListed (rows_of s.lists s.cells (next_of s.links.items)) c.args.cell = subst (λ (r : Rows). IsListed r.lists c.args.cell) (sym c.self.view_is) c.requires in
-    let few = few_cell s.lists s.cells s.links.items s.stack.items s.depth held c.args.cell listed in
-    let near_prev = few_prev s.lists s.cells s.links.items s.stack.items s.depth held c.args.cell listed in
-    let near_next = few_next s.lists s.cells s.links.items s.stack.items s.depth held c.args.cell listed in
+    let listed : IsListed (rows_of s.lists s.cells (next_of s.links.items)) c.args.cell =
+    subst (λ (r : Rows). IsListed r.lists c.args.cell) (sym c.self.view_is) c.requires in
+    let few =
+    few_cell s.lists s.cells s.links.items s.stack.items s.depth held c.args.cell listed in
+    let near_prev =
+    few_prev s.lists s.cells s.links.items s.stack.items s.depth held c.args.cell listed in
+    let near_next =
+    few_next s.lists s.cells s.links.items s.stack.items s.depth held c.args.cell listed in
     let deep = room s.lists s.cells s.links.items s.stack.items s.depth held c.args.cell listed in
     let room_stack = held.room_stack in
     let ok_stack = s.stack.ok in
@@ -60,10 +72,14 @@ index_mut-requires c =
     let ok = s.links.ok in
     let room_links = held.room_links in
     let small = held.few in
-    let listed : IsListed (rows_of s.lists s.cells (next_of s.links.items)) c.args.cell = subst (λ (r : Rows). IsListed r.lists c.args.cell) (sym c.self.view_is) c.requires in
-    let few = few_cell s.lists s.cells s.links.items s.stack.items s.depth held c.args.cell listed in
-    let near_prev = few_prev s.lists s.cells s.links.items s.stack.items s.depth held c.args.cell listed in
-    let near_next = few_next s.lists s.cells s.links.items s.stack.items s.depth held c.args.cell listed in
+    let listed : IsListed (rows_of s.lists s.cells (next_of s.links.items)) c.args.cell =
+    subst (λ (r : Rows). IsListed r.lists c.args.cell) (sym c.self.view_is) c.requires in
+    let few =
+    few_cell s.lists s.cells s.links.items s.stack.items s.depth held c.args.cell listed in
+    let near_prev =
+    few_prev s.lists s.cells s.links.items s.stack.items s.depth held c.args.cell listed in
+    let near_next =
+    few_next s.lists s.cells s.links.items s.stack.items s.depth held c.args.cell listed in
     let deep = room s.lists s.cells s.links.items s.stack.items s.depth held c.args.cell listed in
     let room_stack = held.room_stack in
     let ok_stack = s.stack.ok in
@@ -76,10 +92,14 @@ overflow_add-self c =
     let ok = s.links.ok in
     let room_links = held.room_links in
     let small = held.few in
-    let listed : IsListed (rows_of s.lists s.cells (next_of s.links.items)) c.args.cell = subst (λ (r : Rows). IsListed r.lists c.args.cell) (sym c.self.view_is) c.requires in
-    let few = few_cell s.lists s.cells s.links.items s.stack.items s.depth held c.args.cell listed in
-    let near_prev = few_prev s.lists s.cells s.links.items s.stack.items s.depth held c.args.cell listed in
-    let near_next = few_next s.lists s.cells s.links.items s.stack.items s.depth held c.args.cell listed in
+    let listed : IsListed (rows_of s.lists s.cells (next_of s.links.items)) c.args.cell =
+    subst (λ (r : Rows). IsListed r.lists c.args.cell) (sym c.self.view_is) c.requires in
+    let few =
+    few_cell s.lists s.cells s.links.items s.stack.items s.depth held c.args.cell listed in
+    let near_prev =
+    few_prev s.lists s.cells s.links.items s.stack.items s.depth held c.args.cell listed in
+    let near_next =
+    few_next s.lists s.cells s.links.items s.stack.items s.depth held c.args.cell listed in
     let deep = room s.lists s.cells s.links.items s.stack.items s.depth held c.args.cell listed in
     let room_stack = held.room_stack in
     let ok_stack = s.stack.ok in
@@ -92,14 +112,20 @@ invariant_of-self c =
     let ok = s.links.ok in
     let room_links = held.room_links in
     let small = held.few in
-    let listed : IsListed (rows_of s.lists s.cells (next_of s.links.items)) c.args.cell = subst (λ (r : Rows). IsListed r.lists c.args.cell) (sym c.self.view_is) c.requires in
-    let few = few_cell s.lists s.cells s.links.items s.stack.items s.depth held c.args.cell listed in
-    let near_prev = few_prev s.lists s.cells s.links.items s.stack.items s.depth held c.args.cell listed in
-    let near_next = few_next s.lists s.cells s.links.items s.stack.items s.depth held c.args.cell listed in
+    let listed : IsListed (rows_of s.lists s.cells (next_of s.links.items)) c.args.cell =
+    subst (λ (r : Rows). IsListed r.lists c.args.cell) (sym c.self.view_is) c.requires in
+    let few =
+    few_cell s.lists s.cells s.links.items s.stack.items s.depth held c.args.cell listed in
+    let near_prev =
+    few_prev s.lists s.cells s.links.items s.stack.items s.depth held c.args.cell listed in
+    let near_next =
+    few_next s.lists s.cells s.links.items s.stack.items s.depth held c.args.cell listed in
     let deep = room s.lists s.cells s.links.items s.stack.items s.depth held c.args.cell listed in
     let room_stack = held.room_stack in
     let ok_stack = s.stack.ok in
-    (unlink_state s.lists s.cells s.links.items s.stack.items s.depth held c.args.cell listed c.bypass.new.links.items c.bypass.ensures.next c.bypass.ensures.prev c.bypass.ensures.length).held
+    (unlink_state s.lists s.cells s.links.items s.stack.items s.depth held c.args.cell listed
+    c.bypass.new.links.items c.bypass.ensures.next c.bypass.ensures.prev
+    c.bypass.ensures.length).held
 
 pub returns-clause-unlinked : goal.returns-clause-unlinked
 returns-clause-unlinked c =
@@ -108,14 +134,20 @@ returns-clause-unlinked c =
     let ok = s.links.ok in
     let room_links = held.room_links in
     let small = held.few in
-    let listed : IsListed (rows_of s.lists s.cells (next_of s.links.items)) c.args.cell = subst (λ (r : Rows). IsListed r.lists c.args.cell) (sym c.self.view_is) c.requires in
-    let few = few_cell s.lists s.cells s.links.items s.stack.items s.depth held c.args.cell listed in
-    let near_prev = few_prev s.lists s.cells s.links.items s.stack.items s.depth held c.args.cell listed in
-    let near_next = few_next s.lists s.cells s.links.items s.stack.items s.depth held c.args.cell listed in
+    let listed : IsListed (rows_of s.lists s.cells (next_of s.links.items)) c.args.cell =
+    subst (λ (r : Rows). IsListed r.lists c.args.cell) (sym c.self.view_is) c.requires in
+    let few =
+    few_cell s.lists s.cells s.links.items s.stack.items s.depth held c.args.cell listed in
+    let near_prev =
+    few_prev s.lists s.cells s.links.items s.stack.items s.depth held c.args.cell listed in
+    let near_next =
+    few_next s.lists s.cells s.links.items s.stack.items s.depth held c.args.cell listed in
     let deep = room s.lists s.cells s.links.items s.stack.items s.depth held c.args.cell listed in
     let room_stack = held.room_stack in
     let ok_stack = s.stack.ok in
-    (unlink_state s.lists s.cells s.links.items s.stack.items s.depth held c.args.cell listed c.bypass.new.links.items c.bypass.ensures.next c.bypass.ensures.prev c.bypass.ensures.length).state ∙ ap (λ r. unlinked r c.args.cell) c.self.view_is
+    (unlink_state s.lists s.cells s.links.items s.stack.items s.depth held c.args.cell listed
+    c.bypass.new.links.items c.bypass.ensures.next c.bypass.ensures.prev
+    c.bypass.ensures.length).state ∙ ap (λ r. unlinked r c.args.cell) c.self.view_is
 
 pub returns-clause-undone : goal.returns-clause-undone
 returns-clause-undone c =
@@ -124,12 +156,21 @@ returns-clause-undone c =
     let ok = s.links.ok in
     let room_links = held.room_links in
     let small = held.few in
-    let listed : IsListed (rows_of s.lists s.cells (next_of s.links.items)) c.args.cell = subst (λ (r : Rows). IsListed r.lists c.args.cell) (sym c.self.view_is) c.requires in
-    let few = few_cell s.lists s.cells s.links.items s.stack.items s.depth held c.args.cell listed in
-    let near_prev = few_prev s.lists s.cells s.links.items s.stack.items s.depth held c.args.cell listed in
-    let near_next = few_next s.lists s.cells s.links.items s.stack.items s.depth held c.args.cell listed in
+    let listed : IsListed (rows_of s.lists s.cells (next_of s.links.items)) c.args.cell =
+    subst (λ (r : Rows). IsListed r.lists c.args.cell) (sym c.self.view_is) c.requires in
+    let few =
+    few_cell s.lists s.cells s.links.items s.stack.items s.depth held c.args.cell listed in
+    let near_prev =
+    few_prev s.lists s.cells s.links.items s.stack.items s.depth held c.args.cell listed in
+    let near_next =
+    few_next s.lists s.cells s.links.items s.stack.items s.depth held c.args.cell listed in
     let deep = room s.lists s.cells s.links.items s.stack.items s.depth held c.args.cell listed in
     let room_stack = held.room_stack in
     let ok_stack = s.stack.ok in
-    ap relinked (unlink_state s.lists s.cells s.links.items s.stack.items s.depth held c.args.cell listed c.bypass.new.links.items c.bypass.ensures.next c.bypass.ensures.prev c.bypass.ensures.length).state
-    ∙ (relink_undoes_unlink (state_of s.lists s.cells s.links.items s.stack.items s.depth) c.args.cell (apart_lists s.lists s.cells s.links.items s.stack.items s.depth held) listed ∙ c.self.view_is)
+    ap relinked
+    (unlink_state s.lists s.cells s.links.items s.stack.items s.depth held c.args.cell listed
+    c.bypass.new.links.items c.bypass.ensures.next c.bypass.ensures.prev
+    c.bypass.ensures.length).state
+    ∙ (relink_undoes_unlink (state_of s.lists s.cells s.links.items s.stack.items s.depth)
+    c.args.cell (apart_lists s.lists s.cells s.links.items s.stack.items s.depth held) listed
+    ∙ c.self.view_is)

@@ -5,4 +5,5 @@ pub invariant_of-result : goal.invariant_of-result
 invariant_of-result c = way_first c.args.self.now c.args.list c.first.result c.first.ensures
 
 pub returns : goal.returns
-returns c = left_first c.args.self.now c.args.list c.first.result c.are_apart.ensures.apart c.first.ensures
+returns c =
+    left_first c.args.self.now c.args.list c.first.result c.are_apart.ensures.apart c.first.ensures

@@ -11,5 +11,7 @@ has-requires c =
     let lt = c.front-test.true in
     let room = held.room in
     let deep = held.deep in
-    read_below s.order.items c.args.self.now.taken s.count c.front.front c.index.result.now (omega arith) (omega arith) (ap (λ (k : Candidates). k.taken) c.self.view_is)
-    (get_or_read s.order.items c.front.front c.index.result.now (omega arith) c.index.ensures 0) 128 held.kept.below
+    read_below s.order.items c.args.self.now.taken s.count c.front.front c.index.result.now
+    (omega arith) (omega arith) (ap (λ (k : Candidates). k.taken) c.self.view_is)
+    (get_or_read s.order.items c.front.front c.index.result.now (omega arith) c.index.ensures 0) 128
+    held.kept.below

@@ -4,4 +4,5 @@ use Rattle.neutral_extension.proofs.KeptLemmas.{first_lacks, lacks_first, lacks_
 use Rattle.neutral_extension.proofs.makers.Makers.lacks.Goals as goal
 
 pub returns : goal.returns
-returns c = lacks_from c.first.result c.is_none.result c.is_none.ensures ∙ (ap lacks_first c.first.ensures ∙ first_lacks (left c.args.self.now c.args.x))
+returns c = lacks_from c.first.result c.is_none.result c.is_none.ensures
+    ∙ (ap lacks_first c.first.ensures ∙ first_lacks (left c.args.self.now c.args.x))

@@ -14,7 +14,8 @@ invariant_of-result c =
     let o = c.in_ok-order.order.items in
     let ok = c.in_ok-order.order.ok in
     let room = c.in_ok-order.ensures.len in
-    subst (λ (m : List (List ℕ)). IsOrdered r m o 0) (sym (makers_full r k.0 k.2)) (open_all r o k.0 k.2 (omega arith) k.1.sets (omega arith))
+    subst (λ (m : List (List ℕ)). IsOrdered r m o 0) (sym (makers_full r k.0 k.2))
+    (open_all r o k.0 k.2 (omega arith) k.1.sets (omega arith))
 
 pub returns-clause-makers : goal.returns-clause-makers
 returns-clause-makers c =

@@ -12,8 +12,10 @@ with-out-requires c =
     let lt = c.units-test.true in
     let room = held.room in
     let deep = held.deep in
-    read_below s.order.items c.args.self.now.taken s.count c.units.i c.index.result.now (omega arith) (omega arith) (ap (λ (k : Candidates). k.taken) c.self.view_is)
-    (get_or_read s.order.items c.units.i c.index.result.now (omega arith) c.index.ensures 0) 128 held.kept.below
+    read_below s.order.items c.args.self.now.taken s.count c.units.i c.index.result.now
+    (omega arith) (omega arith) (ap (λ (k : Candidates). k.taken) c.self.view_is)
+    (get_or_read s.order.items c.units.i c.index.result.now (omega arith) c.index.ensures 0) 128
+    held.kept.below
 
 pub units-preserved : goal.units-preserved
 units-preserved c =
@@ -23,5 +25,7 @@ units-preserved c =
     let room = held.room in
     let deep = held.deep in
     λ v. ap (λ xs. has xs v) c.with-out.ensures
-    ∙ read_more s.order.items c.args.self.now.taken s.count c.units.i c.index.result.now (omega arith) (omega arith) (ap (λ (k : Candidates). k.taken) c.self.view_is)
-    (get_or_read s.order.items c.units.i c.index.result.now (omega arith) c.index.ensures 0) c.units.out c.units.invariant v
+    ∙ read_more s.order.items c.args.self.now.taken s.count c.units.i c.index.result.now
+    (omega arith) (omega arith) (ap (λ (k : Candidates). k.taken) c.self.view_is)
+    (get_or_read s.order.items c.units.i c.index.result.now (omega arith) c.index.ensures 0)
+    c.units.out c.units.invariant v

@@ -11,5 +11,8 @@ invariant_of-result c =
       one = ap (λ (r : Rows). length r.lists) c.in_ok-open.ensures;
       linked = ap (λ (r : Rows). r.stack) c.in_ok-open.ensures;
       cells = ap (λ (r : Rows). r.cells) c.in_ok-open.ensures;
-      marked = subst (λ marks. AreMarked marks leaves) (sym (c.in_ok-vec.ensures.items_if_clones_equal (λ y e. e))) (none_marked c.args.room leaves);
+      marked =
+          subst (λ marks. AreMarked marks leaves)
+          (sym (c.in_ok-vec.ensures.items_if_clones_equal (λ y e. e)))
+          (none_marked c.args.room leaves);
     }

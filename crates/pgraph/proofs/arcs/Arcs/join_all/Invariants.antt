@@ -5,7 +5,8 @@ use Rattle.pgraph.proofs.arcs.Arcs.join_all.Given as goal
 
 abbrev pub invariant-loop-term : goal.invariant-loop-term
 invariant-loop-term l = record {
-  joined : (v y : ℕ) → joins l.self v y ≡ (((l.fn.u == v) && terms_have (take l.term-index l.terms) y) || joins l.fn.self v y);
+  joined : (v y : ℕ) → joins l.self v y
+      ≡ (((l.fn.u == v) && terms_have (take l.term-index l.terms) y) || joins l.fn.self v y);
   units : length l.self.materials ≡ length l.fn.self.materials;
   materials : length l.self.units ≡ length l.fn.self.units;
 }

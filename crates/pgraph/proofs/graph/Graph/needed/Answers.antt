@@ -12,4 +12,5 @@ returns c = λ i. λ x.
     (ap (λ xs. has xs x) c.minus.ensures
     ∙ (has-minus c.used.result c.raws.result x
     ∙ (and_swap (has c.used.result x) (not (has c.raws.result x))
-    ∙ ap₂ (λ (a b : Bool). not a && b) (ap (λ t. t x) c.raws.ensures) (ap (λ t. t x) c.used.ensures)))))) i
+    ∙ ap₂ (λ (a b : Bool). not a && b) (ap (λ t. t x) c.raws.ensures)
+    (ap (λ t. t x) c.used.ensures)))))) i

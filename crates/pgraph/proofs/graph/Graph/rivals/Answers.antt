@@ -7,5 +7,6 @@ use Rattle.pgraph.proofs.graph.Graph.rivals.Goals as goal
 
 pub returns : goal.returns
 returns c =
-    subst (λ (xs : List ℕ). (u : ℕ) → (has xs u ≡ true) ↔ IsRival (shape c.args.self.now) (has c.args.set) u) (sym c.minus.ensures)
+    subst (λ (xs : List ℕ). (u : ℕ) → (has xs u ≡ true)
+    ↔ IsRival (shape c.args.self.now) (has c.args.set) u) (sym c.minus.ensures)
     (rival_is (shape c.args.self.now) c.args.set c.sharing.result c.sharing.ensures)

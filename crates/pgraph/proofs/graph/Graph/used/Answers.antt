@@ -8,5 +8,6 @@ use Rattle.pgraph.proofs.graph.Graph.used.Goals as goal
 pub returns : goal.returns
 returns c =
     c.materials_of.ensures
-    ∙ (ap (λ n. λ (x : ℕ). any_below n (λ u. has c.args.set u && joins c.self.inside.inputs u x)) refl
+    ∙ (ap (λ n. λ (x : ℕ). any_below n (λ u. has c.args.set u && joins c.self.inside.inputs u x))
+    refl
     ∙ ap (λ (t : Tables). λ (x : ℕ). is_used (shape t) (has c.args.set) x) c.self.view_is)

@@ -10,6 +10,7 @@ returns c =
     record {
       added =
           ap (λ keys. map string_bytes keys) c.in_ok-insert.ensures.keys
-          ∙ (names-insert_key c.self.inside.names.keys c.in_ok-name.name ((λ i. is_among (is i) (same i)) ∙ c.requires)
+          ∙ (names-insert_key c.self.inside.names.keys c.in_ok-name.name
+          ((λ i. is_among (is i) (same i)) ∙ c.requires)
           ∙ (λ i. is i ++ same i ∷ []));
     }

@@ -9,6 +9,10 @@ invariant_of-self c =
     let p = c.self.inside.parts in
     let fits : SFits w64 c.args.fix = search rules in
     let to : c.set_fix.new.self ≡ with_unit p c.args.u (λ w. record w { fix = c.args.fix })
-    = c.set_fix.ensures ∙ ap (λ (z : ℤ). with_unit p c.args.u (λ w. record w { fix = z })) (to_z-of_z w64 c.args.fix fits) in
-    unit_set p c.args.self.now c.set_fix.new.self c.args.u (λ (w : OperatingUnit). record w { fix = c.args.fix })
-    c.self.inside.materials c.self.inside.units (λ w. refl) c.self.view_is to c.self.invariant c.requires.valid
+    = c.set_fix.ensures
+    ∙ ap (λ (z : ℤ). with_unit p c.args.u (λ w. record w { fix = z }))
+    (to_z-of_z w64 c.args.fix fits) in
+    unit_set p c.args.self.now c.set_fix.new.self c.args.u
+    (λ (w : OperatingUnit). record w { fix = c.args.fix })
+    c.self.inside.materials c.self.inside.units (λ w. refl) c.self.view_is to c.self.invariant
+    c.requires.valid

@@ -13,8 +13,12 @@ invariant_of-self-2 c =
     let fs = c.self.inside.found.items in
     let old : Listed = record { count = c.self.inside.count; found = fs } in
     let same : c.args.self.now.found ≡ fs = sym (ap (λ (l : Listed). l.found) c.self.view_is) in
-    let low = subst (λ (gs : List FoundAt). AreNoDearer (take at gs) w) same c.place_for-at.ensures.low in
-    let high = subst (λ (gs : List FoundAt). AreDearer (drop at gs) w) same c.place_for-at.ensures.high in
-    let cut : c.truncate.new.self.items ≡ take c.self.inside.count (take at fs ++ f ∷ drop at fs) = search rules in
+    let low =
+    subst (λ (gs : List FoundAt). AreNoDearer (take at gs) w) same c.place_for-at.ensures.low in
+    let high =
+    subst (λ (gs : List FoundAt). AreDearer (drop at gs) w) same c.place_for-at.ensures.high in
+    let cut : c.truncate.new.self.items ≡ take c.self.inside.count (take at fs ++ f ∷ drop at fs) =
+    search rules in
     let new : Listed = record { count = c.self.inside.count; found = c.truncate.new.self.items } in
-    listed_more old new f c.self.invariant c.is_sized.ensures.sized.positive (added old new f at low high refl cut)
+    listed_more old new f c.self.invariant c.is_sized.ensures.sized.positive
+    (added old new f at low high refl cut)

@@ -1,5 +1,6 @@
 use Rattle.std.specs.Prelude.{Result, Ok, Err, OnErr}
-use Rattle.std.proofs.Common.{◌≡◌, ◌++◌, ◌∷◌, [], List, Option, length, take, refl, sym, ap, subst, ◌∙◌, append_assoc, append-nil, length-append, arith}
+use Rattle.std.proofs.Common.{◌≡◌, ◌++◌, ◌∷◌, [], List, Option, length, take, refl, sym, ap, subst}
+use Rattle.std.proofs.Common.{◌∙◌, append_assoc, append-nil, length-append, arith}
 use Rattle.std.proofs.Math.Seq.{take-append_seam}
 use Rattle.std.specs.Vec.Iter.{into_iter_items}
 use Rattle.tree_rules.specs.Claim.{Network}
@@ -27,9 +28,13 @@ pub networks-preserved : goal.networks-preserved
 networks-preserved c =
     let at = c.networks in
     let x = c.in-Some.network in
-    let steps : into_iter_items at.network-iterator ≡ x ∷ into_iter_items c.next.new.self = c.in-Some.ensures.steps.0 in (
+    let steps : into_iter_items at.network-iterator ≡ x ∷ into_iter_items c.next.new.self =
+    c.in-Some.ensures.steps.0 in (
       append_assoc at.yielded (x ∷ []) _ ∙ rw (← steps) at.invariant.0,
-      added_last c.args.self.now at.self c.add_some.new.self c.args.first at.yielded x at.invariant.1 (subst (λ k. IsSomeAdded at.self c.add_some.new.self k x) at.invariant.3 c.in_ok-add_some.ensures.added),
+      added_last c.args.self.now at.self c.add_some.new.self c.args.first at.yielded x
+          at.invariant.1
+          (subst (λ k. IsSomeAdded at.self c.add_some.new.self k x) at.invariant.3
+          c.in_ok-add_some.ensures.added),
       (let was = at.invariant.2 in
           let gone = c.in-Some.ensures.steps.1 in
           let short = ap (λ (ws : List (Option Network)). length ws) steps in
@@ -41,9 +46,12 @@ pub returns-clause-added : goal.returns-clause-added
 returns-clause-added c =
     let at = c.networks in
     let none = c.in-None.ensures.steps in
-    let empty : into_iter_items at.network-iterator ≡ [] = nothing_left _ (sym at.invariant.2 ∙ none.0) in
-    let all = sym (append-nil at.yielded) ∙ rw empty at at.invariant.0 ∙ c.into_iter-network-iterator.ensures.into_iter_gives.0 in
-    subst (λ (ws : List (Option Network)). AreAdded c.args.self.now at.self c.args.first ws) all at.invariant.1
+    let empty : into_iter_items at.network-iterator ≡ [] =
+    nothing_left _ (sym at.invariant.2 ∙ none.0) in
+    let all = sym (append-nil at.yielded) ∙ rw empty at at.invariant.0
+    ∙ c.into_iter-network-iterator.ensures.into_iter_gives.0 in
+    subst (λ (ws : List (Option Network)). AreAdded c.args.self.now at.self c.args.first ws) all
+    at.invariant.1
 
 -- what holds holds after an error
 after_err : {T E : Type 0} (r : Result T E) (P : Type 0) → P → OnErr r P
@@ -58,8 +66,15 @@ returns-in_err-add_some-clause-front c =
     let all : at.yielded ++ into_iter_items at.network-iterator ≡ ws
     = at.invariant.0 ∙ c.into_iter-network-iterator.ensures.into_iter_gives.0 in
     let few : take (length at.yielded) ws ≡ at.yielded
-    = subst (λ (vs : List (Option Network)). take (length at.yielded) vs ≡ at.yielded) all (take-append_seam at.yielded (into_iter_items at.network-iterator)) in
+    = subst (λ (vs : List (Option Network)). take (length at.yielded) vs ≡ at.yielded) all
+    (take-append_seam at.yielded (into_iter_items at.network-iterator)) in
     let same : AreAdded c.args.self.now c.add_some.new.self c.args.first at.yielded
-    = subst (λ (l : Listed). AreAdded c.args.self.now l c.args.first at.yielded) (sym c.in_err-add_some.ensures.same) at.invariant.1 in
-    after_err c.from_residual.result (IsFrontAdded c.args.self.now c.add_some.new.self c.args.first ws)
-    (length at.yielded, subst (λ (vs : List (Option Network)). AreAdded c.args.self.now c.add_some.new.self c.args.first vs) (sym few) same)
+    = subst (λ (l : Listed). AreAdded c.args.self.now l c.args.first at.yielded)
+    (sym c.in_err-add_some.ensures.same) at.invariant.1 in
+    after_err c.from_residual.result
+    (IsFrontAdded c.args.self.now c.add_some.new.self c.args.first ws) (
+      length at.yielded,
+      subst
+          (λ (vs : List (Option Network)). AreAdded c.args.self.now c.add_some.new.self c.args.first
+          vs) (sym few) same,
+    )

@@ -4,7 +4,8 @@ use Rattle.rank_search.specs.Listed.{AreAdded}
 use Rattle.rank_search.proofs.found.FoundNetworks.add_all.Given as goal
 
 abbrev pub invariant-networks : goal.invariant-networks
-invariant-networks l = (l.yielded ++ into_iter_items l.network-iterator ≡ into_iter_items l.initial.network-iterator)
+invariant-networks l = (l.yielded ++ into_iter_items l.network-iterator
+    ≡ into_iter_items l.initial.network-iterator)
     × AreAdded l.fn.self l.self l.fn.first l.yielded
     × (into_iter_len l.network-iterator ≡ length (into_iter_items l.network-iterator))
     × (l.leaf ≡ l.fn.first + length l.yielded)

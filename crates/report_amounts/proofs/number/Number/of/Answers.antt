@@ -11,4 +11,6 @@ returns c =
     let f : SFits w128 c.args.num = search rules in
     let g : SFits w128 c.args.den = search rules in
     let told = simp to_z-of_z at c.of.ensures.value in
-    ap (λ (f : Fraction). Some f) (sym (lowest_is c.args.num c.args.den c.of.result.num c.of.result.den c.requires.positive told))
+    ap (λ (f : Fraction). Some f)
+    (sym
+    (lowest_is c.args.num c.args.den c.of.result.num c.of.result.den c.requires.positive told))

@@ -8,10 +8,29 @@ use Rattle.searches.proofs.certificate.Certificate.reads_back.Goals as goal
 pub returns : goal.returns
 returns c =
     let q : Certificate = c.args.self.now in
-    let whole : IsTree q.tree = subst (λ (d : Certificate). IsTree d.tree) c.self.view_is c.is_tree.ensures in
+    let whole : IsTree q.tree =
+    subst (λ (d : Certificate). IsTree d.tree) c.self.view_is c.is_tree.ensures in
     c.spelled_texts_read.ensures c.args.problem.now c.is_valid.ensures.valid q
     (record {
-      claim = record { known = c.requires.claim; kept = subst (λ (d : Certificate). KeepsClaim d.claim) c.self.view_is c.claim_is_kept.ensures };
-      tree = record { whole = whole; known = c.requires.tree; counted = tree_counted q.tree whole c.requires.few };
-      tail = record { known = c.requires.tail; counted = subst (λ (d : Certificate). CountsTail d.tail) c.self.view_is c.tail_is_counted.ensures };
+      claim =
+          record {
+            known = c.requires.claim;
+            kept =
+                subst (λ (d : Certificate). KeepsClaim d.claim) c.self.view_is
+                c.claim_is_kept.ensures;
+          };
+      tree =
+          record {
+            whole = whole;
+            known = c.requires.tree;
+            counted =
+                tree_counted q.tree whole c.requires.few;
+          };
+      tail =
+          record {
+            known = c.requires.tail;
+            counted =
+                subst (λ (d : Certificate). CountsTail d.tail) c.self.view_is
+                c.tail_is_counted.ensures;
+          };
     })

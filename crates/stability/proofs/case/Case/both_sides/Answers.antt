@@ -14,8 +14,15 @@ returns-clause-range g c =
     let above = c.in_ok-above.above in
     let f1 : SFits w64 c.value.result = search rules in
     let f2 : SFits w64 c.value-2.result = search rules in
-    let low : to_z w64 (of_z w64 c.value.result) ≡ there k Below below.away = simp to_z-of_z c.value.ensures in
-    let high : to_z w64 (of_z w64 c.value-2.result) ≡ there k Above above.away = simp to_z-of_z c.value-2.ensures in
-    subst (λ (v : ℤ). IsRange k.problem k.spot k.network v (to_z w64 (of_z w64 c.value-2.result)) below.beyond above.beyond) (sym low)
-    (subst (λ (v : ℤ). IsRange k.problem k.spot k.network (there k Below below.away) v below.beyond above.beyond) (sym high)
-    (range_from c.best_between.ensures.between k c.is_known.ensures.known below above c.in_ok-below.ensures.end c.in_ok-above.ensures.end))
+    let low : to_z w64 (of_z w64 c.value.result) ≡ there k Below below.away =
+    simp to_z-of_z c.value.ensures in
+    let high : to_z w64 (of_z w64 c.value-2.result) ≡ there k Above above.away =
+    simp to_z-of_z c.value-2.ensures in
+    subst
+    (λ (v : ℤ). IsRange k.problem k.spot k.network v (to_z w64 (of_z w64 c.value-2.result))
+    below.beyond above.beyond) (sym low)
+    (subst
+    (λ (v : ℤ). IsRange k.problem k.spot k.network (there k Below below.away) v below.beyond
+    above.beyond) (sym high)
+    (range_from c.best_between.ensures.between k c.is_known.ensures.known below above
+    c.in_ok-below.ensures.end c.in_ok-above.ensures.end))

@@ -7,4 +7,5 @@ pub meeting-requires-clause-allowed : goal.meeting-requires-clause-allowed
 meeting-requires-clause-allowed g c =
     let k = c.args.self.now in
     let h = c.requires.is_bracket in
-    nearer_allowed k.spot c.args.side (value_at k.problem k.spot) 1 c.args.bracket.now.bad h.now_allowed h.allowed (omega arith)
+    nearer_allowed k.spot c.args.side (value_at k.problem k.spot) 1 c.args.bracket.now.bad
+    h.now_allowed h.allowed (omega arith)

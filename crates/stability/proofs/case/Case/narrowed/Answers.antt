@@ -7,7 +7,8 @@ pub probe_at-requires-clause-allowed : goal.probe_at-requires-clause-allowed
 probe_at-requires-clause-allowed g c =
     let k = c.args.self.now in
     let h = c.requires.is_bracket in
-    nearer_allowed k.spot c.args.side (value_at k.problem k.spot) c.next-next.result c.args.bracket.bad h.now_allowed h.allowed (omega arith)
+    nearer_allowed k.spot c.args.side (value_at k.problem k.spot) c.next-next.result
+    c.args.bracket.bad h.now_allowed h.allowed (omega arith)
 
 pub returns-in-Err-clause-is_bracket : goal.returns-in-Err-clause-is_bracket
 returns-in-Err-clause-is_bracket g c =
@@ -19,6 +20,8 @@ returns-in-Err-clause-is_bracket g c =
       best_now = h.best_now;
       best_good = h.best_good;
       less = c.next-next.ensures.above;
-      allowed = nearer_allowed k.spot c.args.side (value_at k.problem k.spot) c.next-next.result c.args.bracket.bad h.now_allowed h.allowed (omega arith);
+      allowed =
+          nearer_allowed k.spot c.args.side (value_at k.problem k.spot) c.next-next.result
+          c.args.bracket.bad h.now_allowed h.allowed (omega arith);
       is_beyond = c.in-Err.ensures.stopped;
     }

@@ -10,5 +10,9 @@ pub returns-clause-probed : goal.returns-clause-probed
 returns-clause-probed g c =
     let k = c.args.self.now in
     let fits : SFits w64 c.value.result = search rules in
-    let at : to_z w64 (of_z w64 c.value.result) ≡ value_on c.args.side (value_at k.problem k.spot) c.args.away = simp to_z-of_z c.value.ensures in
-    subst (λ (v : ℤ). IfOk c.probe.result (IsProbed k.problem k.spot k.network v)) at c.probe.ensures.probed
+    let at : to_z w64 (of_z w64 c.value.result)
+    ≡ value_on c.args.side (value_at k.problem k.spot) c.args.away =
+    simp to_z-of_z c.value.ensures in
+    subst
+    (λ (v : ℤ). IfOk c.probe.result
+    (IsProbed k.problem k.spot k.network v)) at c.probe.ensures.probed

@@ -16,8 +16,10 @@ set-requires-clause-known g c =
     let k = c.args.case.now in
     let p = c.self.inside.problem in
     let spot : c.case.inside.spot ≡ k.spot = ap (λ (x : Case). x.spot) c.case.view_is in
-    let is : p ≡ valued k.problem k.spot c.requires.desk.value = ap (λ (d : Desk). d.problem) c.self.view_is ∙ c.requires.desk.problem in
-    subst (λ (s : Spot). KnowsSpot p s) (sym spot) (set_knows k.problem p k.spot c.is_known.ensures.known c.requires.desk.value is)
+    let is : p ≡ valued k.problem k.spot c.requires.desk.value =
+    ap (λ (d : Desk). d.problem) c.self.view_is ∙ c.requires.desk.problem in
+    subst (λ (s : Spot). KnowsSpot p s) (sym spot)
+    (set_knows k.problem p k.spot c.is_known.ensures.known c.requires.desk.value is)
 
 pub set-requires-clause-valid : goal.set-requires-clause-valid
 set-requires-clause-valid g c =
@@ -26,10 +28,13 @@ set-requires-clause-valid g c =
     let fits : SFits w64 c.args.value = search rules in
     let value : to_z w64 (of_z w64 c.args.value) ≡ c.args.value = simp to_z-of_z in
     let spot : c.case.inside.spot ≡ k.spot = ap (λ (x : Case). x.spot) c.case.view_is in
-    let is : p ≡ valued k.problem k.spot c.requires.desk.value = ap (λ (d : Desk). d.problem) c.self.view_is ∙ c.requires.desk.problem in
-    let same : valued p c.case.inside.spot (to_z w64 (of_z w64 c.args.value)) ≡ valued p k.spot c.args.value = λ i. valued p (spot i) (value i) in
+    let is : p ≡ valued k.problem k.spot c.requires.desk.value =
+    ap (λ (d : Desk). d.problem) c.self.view_is ∙ c.requires.desk.problem in
+    let same : valued p c.case.inside.spot (to_z w64 (of_z w64 c.args.value))
+    ≡ valued p k.spot c.args.value = λ i. valued p (spot i) (value i) in
     subst IsValid (sym same)
-    (set_valid c.valued_is_valid.ensures k.problem p c.is_known.ensures.valid k.spot c.is_known.ensures.known c.requires.desk.value c.args.value is c.requires.allowed)
+    (set_valid c.valued_is_valid.ensures k.problem p c.is_known.ensures.valid k.spot
+    c.is_known.ensures.known c.requires.desk.value c.args.value is c.requires.allowed)
 
 pub returns-clause-problem : goal.returns-clause-problem
 returns-clause-problem g c =
@@ -38,13 +43,25 @@ returns-clause-problem g c =
     let fits : SFits w64 c.args.value = search rules in
     let value : to_z w64 (of_z w64 c.args.value) ≡ c.args.value = simp to_z-of_z in
     let spot : c.case.inside.spot ≡ k.spot = ap (λ (x : Case). x.spot) c.case.view_is in
-    let is : p ≡ valued k.problem k.spot c.requires.desk.value = ap (λ (d : Desk). d.problem) c.self.view_is ∙ c.requires.desk.problem in
-    let same : valued p c.case.inside.spot (to_z w64 (of_z w64 c.args.value)) ≡ valued p k.spot c.args.value = λ i. valued p (spot i) (value i) in
-    c.set.ensures ∙ (same ∙ set_again k.problem p k.spot c.is_known.ensures.known c.requires.desk.value c.args.value is)
+    let is : p ≡ valued k.problem k.spot c.requires.desk.value =
+    ap (λ (d : Desk). d.problem) c.self.view_is ∙ c.requires.desk.problem in
+    let same : valued p c.case.inside.spot (to_z w64 (of_z w64 c.args.value))
+    ≡ valued p k.spot c.args.value = λ i. valued p (spot i) (value i) in
+    c.set.ensures
+    ∙ (same
+    ∙ set_again k.problem p k.spot c.is_known.ensures.known c.requires.desk.value c.args.value
+    is)
 
 pub returns-clause-own : goal.returns-clause-own
-returns-clause-own g c = subst (λ (d : Desk). AreMakersOf (shape_of c.args.case.now.problem) d.makers) (sym c.self.view_is) c.requires.desk.makers
+returns-clause-own g c =
+    subst (λ (d : Desk). AreMakersOf (shape_of c.args.case.now.problem) d.makers)
+    (sym c.self.view_is) c.requires.desk.makers
 
 pub returns-clause-desk : goal.returns-clause-desk
 returns-clause-desk g c =
-    record { value = c.args.value; problem = returns-clause-problem g c; makers = returns-clause-own g c }
+    record {
+      value = c.args.value;
+      problem = returns-clause-problem g c;
+      makers =
+          returns-clause-own g c;
+    }

@@ -8,7 +8,8 @@ use Rattle.studio_words.proofs.unit_names.UnitNames.gather.Given as goal
 abbrev pub invariant-gathering : goal.invariant-gathering
 invariant-gathering l = record {
   text : IsUtf8 l.rest;
-  same : gathered l.names (slice_split (λ c. c == byte ",") l.rest) ≡ gathered [] (slice_split (λ c. c == byte ",") l.fn.word);
+  same : gathered l.names (slice_split (λ c. c == byte ",") l.rest)
+      ≡ gathered [] (slice_split (λ c. c == byte ",") l.fn.word);
 }
 
 abbrev pub decreases-gathering : goal.decreases-gathering

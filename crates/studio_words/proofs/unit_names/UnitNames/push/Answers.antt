@@ -8,5 +8,6 @@ returns c =
     let is = c.self.view_is in
     let same = c.in_ok-name.ensures.ok in
     ap (λ keys. map string_bytes keys) c.in_ok-insert.ensures.keys
-    ∙ (names-insert_key c.self.inside.names.keys c.in_ok-name.name ((λ i. is_among (is i) (same i)) ∙ c.requires)
+    ∙ (names-insert_key c.self.inside.names.keys c.in_ok-name.name
+    ((λ i. is_among (is i) (same i)) ∙ c.requires)
     ∙ (λ i. is i ++ same i ∷ []))

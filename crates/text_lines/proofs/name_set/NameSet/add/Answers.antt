@@ -8,7 +8,8 @@ use Rattle.text_lines.proofs.name_set.NameSet.add.Goals as goal
 pub returns-clause-new : goal.returns-clause-new
 returns-clause-new c =
     c.in_ok-is_new.ensures.added
-    ∙ ap not (has_listed c.args.name.now c.self.inside.names.keys ∙ ap (λ names. is_among names c.args.name.now) c.self.view_is)
+    ∙ ap not (has_listed c.args.name.now c.self.inside.names.keys
+    ∙ ap (λ names. is_among names c.args.name.now) c.self.view_is)
 
 pub returns-clause-added : goal.returns-clause-added
 returns-clause-added c =

@@ -4,4 +4,6 @@ use Rattle.text_lines.proofs.Naming.{has_listed}
 use Rattle.text_lines.proofs.name_set.NameSet.has.Goals as goal
 
 pub returns : goal.returns
-returns c = c.contains.ensures ∙ (has_listed c.args.name.now c.self.inside.names.keys ∙ ap (λ names. is_among names c.args.name.now) c.self.view_is)
+returns c = c.contains.ensures
+    ∙ (has_listed c.args.name.now c.self.inside.names.keys
+    ∙ ap (λ names. is_among names c.args.name.now) c.self.view_is)

@@ -7,4 +7,5 @@ use Rattle.text_lines.proofs.name_set.NameSet.number_of.Goals as goal
 pub returns : goal.returns
 returns c =
     c.get_index_of.ensures.index
-    ∙ (position_listed c.args.name.now c.self.inside.names.keys ∙ ap (λ names. position (λ word. bytes_eq word c.args.name.now) names) c.self.view_is)
+    ∙ (position_listed c.args.name.now c.self.inside.names.keys
+    ∙ ap (λ names. position (λ word. bytes_eq word c.args.name.now) names) c.self.view_is)

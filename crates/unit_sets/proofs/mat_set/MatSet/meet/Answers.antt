@@ -8,5 +8,6 @@ returns c =
     let s = c.self.inside in
     let t = c.other.inside in
     c.joined.ensures.value
-    ∙ (meet_halves s.low s.high t.low t.high c.meet.result c.meet-2.result c.self.invariant c.other.invariant c.joined.ensures.is c.meet.ensures c.meet-2.ensures
+    ∙ (meet_halves s.low s.high t.low t.high c.meet.result c.meet-2.result c.self.invariant
+    c.other.invariant c.joined.ensures.is c.meet.ensures c.meet-2.ensures
     ∙ ap₂ meet c.self.view_is c.other.view_is)

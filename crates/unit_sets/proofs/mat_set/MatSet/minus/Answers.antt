@@ -8,5 +8,6 @@ returns c =
     let s = c.self.inside in
     let t = c.other.inside in
     c.joined.ensures.value
-    ∙ (minus_halves s.low s.high t.low t.high c.minus.result c.minus-2.result c.self.invariant c.other.invariant c.joined.ensures.is c.minus.ensures c.minus-2.ensures
+    ∙ (minus_halves s.low s.high t.low t.high c.minus.result c.minus-2.result c.self.invariant
+    c.other.invariant c.joined.ensures.is c.minus.ensures c.minus-2.ensures
     ∙ ap₂ minus c.self.view_is c.other.view_is)

@@ -8,5 +8,6 @@ returns c =
     let s = c.self.inside in
     let t = c.other.inside in
     c.joined.ensures.value
-    ∙ (union_halves s.low s.high t.low t.high c.union.result c.union-2.result c.self.invariant c.other.invariant c.joined.ensures.is c.union.ensures c.union-2.ensures
+    ∙ (union_halves s.low s.high t.low t.high c.union.result c.union-2.result c.self.invariant
+    c.other.invariant c.joined.ensures.is c.union.ensures c.union-2.ensures
     ∙ ap₂ union c.self.view_is c.other.view_is)

@@ -9,7 +9,8 @@ returns-then-x-lt128 c =
     let s = c.self.inside in
     let x = c.args.x in
     c.joined.ensures.value
-    ∙ (without_low s.low s.high c.without.result s.high c.self.invariant c.joined.ensures.is x c.if-x-lt128.true c.without.ensures refl
+    ∙ (without_low s.low s.high c.without.result s.high c.self.invariant c.joined.ensures.is x
+    c.if-x-lt128.true c.without.ensures refl
     ∙ ap (λ (xs : List ℕ). kept (λ v. not (x == v)) xs) c.self.view_is)
 
 pub returns-else-x-lt128 : goal.returns-else-x-lt128
@@ -20,5 +21,7 @@ returns-else-x-lt128 c =
     let e : x - 128 + 128 ≡ x = omega arith in
     let j = c.joined-else-x-lt128.ensures in
     j.value
-    ∙ (without_high s.low s.high s.low c.without-else-x-lt128.result c.self.invariant j.is (x - 128) refl c.without-else-x-lt128.ensures
-    ∙ (ap (λ v. kept (λ w. not (v == w)) (halves s.low s.high)) e ∙ ap (λ (xs : List ℕ). kept (λ w. not (x == w)) xs) c.self.view_is))
+    ∙ (without_high s.low s.high s.low c.without-else-x-lt128.result c.self.invariant j.is (x - 128)
+    refl c.without-else-x-lt128.ensures
+    ∙ (ap (λ v. kept (λ w. not (v == w)) (halves s.low s.high)) e
+    ∙ ap (λ (xs : List ℕ). kept (λ w. not (x == w)) xs) c.self.view_is))

@@ -13,11 +13,14 @@ returns-then-eq c =
     let low = (bytes_decides s.low t.low).0 (sym c.eq.ensures ∙ c.if-eq.true) in
     same_tests c.eq-then-eq.result (bytes_eq c.args.self.now c.args.other.now)
     (λ e. (bytes_decides c.args.self.now c.args.other.now).1
-    (sym c.self.view_is ∙ (ap₂ halves low ((bytes_decides s.high t.high).0 (sym c.eq-then-eq.ensures ∙ e)) ∙ c.other.view_is)))
+    (sym c.self.view_is
+    ∙ (ap₂ halves low ((bytes_decides s.high t.high).0 (sym c.eq-then-eq.ensures ∙ e))
+    ∙ c.other.view_is)))
     (λ e. c.eq-then-eq.ensures
     ∙ (bytes_decides s.high t.high).1
     (same_high s.low s.high t.low t.high c.self.invariant.low.below c.other.invariant.low.below
-    (c.self.view_is ∙ ((bytes_decides c.args.self.now c.args.other.now).0 e ∙ sym c.other.view_is))))
+    (c.self.view_is
+    ∙ ((bytes_decides c.args.self.now c.args.other.now).0 e ∙ sym c.other.view_is))))
 
 pub returns-else-eq : goal.returns-else-eq
 returns-else-eq c =
@@ -28,4 +31,5 @@ returns-else-eq c =
     (λ e. c.eq.ensures
     ∙ (bytes_decides s.low t.low).1
     (same_low s.low s.high t.low t.high c.self.invariant.low.below c.other.invariant.low.below
-    (c.self.view_is ∙ ((bytes_decides c.args.self.now c.args.other.now).0 e ∙ sym c.other.view_is))))
+    (c.self.view_is
+    ∙ ((bytes_decides c.args.self.now c.args.other.now).0 e ∙ sym c.other.view_is))))

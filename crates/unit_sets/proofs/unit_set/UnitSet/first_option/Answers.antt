@@ -14,6 +14,7 @@ pub returns-in-Some-clause-first : goal.returns-in-Some-clause-first
 returns-in-Some-clause-first c =
     let empty = c.is_empty.ensures.0 c.if-not-is_empty.false in
     let one = c.with.ensures ∙ ap (λ (xs : List ℕ). with_number c.in-Some.u xs) c.empty.ensures in
-    let first = least_first c.args.free c.in-Some.u c.rises-2.ensures.rising (sym c.in-Some.ensures) in
+    let first =
+    least_first c.args.free c.in-Some.u c.rises-2.ensures.rising (sym c.in-Some.ensures) in
     subst (λ (b : List ℕ). IsFirstOption b c.args.free c.with.result) (sym empty)
     (subst (λ (r : List ℕ). IsFirstOption [] c.args.free r) (sym one) first)

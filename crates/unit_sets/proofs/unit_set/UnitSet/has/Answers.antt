@@ -4,4 +4,6 @@ use Rattle.unit_sets.proofs.MaskLemmas as masks
 use Rattle.unit_sets.proofs.unit_set.UnitSet.has.Goals as goal
 
 pub returns : goal.returns
-returns c = masks.has_bit-shr _ _ ∙ (sym (masks.has-members _ c.args.u c.self.invariant) ∙ ap (λ xs. has xs c.args.u) c.self.view_is)
+returns c = masks.has_bit-shr _ _
+    ∙ (sym (masks.has-members _ c.args.u c.self.invariant)
+    ∙ ap (λ xs. has xs c.args.u) c.self.view_is)

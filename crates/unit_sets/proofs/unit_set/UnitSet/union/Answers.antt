@@ -8,4 +8,5 @@ pub invariant_of-result : goal.invariant_of-result
 invariant_of-result c = or_lt 128 _ _ c.self.invariant c.other.invariant
 
 pub returns : goal.returns
-returns c = masks.members-or _ _ c.self.invariant c.other.invariant ∙ ap₂ union c.self.view_is c.other.view_is
+returns c = masks.members-or _ _ c.self.invariant c.other.invariant
+    ∙ ap₂ union c.self.view_is c.other.view_is

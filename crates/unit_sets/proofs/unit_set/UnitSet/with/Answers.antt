@@ -7,4 +7,5 @@ pub invariant_of-result : goal.invariant_of-result
 invariant_of-result c = masks.with_lt _ _ c.self.invariant c.requires
 
 pub returns : goal.returns
-returns c = masks.members-with _ _ c.self.invariant c.requires ∙ ap (with_number c.args.u) c.self.view_is
+returns c = masks.members-with _ _ c.self.invariant c.requires
+    ∙ ap (with_number c.args.u) c.self.view_is

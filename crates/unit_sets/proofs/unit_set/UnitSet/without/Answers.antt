@@ -4,4 +4,5 @@ use Rattle.unit_sets.proofs.MaskLemmas as masks
 use Rattle.unit_sets.proofs.unit_set.UnitSet.without.Goals as goal
 
 pub returns : goal.returns
-returns c = masks.members-without _ _ c.self.invariant c.requires ∙ ap (kept (λ v. not (c.args.u == v))) c.self.view_is
+returns c = masks.members-without _ _ c.self.invariant c.requires
+    ∙ ap (kept (λ v. not (c.args.u == v))) c.self.view_is
