@@ -11,13 +11,12 @@ use Rattle.pns_rules.specs.Nodes.{Node}
 use Rattle.mixed_numbers.specs.declared.number.Mixed.{Mixed}
 use Rattle.mixed_numbers.specs.Number.{numerator, denominator}
 use Rattle.tree_rules.specs.Tree.{leaf}
-use Rattle.tree_rules.specs.Leaf.{bounded, untried, IsBounded}
+use Rattle.tree_rules.specs.Leaf.{bounded, IsBounded, Scaled}
 use Rattle.tree_rules.specs.Claim as claims
 use Rattle.tree_rules.specs.Claim.{CostOver}
-use Rattle.branch_tree.specs.Scaled.{Scaled}
 use Rattle.search_tree.specs.declared.shut.Shut.{Shut}
 use Rattle.search_tree.specs.Cells.{place_of, cell_at}
-use Rattle.search_tree.specs.Growth.{is_open}
+use Rattle.search_tree.specs.Growth.{is_open, EndsOpen}
 use Rattle.turn_laws.specs.Values.{IsPositive}
 use Rattle.tree_rules.specs.Costs.{IsNoMore}
 use Rattle.turn_laws.proofs.GrowLemmas.{leaf_fallen}
@@ -65,15 +64,15 @@ is_worth {Past} p n b w positive h le = record {
       (worth_under Past p n b.value b.interval h.value);
 }
 
--- an open leaf has stored what is stored under its key
-pub hand_there : (s : Growing) (j : ℕ) → (cell_at s.pool.payloads j).end ≡ leaf untried
+-- what is stored for an open leaf is under its key
+pub hand_there : (s : Growing) (j : ℕ) → EndsOpen (cell_at s.pool.payloads j).end
     → hand_of s j ≡ ready_at s j
 hand_there s j e =
     ap (λ b. cond b (ready_at s j) None) (leaf_open (cell_at s.pool.payloads j).end e)
 
 module _ {Past : PastPlaces} {undercut : Option CostOver} (p : Problem) (s : Growing)
     (g : IsGrowingFor Past p undercut s) (j : ℕ) (lt : j < length s.pool.payloads) where
-  pub hand_none : hand_of s j ≡ None → (cell_at s.pool.payloads j).end ≡ leaf untried → ⊥
+  pub hand_none : hand_of s j ≡ None → EndsOpen (cell_at s.pool.payloads j).end → ⊥
   hand_none h e =
       let a = g.ready.each j lt e in
       subst
@@ -81,7 +80,7 @@ module _ {Past : PastPlaces} {undercut : Option CostOver} (p : Problem) (s : Gro
       r) (sym (hand_there s j e) ∙ h) a.some
 
   pub record IsKnownHand (q : Ready) : Type 0 where
-    pub open_there : (cell_at s.pool.payloads j).end ≡ leaf untried
+    pub open_there : EndsOpen (cell_at s.pool.payloads j).end
     pub here : ready_at s j ≡ Some q
     pub value : Mixed
     pub value_is : slice_get s.pool.values j ≡ Some value

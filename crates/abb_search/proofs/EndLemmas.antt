@@ -12,9 +12,10 @@ use Rattle.unit_sets.specs.declared.node.Node as starts
 use Rattle.tree_rules.specs.Claim as claims
 use Rattle.tree_rules.specs.Claim.{CostOver, claimed_cost, ClaimPasses, IsSized}
 use Rattle.tree_rules.specs.Known.{KnowsTree, KnowsClaim}
-use Rattle.tree_rules.specs.Leaf.{Leaf, IsUntried, untried, LeafPasses}
+use Rattle.tree_rules.specs.Leaf.{Leaf, IsUntried, LeafPasses}
 use Rattle.tree_rules.specs.Accepted.{Tree}
 use Rattle.tree_rules.specs.Stops.{IsSpent, IsPast}
+use Rattle.search_tree.specs.Growth.{EndsOpen}
 use Rattle.search_tree.specs.Cells.{Cell, place_of, cell_at}
 use Rattle.search_tree.specs.Preorder.{IsPreorder, IsTreeOf, tree_of}
 use Rattle.search_tree.proofs.PassLemmas.{passes, aligned_start, cells_stand}
@@ -60,8 +61,7 @@ module _ (p : Problem) (s : Growing) (t : IsTreeKept p s) (at place : ℕ) (tree
   proved : (claim : claims.Claim) → KnowsClaim p claim
       → IsKept p (node_of s.start) claim t.last s.pool.payloads → ClaimPasses true p claim
       → (claim ≡ claims.unknown → ⊥)
-      → ((i : ℕ) → i < length s.pool.payloads → (cell_at s.pool.payloads i).end ≡ leaf untried
-      → ⊥)
+      → ((i : ℕ) → i < length s.pool.payloads → EndsOpen (cell_at s.pool.payloads i).end → ⊥)
       → IsProved p (node_of s.start) claim tree
   proved claim claim_known kept passing known shut =
       subst (λ (w : Tree). IsProved p (node_of s.start) claim w) (sym of.nodes_are) (record {
@@ -79,8 +79,7 @@ module _ (p : Problem) (s : Growing) (t : IsTreeKept p s) (at place : ℕ) (tree
       })
 
   pub solved : (w : claims.Network) → s.best ≡ Some w
-      → ((i : ℕ) → i < length s.pool.payloads → (cell_at s.pool.payloads i).end ≡ leaf untried
-      → ⊥)
+      → ((i : ℕ) → i < length s.pool.payloads → EndsOpen (cell_at s.pool.payloads i).end → ⊥)
       → IsProved p (node_of s.start) (claims.network w) tree
   solved w e shut =
       proved (claims.network w)
@@ -93,8 +92,7 @@ module _ (p : Problem) (s : Growing) (t : IsTreeKept p s) (at place : ℕ) (tree
       (λ (q : claims.network w ≡ claims.unknown). cc) shut
 
   pub infeasible : s.best ≡ None
-      → ((i : ℕ) → i < length s.pool.payloads → (cell_at s.pool.payloads i).end ≡ leaf untried
-      → ⊥)
+      → ((i : ℕ) → i < length s.pool.payloads → EndsOpen (cell_at s.pool.payloads i).end → ⊥)
       → IsProved p (node_of s.start) claims.infeasible tree
   infeasible e shut =
       proved claims.infeasible tt
@@ -158,7 +156,7 @@ module _ (p : Problem) (s : Growing) (t : IsTreeKept p s) (at place : ℕ) (tree
       subst
       (λ (e : End Leaf). Stands (shape_of p) (node_of s.start ∷ [])
       (tree_of s.pool.payloads of.order) place (place_of (cell_at s.pool.payloads at)) e)
-      h.can.is_open
+      h.can.is_open.1
       (cells_stand (shape_of p) (LeafPasses true p (claimed_cost (claim_with s.best)))
       (node_of s.start) s.pool.payloads t.kept.grown.linked t.kept.grown.fits
       (node_of s.start ∷ []) (0 ∷ []) of.order
@@ -173,7 +171,7 @@ module _ (p : Problem) (s : Growing) (t : IsTreeKept p s) (at place : ℕ) (tree
       union (tree_of s.pool.payloads of.order) now.partial now.lean
       (place_of (cell_at s.pool.payloads 0)) (cell_at s.pool.payloads 0).end top
       (t.kept.sound 0 t.kept.grown.linked.some) place (place_of (cell_at s.pool.payloads at))
-      there h.can.reduced h.way h.can.may h.can.splits in
+      h.can.is_open.0 there h.can.reduced h.way h.can.may h.can.splits in
       let spent_now =
       subst
       (λ (w : Tree). IsSpent p IsUntried (claimed_cost (claim_with s.best)) (node_of s.start) w
@@ -201,8 +199,7 @@ module _ (p : Problem) (s : Growing) (t : IsTreeKept p s) (at place : ℕ) (tree
       })
 
   pub whole_found : (Past : PastPlaces) (budget : ℕ) (start : starts.Node) → s.start ≡ start
-      → ((i : ℕ) → i < length s.pool.payloads → (cell_at s.pool.payloads i).end ≡ leaf untried
-      → ⊥)
+      → ((i : ℕ) → i < length s.pool.payloads → EndsOpen (cell_at s.pool.payloads i).end → ⊥)
       → IsFoundBy Past p (node_of start) budget (found_with s.best tree)
   whole_found Past budget start es shut =
       subst (λ (n : starts.Node). IsFoundBy Past p (node_of n) budget (found_with s.best tree)) es

@@ -17,9 +17,8 @@ use Rattle.tree_rules.specs.Ways.{Way}
 use Rattle.tree_rules.specs.Tree.{leaf}
 use Rattle.tree_rules.specs.Claim as claims
 use Rattle.tree_rules.specs.Claim.{CostOver}
-use Rattle.tree_rules.specs.Leaf.{untried}
 use Rattle.search_tree.specs.Cells.{Cell, no_cell, place_of, cell_at}
-use Rattle.search_tree.specs.Growth.{is_open}
+use Rattle.search_tree.specs.Growth.{is_open, EndsOpen}
 use Rattle.search_tree.specs.declared.growth.Fresh.{Fresh}
 use Rattle.turn_laws.specs.Turns.{IsFreshChild, AreChildren}
 use Rattle.node_evaluation.specs.declared.looks.Worth.{Worth}
@@ -38,15 +37,15 @@ some_none o a h k = let q : Some a ≡ None = sym h ∙ k in cc
 
 module _ (Past : PastPlaces) (p : Problem) (cs : List Cell) (vs : List Mixed)
     (before after : Slab Ready) (at : ℕ) (d : Cell) (h : AreAtHand Past p cs vs before)
-    (there : at < length cs) (opens : (cell_at cs at).end ≡ leaf untried)
+    (there : at < length cs) (opens : EndsOpen (cell_at cs at).end)
     (shut : is_open d.end ≡ false) (frees : Updates before after (cell_at cs at).key None) where
   same : (j : ℕ) → (j ≡ at → ⊥) → cell_at (slice_set cs at d) j ≡ cell_at cs j
   same j ne = get_or-set_other cs at j d no_cell ne
 
-  other : (j : ℕ) → (cell_at (slice_set cs at d) j).end ≡ leaf untried → j ≡ at → ⊥
+  other : (j : ℕ) → EndsOpen (cell_at (slice_set cs at d) j).end → j ≡ at → ⊥
   other j e q =
       not_untried d.end shut
-      (subst (λ (c : Cell). c.end ≡ leaf untried)
+      (subst (λ (c : Cell). EndsOpen c.end)
       (ap (λ i. cell_at (slice_set cs at d) i) q ∙ get_or-set_same cs at d no_cell there) e)
 
   pub hand_freed : AreAtHand Past p (slice_set cs at d) vs after
@@ -55,7 +54,7 @@ module _ (Past : PastPlaces) (p : Problem) (cs : List Cell) (vs : List Mixed)
     each = λ j lt e.
         let ne = other j e in
         let l : j < length cs = (let a = length-set cs at d in omega (arith, lt, a)) in
-        let o = subst (λ (c : Cell). c.end ≡ leaf untried) (same j ne) e in
+        let o = subst (λ (c : Cell). EndsOpen c.end) (same j ne) e in
         let k = h.each j l o in
         record {
           value = k.value;
@@ -73,8 +72,8 @@ module _ (Past : PastPlaces) (p : Problem) (cs : List Cell) (vs : List Mixed)
         let nj = other j ej in
         let a = length-set cs at d in
         h.apart i j (omega (arith, li, a)) (omega (arith, lj, a))
-        (subst (λ (c : Cell). c.end ≡ leaf untried) (same i ni) ei)
-        (subst (λ (c : Cell). c.end ≡ leaf untried) (same j nj) ej)
+        (subst (λ (c : Cell). EndsOpen c.end) (same i ni) ei)
+        (subst (λ (c : Cell). EndsOpen c.end) (same j nj) ej)
         (ap (λ (c : Cell). c.key) (sym (same i ni)) ∙ (q ∙ ap (λ (c : Cell). c.key) (same j nj)));
   }
 
@@ -226,11 +225,11 @@ vacant_before (Some r) h = absurd (h r refl)
 pub new_at : (Past : PastPlaces) (p : Problem) (fs gs : List Fresh) (rs : List (Option Ready))
     (before after : Slab Ready) → ArePlaced fs gs rs before after
     → AreReady Past p (cells_of fs) (values_of fs) rs
-    → (k : ℕ) → k < length gs → (cell_at (cells_of gs) k).end ≡ leaf untried
+    → (k : ℕ) → k < length gs → EndsOpen (cell_at (cells_of gs) k).end
     → IsNewAt Past p gs before after k
 new_at Past p [] [] [] before after h a k lt e = absurd (omega (arith, lt))
 new_at Past p (f ∷ fs) (g ∷ gs) (None ∷ rs) before after h a zero lt e =
-    absurd (a.0 (subst (λ (w : Fresh). w.cell.end ≡ leaf untried) h.2.0 e))
+    absurd (a.0 (subst (λ (w : Fresh). EndsOpen w.cell.end) h.2.0 e))
 new_at Past p (f ∷ fs) (g ∷ gs) (Some q ∷ rs) before after h a zero lt e =
     let key_is : g.cell.key ≡ h.2.key = ap (λ (w : Fresh). w.cell.key) h.2.new_is in
     record {
@@ -240,7 +239,7 @@ new_at Past p (f ∷ fs) (g ∷ gs) (Some q ∷ rs) before after h a zero lt e =
       ready_is = ap (λ i. get after i) key_is ∙ h.2.updates.changed;
       some =
           subst (λ (w : Fresh). IsSomeReady Past p (place_of w.cell) w.value (Some q))
-          (sym h.2.new_is) (a.0 (subst (λ (w : Fresh). w.cell.end ≡ leaf untried) h.2.new_is e));
+          (sym h.2.new_is) (a.0 (subst (λ (w : Fresh). EndsOpen w.cell.end) h.2.new_is e));
       was_vacant = ap (λ i. get before i) key_is
           ∙ vacant_before (get before h.2.key)
           (λ r b. some_none (get h.0 h.2.key) r (kept fs gs rs before h.0 h.1 h.2.key r b)
@@ -281,12 +280,11 @@ new_at Past p (f ∷ fs) (g ∷ gs) [] before after h a k lt e = absurd h
 first_apart : (Past : PastPlaces) (p : Problem) (f g : Fresh) (fs gs : List Fresh)
     (r : Option Ready) (rs : List (Option Ready)) (before after : Slab Ready)
     → ArePlaced (f ∷ fs) (g ∷ gs) (r ∷ rs) before after
-    → AreReady Past p (cells_of (f ∷ fs)) (values_of (f ∷ fs)) (r ∷ rs)
-    → g.cell.end ≡ leaf untried
-    → (k : ℕ) → k < length gs → (cell_at (cells_of gs) k).end ≡ leaf untried
+    → AreReady Past p (cells_of (f ∷ fs)) (values_of (f ∷ fs)) (r ∷ rs) → EndsOpen g.cell.end
+    → (k : ℕ) → k < length gs → EndsOpen (cell_at (cells_of gs) k).end
     → g.cell.key ≡ (cell_at (cells_of gs) k).key → ⊥
 first_apart Past p f g fs gs None rs before after h a e k lt ek q =
-    a.0 (subst (λ (w : Fresh). w.cell.end ≡ leaf untried) h.2.0 e)
+    a.0 (subst (λ (w : Fresh). EndsOpen w.cell.end) h.2.0 e)
 first_apart Past p f g fs gs (Some w) rs before after h a e k lt ek q =
     let n = new_at Past p fs gs rs before h.0 h.1 a.1 k lt ek in
     some_none (get h.0 (cell_at (cells_of gs) k).key) n.ready n.ready_is
@@ -295,8 +293,8 @@ first_apart Past p f g fs gs (Some w) rs before after h a e k lt ek q =
 pub new_apart : (Past : PastPlaces) (p : Problem) (fs gs : List Fresh) (rs : List (Option Ready))
     (before after : Slab Ready) → ArePlaced fs gs rs before after
     → AreReady Past p (cells_of fs) (values_of fs) rs
-    → (i j : ℕ) → i < length gs → j < length gs → (cell_at (cells_of gs) i).end ≡ leaf untried
-    → (cell_at (cells_of gs) j).end ≡ leaf untried
+    → (i j : ℕ) → i < length gs → j < length gs → EndsOpen (cell_at (cells_of gs) i).end
+    → EndsOpen (cell_at (cells_of gs) j).end
     → (cell_at (cells_of gs) i).key ≡ (cell_at (cells_of gs) j).key → i ≡ j
 new_apart Past p [] [] [] before after h a i j li lj ei ej q = absurd (omega (arith, li))
 new_apart Past p (f ∷ fs) (g ∷ gs) (r ∷ rs) before after h a zero zero li lj ei ej q = refl
@@ -341,9 +339,10 @@ module _ (Past : PastPlaces) (p : Problem) (cs : List Cell) (vs : List Mixed)
       length-map gs (λ (f : Fresh). f.cell) in omega (arith, lt, l, a, b)
 
   -- an old leaf's key is that of no child
-  left_right : (i j : ℕ) → i < length cs → j < length gs → (cell_at cs i).end ≡ leaf untried
-      → (cell_at (cells_of gs) j).end ≡ leaf untried
-      → (cell_at cs i).key ≡ (cell_at (cells_of gs) j).key → ⊥
+  left_right : (i j : ℕ) → i < length cs → j < length gs → EndsOpen (cell_at cs i).end
+      → EndsOpen (cell_at (cells_of gs) j).end
+      → (cell_at cs i).key ≡ (cell_at (cells_of gs) j).key
+      → ⊥
   left_right i j li lj ei ej q =
       let k = h.each i li ei in
       let r =
@@ -352,7 +351,7 @@ module _ (Past : PastPlaces) (p : Problem) (cs : List Cell) (vs : List Mixed)
       let n = new_at Past p fs gs rs before after placed ready j lj ej in
       some_none (get before (cell_at cs i).key) r.0 r.1 (ap (λ x. get before x) q ∙ n.was_vacant)
 
-  each_left : (j : ℕ) → j < length cs → (cell_at cs j).end ≡ leaf untried
+  each_left : (j : ℕ) → j < length cs → EndsOpen (cell_at cs j).end
       → IsAtHand Past p (cs ++ cells_of gs) (vs ++ values_of gs) after j
   each_left j l e =
       let k = h.each j l e in
@@ -376,7 +375,7 @@ module _ (Past : PastPlaces) (p : Problem) (cs : List Cell) (vs : List Mixed)
       get_left (x ∷ xs) ys zero lt = refl
       get_left (x ∷ xs) ys (suc i) lt = get_left xs ys i (omega (arith, lt))
 
-  each_right : (j : ℕ) → j < length gs → (cell_at (cells_of gs) j).end ≡ leaf untried
+  each_right : (j : ℕ) → j < length gs → EndsOpen (cell_at (cells_of gs) j).end
       → IsAtHand Past p (cs ++ cells_of gs) (vs ++ values_of gs) after (length cs + j)
   each_right j l e =
       let n = new_at Past p fs gs rs before after placed ready j l e in
@@ -409,34 +408,34 @@ module _ (Past : PastPlaces) (p : Problem) (cs : List Cell) (vs : List Mixed)
         let d = length-map gs (λ (f : Fresh). f.cell) in let e =
         length-map gs (λ (f : Fresh). f.value) in omega (arith, a, b, c, d, e);
     each = λ j lt e. elim (cases_lt j (length cs)) [
-      | inl l ↦ each_left j l (subst (λ (c : Cell). c.end ≡ leaf untried) (left_same j l) e)
+      | inl l ↦ each_left j l (subst (λ (c : Cell). EndsOpen c.end) (left_same j l) e)
       | inr le ↦
           let l : length cs < suc j = omega (arith, le) in
           let z : length cs + (j - length cs) ≡ j = omega (arith, le) in
           subst (λ i. IsAtHand Past p (cs ++ cells_of gs) (vs ++ values_of gs) after i) z
           (each_right (j - length cs) (right_below j lt l)
-          (subst (λ (c : Cell). c.end ≡ leaf untried) (right_same j l) e))
+          (subst (λ (c : Cell). EndsOpen c.end) (right_same j l) e))
     ];
     apart = apart_now;
   }
     where
       apart_now : (i j : ℕ) → i < length (cs ++ cells_of gs) → j < length (cs ++ cells_of gs)
-          → (cell_at (cs ++ cells_of gs) i).end ≡ leaf untried
-          → (cell_at (cs ++ cells_of gs) j).end ≡ leaf untried
+          → EndsOpen (cell_at (cs ++ cells_of gs) i).end
+          → EndsOpen (cell_at (cs ++ cells_of gs) j).end
           → (cell_at (cs ++ cells_of gs) i).key ≡ (cell_at (cs ++ cells_of gs) j).key → i ≡ j
       apart_now i j li lj ei ej q = elim (cases_lt i (length cs)) [
         | inl bi ↦ elim (cases_lt j (length cs)) [
           | inl bj
-              ↦ h.apart i j bi bj (subst (λ (c : Cell). c.end ≡ leaf untried) (left_same i bi) ei)
-              (subst (λ (c : Cell). c.end ≡ leaf untried) (left_same j bj) ej)
+              ↦ h.apart i j bi bj (subst (λ (c : Cell). EndsOpen c.end) (left_same i bi) ei)
+              (subst (λ (c : Cell). EndsOpen c.end) (left_same j bj) ej)
               (ap (λ (c : Cell). c.key) (sym (left_same i bi))
               ∙ (q ∙ ap (λ (c : Cell). c.key) (left_same j bj)))
           | inr lej ↦
               let r : length cs < suc j = omega (arith, lej) in
               absurd
               (left_right i (j - length cs) bi (right_below j lj r)
-              (subst (λ (c : Cell). c.end ≡ leaf untried) (left_same i bi) ei)
-              (subst (λ (c : Cell). c.end ≡ leaf untried) (right_same j r) ej)
+              (subst (λ (c : Cell). EndsOpen c.end) (left_same i bi) ei)
+              (subst (λ (c : Cell). EndsOpen c.end) (right_same j r) ej)
               (ap (λ (c : Cell). c.key) (sym (left_same i bi))
               ∙ (q ∙ ap (λ (c : Cell). c.key) (right_same j r))))
         ]
@@ -446,8 +445,8 @@ module _ (Past : PastPlaces) (p : Problem) (cs : List Cell) (vs : List Mixed)
               | inl bj
                   ↦ absurd
                   (left_right j (i - length cs) bj (right_below i li s)
-                  (subst (λ (c : Cell). c.end ≡ leaf untried) (left_same j bj) ej)
-                  (subst (λ (c : Cell). c.end ≡ leaf untried) (right_same i s) ei)
+                  (subst (λ (c : Cell). EndsOpen c.end) (left_same j bj) ej)
+                  (subst (λ (c : Cell). EndsOpen c.end) (right_same i s) ei)
                   (ap (λ (c : Cell). c.key) (sym (left_same j bj))
                   ∙ (sym q ∙ ap (λ (c : Cell). c.key) (right_same i s))))
               | inr lej ↦
@@ -455,8 +454,8 @@ module _ (Past : PastPlaces) (p : Problem) (cs : List Cell) (vs : List Mixed)
                   let e =
                   new_apart Past p fs gs rs before after placed ready (i - length cs)
                   (j - length cs) (right_below i li s) (right_below j lj r)
-                  (subst (λ (c : Cell). c.end ≡ leaf untried) (right_same i s) ei)
-                  (subst (λ (c : Cell). c.end ≡ leaf untried) (right_same j r) ej)
+                  (subst (λ (c : Cell). EndsOpen c.end) (right_same i s) ei)
+                  (subst (λ (c : Cell). EndsOpen c.end) (right_same j r) ej)
                   (ap (λ (c : Cell). c.key) (sym (right_same i s))
                   ∙ (q ∙ ap (λ (c : Cell). c.key) (right_same j r))) in
                   omega (arith, e, lei, lej)

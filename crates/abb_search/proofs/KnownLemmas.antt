@@ -13,8 +13,9 @@ use Rattle.problem_rules.specs.Problem.{Problem}
 use Rattle.tree_rules.specs.Claim as claims
 use Rattle.tree_rules.specs.Claim.{ClaimPasses, IsSized}
 use Rattle.tree_rules.specs.Tree.{End, leaf}
-use Rattle.tree_rules.specs.Leaf.{Leaf, untried}
+use Rattle.tree_rules.specs.Leaf.{Leaf}
 use Rattle.tree_rules.specs.Known.{KnowsNode, KnowsEnd, KnowsTree, KnowsClaim}
+use Rattle.search_tree.specs.Growth.{EndsOpen}
 use Rattle.search_tree.specs.Cells.{Cell, no_cell, cell_at, children_at, IsLinked}
 use Rattle.search_tree.specs.Preorder.{IsPreorder, tree_of, node_at}
 use Rattle.search_tree.proofs.CountLemmas.{preorder_has_all}
@@ -81,8 +82,8 @@ bounded_more [] ds = refl
 bounded_more (c ∷ cs) ds = ap (λ b. is_bounded c.end || b) (bounded_more cs ds)
     ∙ sym (or_both (is_bounded c.end) (has_bounded cs) (has_bounded ds))
 
-pub open_unbounded : (e : End Leaf) → e ≡ leaf untried → is_bounded e ≡ false
-open_unbounded e h = ap (λ (l : End Leaf). is_bounded l) h
+pub open_unbounded : (e : End Leaf) → EndsOpen e → is_bounded e ≡ false
+open_unbounded e h = ap (λ (l : End Leaf). is_bounded l) h.1
 
 -- ---- the tree
 

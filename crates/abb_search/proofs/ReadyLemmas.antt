@@ -11,21 +11,22 @@ use Rattle.link_lists.proofs.Cells.{has-here}
 use Rattle.node_pool.specs.Order.{second}
 use Rattle.std.proofs.lemmas.Bool.{or_right}
 use Rattle.tree_rules.specs.Tree.{End, branch, leaf}
-use Rattle.tree_rules.specs.Leaf.{Leaf, dead, clash, refuted, bounded, untried}
-use Rattle.search_tree.specs.Growth.{is_open}
+use Rattle.tree_rules.specs.Leaf.{Leaf, dead, clash, refuted, bounded, charged, untried}
+use Rattle.search_tree.specs.Growth.{is_open, EndsOpen}
 
-pub open_leaf : (e : End Leaf) → is_open e ≡ true → e ≡ leaf untried
+pub open_leaf : (e : End Leaf) → is_open e ≡ true → EndsOpen e
 open_leaf (branch w) h = absurd (true≢false (sym h))
 open_leaf (leaf (dead x)) h = absurd (true≢false (sym h))
 open_leaf (leaf (clash k)) h = absurd (true≢false (sym h))
 open_leaf (leaf (refuted ys)) h = absurd (true≢false (sym h))
 open_leaf (leaf (bounded d ys)) h = absurd (true≢false (sym h))
-open_leaf (leaf untried) h = refl
+open_leaf (leaf (charged c)) h = absurd (true≢false (sym h))
+open_leaf (leaf (untried low)) h = (low, refl)
 
-pub leaf_open : (e : End Leaf) → e ≡ leaf untried → is_open e ≡ true
-leaf_open e h = ap is_open h
+pub leaf_open : (e : End Leaf) → EndsOpen e → is_open e ≡ true
+leaf_open e h = ap is_open h.1
 
-pub not_untried : (e : End Leaf) → is_open e ≡ false → e ≡ leaf untried → ⊥
+pub not_untried : (e : End Leaf) → is_open e ≡ false → EndsOpen e → ⊥
 not_untried e h k = true≢false (sym (leaf_open e k) ∙ h)
 
 pub not_greater : (x y : ℤ) → (int_cmp x y ≡ Greater → ⊥) → x ≤ℤ y

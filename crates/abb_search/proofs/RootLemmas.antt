@@ -13,10 +13,10 @@ use Rattle.mixed_numbers.specs.declared.number.Mixed.{Mixed}
 use Rattle.tree_rules.specs.Tree.{End, leaf}
 use Rattle.tree_rules.specs.Claim as claims
 use Rattle.tree_rules.specs.Claim.{CostOver, claimed_cost, ClaimPasses}
-use Rattle.tree_rules.specs.Leaf.{Leaf, dead, clash, refuted, bounded, untried, LeafPasses}
+use Rattle.tree_rules.specs.Leaf.{Leaf, dead, clash, refuted, bounded, charged, untried, LeafPasses}
 use Rattle.search_tree.specs.Cells.{Cell, place_of, cell_at, AreBehind}
 use Rattle.search_tree.specs.Fits.{Follows, EndFits}
-use Rattle.search_tree.specs.Growth.{is_open}
+use Rattle.search_tree.specs.Growth.{is_open, EndsOpen}
 use Rattle.link_lists.specs.Lists.{has}
 use Rattle.std.proofs.lemmas.Bool.{or_right}
 use Rattle.turn_laws.specs.Values.{IsPositiveCost}
@@ -46,7 +46,8 @@ leaf_kept p n (dead x) = tt
 leaf_kept p n (clash k) = tt
 leaf_kept p n (refuted ys) = tt
 leaf_kept p n (bounded d ys) = tt
-leaf_kept p n untried = λ alive. tt
+leaf_kept p n (charged c) = tt
+leaf_kept p n (untried low) = λ alive. tt
 
 -- ---- one leaf is a tree
 
@@ -107,8 +108,8 @@ open_tree p start budget best s b h sound some = record {
       s.pool.payloads) (sym h.best_is)
       (subst (λ (cs : List Cell). IsKept p (node_of start) (claim_with best) None cs)
       (sym h.cells_are)
-      (leaf_is_kept p (node_of start) (claim_with best) (open_cell start) untried refl refl
-      (record { pass = tt; leave = refl }) sound refl b.positive)));
+      (leaf_is_kept p (node_of start) (claim_with best) (open_cell start) (untried None) refl refl
+      (record { pass = tt; leave = refl }) sound (refl, tt) b.positive)));
   passes =
       subst (λ (w : Option claims.Network). ClaimPasses true p (claim_with w)) (sym h.best_is)
       b.passes;
@@ -209,26 +210,26 @@ module _ (Past : PastPlaces) (p : Problem) (start : starts.Node) (budget : ℕ)
   root_open = record {
     opens = λ j lt l.
         let z : j ≡ 0 = let n = one_cell in omega (arith, lt, n) in
-        subst (λ i. (cell_at s.pool.payloads i).end ≡ leaf untried) (sym z)
-        (subst (λ (cs : List Cell). (cell_at cs 0).end ≡ leaf untried) (sym h.cells_are)
+        subst (λ i. EndsOpen (cell_at s.pool.payloads i).end) (sym z)
+        (subst (λ (cs : List Cell). EndsOpen (cell_at cs 0).end) (sym h.cells_are)
         (open_root (is_open h.root.cell.end) refl (subst (λ i. has s.pool.leaves i ≡ true) z l)));
     others = λ j lt e.
         let z : j ≡ 0 = let n = one_cell in omega (arith, lt, n) in
         inl (subst (λ i. has s.pool.leaves i ≡ true) (sym z)
         (root_listed
-        (subst (λ (cs : List Cell). (cell_at cs 0).end ≡ leaf untried) h.cells_are
-        (subst (λ i. (cell_at s.pool.payloads i).end ≡ leaf untried) z e))));
+        (subst (λ (cs : List Cell). EndsOpen (cell_at cs 0).end) h.cells_are
+        (subst (λ i. EndsOpen (cell_at s.pool.payloads i).end) z e))));
   }
     where
       open_root : (b : Bool) → is_open h.root.cell.end ≡ b → has s.pool.leaves 0 ≡ true
-          → h.root.cell.end ≡ leaf untried
+          → EndsOpen h.root.cell.end
       open_root true e l = open_leaf h.root.cell.end e
       open_root false e l =
           absurd
           (true≢false
           (sym l ∙ ap (λ (ls : List ℕ). has ls 0) (h.leaves_are ∙ ap (λ b. cond b (0 ∷ []) []) e)))
 
-      root_listed : h.root.cell.end ≡ leaf untried → has s.pool.leaves 0 ≡ true
+      root_listed : EndsOpen h.root.cell.end → has s.pool.leaves 0 ≡ true
       root_listed e =
           ap (λ (ls : List ℕ). has ls 0)
           (h.leaves_are ∙ ap (λ b. cond b (0 ∷ []) []) (leaf_open h.root.cell.end e))
@@ -245,9 +246,11 @@ module _ (Past : PastPlaces) (p : Problem) (start : starts.Node) (budget : ℕ)
         (h.looked.ready ∷ []) (h.empty, refl, h.placed) (
           (λ e. subst
               (λ (i : Option PastStop). IsOpenAs Past p (place_of h.looked.cell)
-              h.is_looked.seen.what h.looked.value h.looked.ready i) eh h.is_looked.seen.open_as
-              (let q : leaf h.is_looked.seen.what ≡ leaf untried =
-              sym h.is_looked.seen.end_is ∙ e in cc)),
+              h.is_looked.seen.what h.looked.value h.looked.ready i) eh h.is_looked.seen.open_as (
+                e.0,
+                let q : leaf h.is_looked.seen.what ≡ leaf (untried e.0) =
+                    sym h.is_looked.seen.end_is ∙ e.1 in cc,
+              )),
           tt,
         )));
   }
@@ -261,8 +264,8 @@ module _ (Past : PastPlaces) (p : Problem) (start : starts.Node) (budget : ℕ)
       record {
         there = let a = ap (λ (cs : List Cell). length cs) cells_now in omega (arith, a);
         is_open =
-            subst (λ (cs : List Cell). (cell_at cs 0).end ≡ leaf untried) (sym cells_now)
-            (h.is_looked.seen.end_is ∙ ap (λ (w : Leaf). leaf w) o.0);
+            subst (λ (cs : List Cell). EndsOpen (cell_at cs 0).end) (sym cells_now)
+            (o.0.0, h.is_looked.seen.end_is ∙ ap (λ (w : Leaf). leaf w) o.0.1);
         stopped =
             subst (λ (cs : List Cell). IsStop Past p (place_of (cell_at cs 0)) i) (sym cells_now)
             o.1;

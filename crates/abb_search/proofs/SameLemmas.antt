@@ -8,10 +8,10 @@ use Rattle.pgraph.specs.View.{node_of}
 use Rattle.unit_sets.specs.declared.node.Node as starts
 use Rattle.mixed_numbers.specs.declared.number.Mixed.{Mixed}
 use Rattle.tree_rules.specs.Tree.{leaf}
-use Rattle.tree_rules.specs.Leaf.{untried}
 use Rattle.tree_rules.specs.Claim as claims
 use Rattle.tree_rules.specs.Claim.{CostOver, claimed_cost, ClaimPasses}
 use Rattle.slab.specs.Slab.{get}
+use Rattle.search_tree.specs.Growth.{EndsOpen}
 use Rattle.search_tree.specs.Cells.{Cell, place_of, cell_at}
 use Rattle.turn_laws.specs.Kept.{IsKeptFor}
 use Rattle.node_evaluation.specs.declared.evaluator.PastStop.{PastStop}
@@ -68,15 +68,13 @@ module _ (Past : PastPlaces) (p : Problem) (s n : Growing) (e : IsSameButRoom s 
 
   open_same : AreOpen s → AreOpen n
   open_same a = record {
-    opens =
-        λ j lt h. subst (λ (cs : List Cell). (cell_at cs j).end ≡ leaf untried)
-        (sym e.pool.payloads)
+    opens = λ j lt h. subst (λ (cs : List Cell). EndsOpen (cell_at cs j).end) (sym e.pool.payloads)
         (a.opens j (subst (λ (cs : List Cell). j < length cs) e.pool.payloads lt)
         (ap (λ (ls : List ℕ). has ls j) (sym e.pool.leaves) ∙ h));
     others = λ j lt u.
         elim
         (a.others j (subst (λ (cs : List Cell). j < length cs) e.pool.payloads lt)
-        (subst (λ (cs : List Cell). (cell_at cs j).end ≡ leaf untried) e.pool.payloads u)) [
+        (subst (λ (cs : List Cell). EndsOpen (cell_at cs j).end) e.pool.payloads u)) [
           | inl l ↦ inl (ap (λ (ls : List ℕ). has ls j) e.pool.leaves ∙ l)
           | inr r ↦ inr (ap is_refuted (ready_same j) ∙ r)
         ];
@@ -156,8 +154,7 @@ module _ (Past : PastPlaces) (p : Problem) (s n : Growing) (e : IsSame Past p s 
   pub stopped_same : (at : ℕ) (h : PastStop) → IsStoppedAt Past p s at h → IsStoppedAt Past p n at h
   stopped_same at h k = record {
     there = subst (λ (cs : List Cell). at < length cs) (sym e.cells) k.there;
-    is_open =
-        subst (λ (cs : List Cell). (cell_at cs at).end ≡ leaf untried) (sym e.cells) k.is_open;
+    is_open = subst (λ (cs : List Cell). EndsOpen (cell_at cs at).end) (sym e.cells) k.is_open;
     stopped =
         subst (λ (cs : List Cell). IsStop Past p (place_of (cell_at cs at)) h) (sym e.cells)
         k.stopped;

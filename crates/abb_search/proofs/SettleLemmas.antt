@@ -13,12 +13,12 @@ use Rattle.pns_rules.specs.Shape.{shape_of}
 use Rattle.pns_rules.specs.Ends.{IsReduced}
 use Rattle.mixed_numbers.specs.declared.number.Mixed.{Mixed}
 use Rattle.tree_rules.specs.Tree.{leaf}
-use Rattle.tree_rules.specs.Leaf.{untried, IsRefuted}
+use Rattle.tree_rules.specs.Leaf.{IsRefuted}
 use Rattle.tree_rules.specs.Claim.{CostOver}
 use Rattle.node_pool.specs.Order.{placed}
 use Rattle.node_pool.specs.Pooled.{with_shut, with_value}
 use Rattle.search_tree.specs.Cells.{place_of, cell_at}
-use Rattle.search_tree.specs.Growth.{is_open}
+use Rattle.search_tree.specs.Growth.{is_open, EndsOpen}
 use Rattle.search_tree.proofs.GrowthLemmas.{placed_new, placed_stays, others_stay, without_gone}
 use Rattle.node_evaluation.specs.declared.evaluator.Bound.{Bound}
 use Rattle.node_evaluation.specs.declared.looks.Worth.{Worth}
@@ -127,7 +127,7 @@ in_pool s j h = (and_parts (has s.pool.leaves j) (not (is_settled (ready_at s j)
 -- the node of an open leaf is reduced
 pub reduced_there : {Past : PastPlaces} {undercut : Option CostOver} (p : Problem) (s : Growing)
     → IsGrowingFor Past p undercut s → (at : ℕ) → at < length s.pool.payloads
-    → (cell_at s.pool.payloads at).end ≡ leaf untried
+    → EndsOpen (cell_at s.pool.payloads at).end
     → IsReduced (shape_of p) (place_of (cell_at s.pool.payloads at))
 reduced_there {Past} p s g at lt e =
     let h = g.ready.each at lt e in
@@ -149,7 +149,7 @@ waits_unsettled s j h =
 module _ {Past : PastPlaces} {undercut : Option CostOver} (p : Problem) (s : Growing)
     (g : IsGrowingFor Past p undercut s) (at : ℕ) (lt : at < length s.pool.payloads)
     (waits : is_waiting s at ≡ true) where
-  pub waits_open : (cell_at s.pool.payloads at).end ≡ leaf untried
+  pub waits_open : EndsOpen (cell_at s.pool.payloads at).end
   waits_open = g.are_open.opens at lt (in_pool s at waits)
 
   pub never_none : ready_at s at ≡ None → ⊥
@@ -197,11 +197,10 @@ module _ (Past : PastPlaces) (p : Problem) (s : Growing) (at : ℕ) (w : Worth) 
 
   module _ {undercut : Option CostOver} (g : IsGrowingFor Past p undercut s)
       (there : at < length s.pool.payloads)
-      (untried_there : (cell_at s.pool.payloads at).end ≡ leaf untried) where
+      (untried_there : EndsOpen (cell_at s.pool.payloads at).end) where
     -- what is stored for another open leaf stays
     pub ready_stays : (j : ℕ) → j < length s.pool.payloads
-        → (cell_at s.pool.payloads j).end ≡ leaf untried → (j ≡ at → ⊥)
-        → ready_at now j ≡ ready_at s j
+        → EndsOpen (cell_at s.pool.payloads j).end → (j ≡ at → ⊥) → ready_at now j ≡ ready_at s j
     ready_stays j lt e ne =
         updates.others (cell_at s.pool.payloads j).key
         (λ same. ne (g.ready.apart j at lt there e untried_there same))
@@ -265,7 +264,7 @@ module _ (Past : PastPlaces) (p : Problem) (s : Growing) (at : ℕ) (w : Worth) 
     open_now stands = record {
       opens = λ j lt h. elim (cases_eq j at) [
         | inl same
-            ↦ subst (λ i. (cell_at s.pool.payloads i).end ≡ leaf untried) (sym same) untried_there
+            ↦ subst (λ i. EndsOpen (cell_at s.pool.payloads i).end) (sym same) untried_there
         | inr ne ↦ g.are_open.opens j lt (sym (stay j ne) ∙ h)
       ];
       others = λ j lt e. elim (cases_eq j at) [

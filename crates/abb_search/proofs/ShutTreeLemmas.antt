@@ -7,17 +7,16 @@ use Rattle.problem_rules.specs.Problem.{Problem}
 use Rattle.pns_rules.specs.Nodes.{Node}
 use Rattle.pgraph.specs.View.{node_of}
 use Rattle.tree_rules.specs.Tree.{End, branch, leaf}
-use Rattle.tree_rules.specs.Leaf.{Leaf, dead, clash, refuted, bounded, untried, IsBounded}
-use Rattle.tree_rules.specs.Leaf.{LeafPasses}
+use Rattle.tree_rules.specs.Leaf.{Leaf, Scaled, dead, clash, refuted, bounded, charged, untried}
+use Rattle.tree_rules.specs.Leaf.{IsUntried, IsBounded, LeafPasses}
 use Rattle.tree_rules.specs.Claim as claims
 use Rattle.tree_rules.specs.Claim.{CostOver, claimed_cost, IsSized}
 use Rattle.tree_rules.specs.Known.{KnowsEnd}
 use Rattle.tree_rules.specs.Accepted.{Tree}
-use Rattle.branch_tree.specs.Scaled.{Scaled}
 use Rattle.search_tree.specs.declared.shut.Shut.{Shut}
 use Rattle.search_tree.specs.declared.shut.Shut.TheVariants as shuts
 use Rattle.search_tree.specs.Cells.{Cell, place_of, cell_at}
-use Rattle.search_tree.specs.Growth.{is_open, as_shut}
+use Rattle.search_tree.specs.Growth.{is_open, as_shut, EndsOpen}
 use Rattle.search_tree.specs.Preorder.{IsTreeOf}
 use Rattle.search_tree.specs.Shut.{shut_as, shut_end, shut_cells}
 use Rattle.search_tree.proofs.ShutLemmas.{closed_stays, unproved_stays, proof_of, shut_length}
@@ -42,19 +41,21 @@ use Rattle.abb_search.proofs.ClosingLemmas.{hand_there, hand_some}
 
 -- ---- ends that are shut
 
-pub no_open : (m : Shut) (e : End Leaf) → shut_end (Some m) e ≡ leaf untried → ⊥
-no_open m (branch w) h = let q : branch w ≡ leaf untried = h in cc
-no_open m (leaf (dead x)) h = let q : leaf (dead x) ≡ leaf untried = h in cc
-no_open m (leaf (clash k)) h = let q : leaf (clash k) ≡ leaf untried = h in cc
-no_open m (leaf (refuted ys)) h = let q : leaf (refuted ys) ≡ leaf untried = h in cc
-no_open m (leaf (bounded d ys)) h = let q : leaf (bounded d ys) ≡ leaf untried = h in cc
-no_open (shuts.Bounded s) (leaf untried) h = let q : leaf (bounded s.d s.ys) ≡ leaf untried =
-    h in cc
-no_open (shuts.Refuted ys) (leaf untried) h = let q : leaf (refuted ys) ≡ leaf untried = h in cc
+pub no_open : (m : Shut) (e : End Leaf) → EndsOpen (shut_end (Some m) e) → ⊥
+no_open m (branch w) h = let q : branch w ≡ leaf (untried h.0) = h.1 in cc
+no_open m (leaf (dead x)) h = let q : leaf (dead x) ≡ leaf (untried h.0) = h.1 in cc
+no_open m (leaf (clash k)) h = let q : leaf (clash k) ≡ leaf (untried h.0) = h.1 in cc
+no_open m (leaf (refuted ys)) h = let q : leaf (refuted ys) ≡ leaf (untried h.0) = h.1 in cc
+no_open m (leaf (bounded d ys)) h = let q : leaf (bounded d ys) ≡ leaf (untried h.0) = h.1 in cc
+no_open m (leaf (charged c)) h = let q : leaf (charged c) ≡ leaf (untried h.0) = h.1 in cc
+no_open (shuts.Bounded s) (leaf (untried low)) h =
+    let q : leaf (bounded s.d s.ys) ≡ leaf (untried h.0) = h.1 in cc
+no_open (shuts.Refuted ys) (leaf (untried low)) h = let q : leaf (refuted ys) ≡ leaf (untried h.0) =
+    h.1 in cc
 
-never_untried : (m : Shut) → shut_as m ≡ untried → ⊥
-never_untried (shuts.Bounded s) h = let q : bounded s.d s.ys ≡ untried = h in cc
-never_untried (shuts.Refuted ys) h = let q : refuted ys ≡ untried = h in cc
+never_untried : (m : Shut) → IsUntried (shut_as m) → ⊥
+never_untried (shuts.Bounded s) h = let q : bounded s.d s.ys ≡ untried h.0 = h.1 in cc
+never_untried (shuts.Refuted ys) h = let q : refuted ys ≡ untried h.0 = h.1 in cc
 
 -- what shuts a leaf does not bound it if it is a refutation
 bounded_end : (o : Option Shut) (e : End Leaf) → ((m : Scaled) → o ≡ Some (shuts.Bounded m) → ⊥)
@@ -66,7 +67,8 @@ bounded_end (Some (shuts.Refuted ys)) (leaf (dead x)) h = refl
 bounded_end (Some (shuts.Refuted ys)) (leaf (clash k)) h = refl
 bounded_end (Some (shuts.Refuted ys)) (leaf (refuted zs)) h = refl
 bounded_end (Some (shuts.Refuted ys)) (leaf (bounded d zs)) h = refl
-bounded_end (Some (shuts.Refuted ys)) (leaf untried) h = refl
+bounded_end (Some (shuts.Refuted ys)) (leaf (charged c)) h = refl
+bounded_end (Some (shuts.Refuted ys)) (leaf (untried low)) h = refl
 
 bounded_stays : (ms : List (Option Shut)) (cs : List Cell)
     → ((j : ℕ) (m : Scaled) → j < length cs → proof_of ms j ≡ Some (shuts.Bounded m) → ⊥)
@@ -114,15 +116,15 @@ module _ (ms : List (Option Shut)) (cells : List Cell) (j : ℕ) where
       (unproved_stays (cell_at cells j).end))
 
   -- this holds of a leaf that is open in the tree after that
-  pub open_left : j < length (shut_cells ms cells)
-      → (cell_at (shut_cells ms cells) j).end ≡ leaf untried → IsLeftOpen ms cells j
+  pub open_left : j < length (shut_cells ms cells) → EndsOpen (cell_at (shut_cells ms cells) j).end
+      → IsLeftOpen ms cells j
   open_left lt e =
-      by (proof_of ms j) refl (ap (λ (c : Cell). c.end) (sym (shut_at ms cells j less)) ∙ e)
+      by (proof_of ms j) refl (e.0, ap (λ (c : Cell). c.end) (sym (shut_at ms cells j less)) ∙ e.1)
     where
       less : j < length cells
       less = let n = shut_length ms cells in omega (arith, lt, n)
 
-      by : (o : Option Shut) → proof_of ms j ≡ o → shut_end o (cell_at cells j).end ≡ leaf untried
+      by : (o : Option Shut) → proof_of ms j ≡ o → EndsOpen (shut_end o (cell_at cells j).end)
           → IsLeftOpen ms cells j
       by None q k = record { there = less; cell_is = left_open less q; unshut = q }
       by (Some m) q k = absurd (no_open m (cell_at cells j).end k)
@@ -154,7 +156,7 @@ module _ (p : Problem) (s : Growing) (t : IsTreeKept p s) (ms : List (Option Shu
             shut = never_untried m;
             passes = shut_passes p (claimed_cost (claim_with s.best)) (place_of c) m h;
             key = c.key;
-            new_is = ap (λ (k : End Leaf). as_shut c (shut_end (Some m) k)) u;
+            new_is = ap (λ (k : End Leaf). as_shut c (shut_end (Some m) k)) u.1;
           })
 
   are_shut : AreShut p (claimed_cost (claim_with s.best)) s.pool.payloads
@@ -182,7 +184,7 @@ module _ (p : Problem) (s : Growing) (t : IsTreeKept p s) (ms : List (Option Shu
           (known_end p c (as_shut c c.end) k refl refl k.end)
       by true e =
           subst (λ (d : End Leaf). KnowsCell p (as_shut c (shut_end (Some m) d)))
-          (sym (open_leaf c.end e))
+          (sym (open_leaf c.end e).1)
           (known_end p c (as_shut c (leaf (shut_as m))) k refl refl
           (shut_known p (claimed_cost (claim_with s.best)) (place_of c) m h))
 
@@ -258,18 +260,18 @@ module _ (p : Problem) (s : Growing) (t : IsTreeKept p s) (ms : List (Option Shu
       (all j lt)
 
   none_open : (j : ℕ) → j < length (shut_cells ms s.pool.payloads)
-      → (cell_at (shut_cells ms s.pool.payloads) j).end ≡ leaf untried → ⊥
+      → EndsOpen (cell_at (shut_cells ms s.pool.payloads) j).end → ⊥
   none_open j lt e =
       by (proof_of ms j) (all j less)
-      (ap (λ (c : Cell). c.end) (sym (shut_at ms s.pool.payloads j less)) ∙ e)
+      (e.0, ap (λ (c : Cell). c.end) (sym (shut_at ms s.pool.payloads j less)) ∙ e.1)
     where
       less : j < length s.pool.payloads
       less = let n = shut_length ms s.pool.payloads in omega (arith, lt, n)
 
       by : (o : Option Shut)
           → ShutsLeaf p (claimed_cost (claim_with s.best)) (cell_at s.pool.payloads j) o
-          → shut_end o (cell_at s.pool.payloads j).end ≡ leaf untried → ⊥
-      by None h k = h (sym (unproved_stays (cell_at s.pool.payloads j).end) ∙ k)
+          → EndsOpen (shut_end o (cell_at s.pool.payloads j).end) → ⊥
+      by None h k = h (k.0, sym (unproved_stays (cell_at s.pool.payloads j).end) ∙ k.1)
       by (Some m) h k = no_open m (cell_at s.pool.payloads j).end k
 
   pub closed_found : (Past : PastPlaces) (place : ℕ) (tree : Tree)
@@ -311,9 +313,8 @@ module _ {Past : PastPlaces} {undercut : Option CostOver} (p : Problem) (s : Gro
       by (Some ys) e r = refuted_by_hand claimed j lt ys e r
 
   -- all open leaves are shut if each is refuted
-  pub refuted_all : ((j : ℕ) → j < length s.pool.payloads
-      → (cell_at s.pool.payloads j).end ≡ leaf untried → is_refuted (ready_at s j) ≡ true)
-      → (claimed : Option CostOver) → ShutAll p s claimed ms
+  pub refuted_all : ((j : ℕ) → j < length s.pool.payloads → EndsOpen (cell_at s.pool.payloads j).end
+      → is_refuted (ready_at s j) ≡ true) → (claimed : Option CostOver) → ShutAll p s claimed ms
   refuted_all each claimed j lt =
       subst (λ (o : Option Shut). ShutsLeaf p claimed (cell_at s.pool.payloads j) o)
       (sym (shut j lt).0) (by (refutation_of (hand_of s j)) refl (shut j lt).1)

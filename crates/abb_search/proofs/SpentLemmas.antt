@@ -9,10 +9,10 @@ use Rattle.pns_rules.specs.Shape.{shape_of}
 use Rattle.pns_rules.specs.Ends.{IsDead, IsNever, IsReduced}
 use Rattle.tree_rules.specs.Ways.{MayBranch, options_at, IsDecision}
 use Rattle.tree_rules.specs.Tree.{leaf}
-use Rattle.tree_rules.specs.Leaf.{untried}
 use Rattle.tree_rules.specs.Claim.{CostOver, claimed_cost}
 use Rattle.tree_rules.specs.Lean.{MayUndercut, IsNoDearer}
 use Rattle.tree_rules.specs.Stops.{IsPending, IsNextCount}
+use Rattle.search_tree.specs.Growth.{EndsOpen}
 use Rattle.search_tree.specs.declared.shut.Shut.{Shut}
 use Rattle.search_tree.specs.declared.shut.Shut.TheVariants as shuts
 use Rattle.search_tree.specs.Cells.{Cell, place_of, cell_at}
@@ -43,8 +43,7 @@ none_refuted None h = refl
 none_refuted (Some ys) h = absurd (let q : Some (shuts.Refuted ys) ≡ None = h in cc)
 
 module _ (s : Growing) (ms : List (Option Shut)) (shut : RefutedShut s ms) (j : ℕ)
-    (lt : j < length s.pool.payloads)
-    (is_open : (cell_at s.pool.payloads j).end ≡ leaf untried) where
+    (lt : j < length s.pool.payloads) (is_open : EndsOpen (cell_at s.pool.payloads j).end) where
   -- if nothing shuts an open leaf, it is not refuted
   lives : proof_of ms j ≡ None → refutation_of (ready_at s j) ≡ None
   lives none = ap refutation_of (sym (hand_there s j is_open))
@@ -105,7 +104,7 @@ module _ (p : Problem) (s : Growing) (t : IsTreeKept p s) (ms : List (Option Shu
     way = f.way;
     can = record {
       there = let l = f.can.there in let n = shut_length ms s.pool.payloads in omega (arith, l, n);
-      is_open = subst (λ (c : Cell). c.end ≡ leaf untried) (sym here) f.can.is_open;
+      is_open = subst (λ (c : Cell). EndsOpen c.end) (sym here) f.can.is_open;
       reduced = subst (λ (c : Cell). IsReduced (shape_of p) (place_of c)) (sym here) f.can.reduced;
       may = subst (λ (c : Cell). MayBranch (shape_of p) (place_of c) f.way) (sym here) f.can.may;
       splits =
@@ -118,7 +117,7 @@ module _ (p : Problem) (s : Growing) (t : IsTreeKept p s) (ms : List (Option Shu
         (place_of (cell_at (shut_cells ms s.pool.payloads) j))) (sym here)
         (subst (λ (c : Cell). IsNoDearer p (place_of (cell_at s.pool.payloads at)) (place_of c))
         (sym l.cell_is)
-        (f.least j l.there ne (subst (λ (c : Cell). c.end ≡ leaf untried) l.cell_is e)
+        (f.least j l.there ne (subst (λ (c : Cell). EndsOpen c.end) l.cell_is e)
         (subst (λ (c : Cell). IsNever (IsDead (shape_of p) (place_of c))) l.cell_is alive)));
     may =
         subst (λ (c : Cell). MayUndercut p (claimed_cost (claim_with s.best)) (place_of c))
@@ -126,7 +125,7 @@ module _ (p : Problem) (s : Growing) (t : IsTreeKept p s) (ms : List (Option Shu
     pending = λ j lt e none.
         let l = open_left ms s.pool.payloads j lt e in
         subst (λ (c : Cell). IsPending p (place_of c)) (sym l.cell_is)
-        (f.pending j l.there (subst (λ (c : Cell). c.end ≡ leaf untried) l.cell_is e) l.unshut);
+        (f.pending j l.there (subst (λ (c : Cell). EndsOpen c.end) l.cell_is e) l.unshut);
     count_is =
         subst (λ (c : Cell). IsNextCount (shape_of p) (place_of c) count) (sym here) f.count_is;
     as_many =

@@ -31,7 +31,7 @@ use Rattle.tree_rules.specs.Lean.{HasCheaper}
 use Rattle.tree_rules.specs.Stops.{IsPending}
 use Rattle.search_tree.specs.Cells.{Cell, place_of, cell_at}
 use Rattle.search_tree.specs.declared.growth.Fresh.{Fresh}
-use Rattle.search_tree.specs.Growth.{AreOpenAfter, as_parent}
+use Rattle.search_tree.specs.Growth.{AreOpenAfter, as_parent, EndsOpen}
 use Rattle.turn_laws.specs.Values.{IsPositive, IsPositiveCost}
 use Rattle.tree_rules.specs.Costs.{IsNoMore, HasFallen}
 use Rattle.turn_laws.specs.Kept.{IsKeptFor}
@@ -94,7 +94,7 @@ two_or_more (choices.Unit u) = omega arith
 -- each open leaf is refuted if the pool has no first one
 pub whole : {Past : PastPlaces} {undercut : Option CostOver} (p : Problem) (s : Growing)
     → IsGrowingFor Past p undercut s → first s.pool.leaves ≡ None → (i : ℕ)
-    → i < length s.pool.payloads → (cell_at s.pool.payloads i).end ≡ leaf untried
+    → i < length s.pool.payloads → EndsOpen (cell_at s.pool.payloads i).end
     → is_refuted (ready_at s i) ≡ true
 whole p s g e i lt h =
     elim (g.are_open.others i lt h) [ inl l ↦ absurd (none_first s.pool.leaves e i l) | inr r ↦ r ]
@@ -196,8 +196,7 @@ value_leads s at none has_least v e j h ne w k =
 -- an open leaf is one of the pool if its worth is settled
 pub stopped_leaf : {Past : PastPlaces} {undercut : Option CostOver} (p : Problem) (s : Growing)
     → IsGrowingFor Past p undercut s → (at : ℕ) → at < length s.pool.payloads
-    → (cell_at s.pool.payloads at).end ≡ leaf untried → IsSettledAt s at
-    → has s.pool.leaves at ≡ true
+    → EndsOpen (cell_at s.pool.payloads at).end → IsSettledAt s at → has s.pool.leaves at ≡ true
 stopped_leaf p s g at there opens settled =
     elim (g.are_open.others at there opens)
     [ inl l ↦ l | inr r ↦ absurd (never_both (ready_at s at) settled r) ]
@@ -210,7 +209,7 @@ module _ {Past : PastPlaces} {undercut : Option CostOver} (p : Problem) (valid :
   pub there : at < length s.pool.payloads
   there = let l = below at is_leaf in let e = same_parents in omega (arith, l, e)
 
-  pub untried_there : (cell_at s.pool.payloads at).end ≡ leaf untried
+  pub untried_there : EndsOpen (cell_at s.pool.payloads at).end
   untried_there = g.are_open.opens at there is_leaf
 
   pub at_hand : IsAtHand Past p s.pool.payloads s.pool.values s.ready at
@@ -251,7 +250,7 @@ module _ {Past : PastPlaces} {undercut : Option CostOver} (p : Problem) (valid :
     pub is : ready_at s j ≡ Some ready
     pub known : IsReady Past p (place_of (cell_at s.pool.payloads j)) value ready
 
-  other : (j : ℕ) → j < length s.pool.payloads → (cell_at s.pool.payloads j).end ≡ leaf untried
+  other : (j : ℕ) → j < length s.pool.payloads → EndsOpen (cell_at s.pool.payloads j).end
       → IsOther j
   other j lt e =
       let h = g.ready.each j lt e in
@@ -274,9 +273,8 @@ module _ {Past : PastPlaces} {undercut : Option CostOver} (p : Problem) (valid :
   }
 
   -- an open leaf is pending if its worth is settled
-  pub pending : (j : ℕ) → j < length s.pool.payloads
-      → (cell_at s.pool.payloads j).end ≡ leaf untried → IsSettledAt s j
-      → IsPending p (place_of (cell_at s.pool.payloads j))
+  pub pending : (j : ℕ) → j < length s.pool.payloads → EndsOpen (cell_at s.pool.payloads j).end
+      → IsSettledAt s j → IsPending p (place_of (cell_at s.pool.payloads j))
   pending j lt e settled =
       let o = other j lt e in
       record {
@@ -296,7 +294,7 @@ module _ {Past : PastPlaces} {undercut : Option CostOver} (p : Problem) (valid :
   -- the same if no open leaf is one of which only a lower bound is known, and this one is not
   -- refuted
   pub pending_or : AreSettled s → (j : ℕ) → j < length s.pool.payloads
-      → (cell_at s.pool.payloads j).end ≡ leaf untried → refutation_of (ready_at s j) ≡ None
+      → EndsOpen (cell_at s.pool.payloads j).end → refutation_of (ready_at s j) ≡ None
       → IsPending p (place_of (cell_at s.pool.payloads j))
   pending_or all j lt e lives =
       let o = other j lt e in
@@ -518,7 +516,7 @@ module _ {Past : PastPlaces} {undercut : Option CostOver} (p : Problem) (valid :
 
           -- what is stored for another open leaf stays
           ready_kept : (j : ℕ) → j < length s.pool.payloads → (j ≡ at → ⊥)
-              → (cell_at s.pool.payloads j).end ≡ leaf untried → (r : Ready) → ready_at s j ≡ Some r
+              → EndsOpen (cell_at s.pool.payloads j).end → (r : Ready) → ready_at s j ≡ Some r
               → ready_at new j ≡ Some r
           ready_kept j lt ne e r is =
               ap (λ (d : Cell). get new.ready d.key) (branched.others j lt ne)
@@ -528,7 +526,7 @@ module _ {Past : PastPlaces} {undercut : Option CostOver} (p : Problem) (valid :
               (λ same. ne (g.ready.apart j at lt there e untried_there same)) ∙ is)
 
           refuted_kept : (j : ℕ) → j < length s.pool.payloads → (j ≡ at → ⊥)
-              → (cell_at s.pool.payloads j).end ≡ leaf untried → is_refuted (ready_at s j) ≡ true
+              → EndsOpen (cell_at s.pool.payloads j).end → is_refuted (ready_at s j) ≡ true
               → is_refuted (ready_at new j) ≡ true
           refuted_kept j lt ne e r = by (ready_at s j) refl r
             where
@@ -544,7 +542,7 @@ module _ {Past : PastPlaces} {undercut : Option CostOver} (p : Problem) (valid :
                 | inl e
                     ↦ absurd (true≢false (sym h ∙ (ap (λ i. has new.pool.leaves i) e ∙ after.shut)))
                 | inr ne
-                    ↦ subst (λ (d : Cell). d.end ≡ leaf untried) (sym (branched.others j l ne))
+                    ↦ subst (λ (d : Cell). EndsOpen d.end) (sym (branched.others j l ne))
                     (g.are_open.opens j l (sym (after.others j l ne) ∙ h))
               ]
               | inr le
@@ -556,10 +554,10 @@ module _ {Past : PastPlaces} {undercut : Option CostOver} (p : Problem) (valid :
                 | inl same
                     ↦ absurd
                     (parent_closed
-                    (subst (λ (d : Cell). d.end ≡ leaf untried)
+                    (subst (λ (d : Cell). EndsOpen d.end)
                     (ap (λ i. cell_at new.pool.payloads i) same ∙ branched.at_is) e))
                 | inr ne ↦
-                    let u = subst (λ (d : Cell). d.end ≡ leaf untried) (branched.others j l ne) e in
+                    let u = subst (λ (d : Cell). EndsOpen d.end) (branched.others j l ne) e in
                     elim (g.are_open.others j l u) [
                       | inl o ↦ inl (after.others j l ne ∙ o)
                       | inr r
@@ -572,8 +570,8 @@ module _ {Past : PastPlaces} {undercut : Option CostOver} (p : Problem) (valid :
             ];
           }
             where
-              parent_closed : branch (way_of m) ≡ leaf untried → ⊥
-              parent_closed q = cc
+              parent_closed : EndsOpen (branch (way_of m)) → ⊥
+              parent_closed q = let r : branch (way_of m) ≡ leaf (untried q.0) = q.1 in cc
 
           -- a leaf has at least two options
           pub more_now : length s.pool.payloads < length new.pool.payloads
@@ -601,7 +599,7 @@ module _ {Past : PastPlaces} {undercut : Option CostOver} (p : Problem) (valid :
                 tree_now,
                 record {
                   there = let a = longer in omega (arith, a, lt);
-                  is_open = subst (λ (d : Cell). d.end ≡ leaf untried) (sym here) h.1;
+                  is_open = subst (λ (d : Cell). EndsOpen d.end) (sym here) h.1;
                   stopped = subst (λ (d : Cell). IsStop Past p (place_of d) w.stop) (sym here) h.2;
                 },
               )

@@ -12,16 +12,15 @@ use Rattle.tree_rules.specs.Ways.{Way, options_at}
 use Rattle.tree_rules.specs.Tree.{leaf}
 use Rattle.tree_rules.specs.Claim as claims
 use Rattle.tree_rules.specs.Claim.{CostOver}
-use Rattle.tree_rules.specs.Leaf.{untried, IsRefuted, IsBounded}
+use Rattle.tree_rules.specs.Leaf.{IsRefuted, IsBounded, Scaled}
 use Rattle.tree_rules.specs.Lean.{MayUndercut}
 use Rattle.tree_rules.specs.Stops.{IsPending, IsNextCount}
-use Rattle.branch_tree.specs.Scaled.{Scaled}
 use Rattle.search_tree.specs.declared.shut.Shut.{Shut}
 use Rattle.search_tree.specs.declared.shut.Shut.TheVariants as shuts
 use Rattle.search_tree.specs.Cells.{Cell, place_of, cell_at}
 use Rattle.tree_rules.specs.Costs.{IsNoMore}
 use Rattle.turn_laws.specs.Turns.{CanBranch, IsLeastOpen}
-use Rattle.search_tree.specs.Growth.{is_open}
+use Rattle.search_tree.specs.Growth.{is_open, EndsOpen}
 use Rattle.slab.specs.Slab.{get}
 use Rattle.node_evaluation.specs.declared.looks.Ready.{Ready}
 use Rattle.node_evaluation.specs.declared.evaluator.Proof.{Proof}
@@ -66,7 +65,7 @@ ShutsNode p claimed n (shuts.Refuted ys) = RefutesLeaf p n ys
 
 -- a cell that is no open leaf may go without
 abbrev pub ShutsLeaf : Problem → Option CostOver → Cell → Option Shut → Type 0
-ShutsLeaf p claimed c None = c.end ≡ leaf untried → ⊥
+ShutsLeaf p claimed c None = EndsOpen c.end → ⊥
 ShutsLeaf p claimed c (Some m) = ShutsNode p claimed (place_of c) m
 
 -- all open leaves are shut, each by the item at its number
@@ -134,9 +133,8 @@ pub record IsSpentFor (p : Problem) (undercut : Option CostOver) (s : Growing)
   pub can : CanBranch p s.pool.payloads at way
   pub least : IsLeastOpen p s.pool.payloads at
   pub may : MayUndercut p undercut (place_of (cell_at s.pool.payloads at))
-  pub pending : (j : ℕ) → j < length s.pool.payloads
-      → (cell_at s.pool.payloads j).end ≡ leaf untried → slice_index_or ms j None ≡ None
-      → IsPending p (place_of (cell_at s.pool.payloads j))
+  pub pending : (j : ℕ) → j < length s.pool.payloads → EndsOpen (cell_at s.pool.payloads j).end
+      → slice_index_or ms j None ≡ None → IsPending p (place_of (cell_at s.pool.payloads j))
   pub count_is : IsNextCount (shape_of p) (place_of (cell_at s.pool.payloads at)) options
   pub as_many : options
       ≡ length (options_at (shape_of p) (place_of (cell_at s.pool.payloads at)) way)

@@ -15,7 +15,7 @@ use Rattle.tree_rules.specs.Claim as claims
 use Rattle.tree_rules.specs.Claim.{CostOver, claimed_cost, IsAtMost, ClaimPasses}
 use Rattle.tree_rules.specs.Leaf.{untried}
 use Rattle.search_tree.specs.Cells.{Cell, place_of, cell_at}
-use Rattle.search_tree.specs.Growth.{is_open, AreOpenAfter, as_parent}
+use Rattle.search_tree.specs.Growth.{is_open, AreOpenAfter, as_parent, EndsOpen}
 use Rattle.tree_rules.specs.Costs.{IsNoMore, HasFallen}
 use Rattle.turn_laws.specs.Kept.{IsKeptFor}
 use Rattle.node_pool.specs.Pooled.{AreSameNodes}
@@ -58,8 +58,8 @@ ready_at s at = get s.ready (cell_at s.pool.payloads at).key
 -- cell stays open
 pub record AreOpen (s : Growing) : Type 0 where
   pub opens : (j : ℕ) → j < length s.pool.payloads → has s.pool.leaves j ≡ true
-      → (cell_at s.pool.payloads j).end ≡ leaf untried
-  pub others : (j : ℕ) → j < length s.pool.payloads → (cell_at s.pool.payloads j).end ≡ leaf untried
+      → EndsOpen (cell_at s.pool.payloads j).end
+  pub others : (j : ℕ) → j < length s.pool.payloads → EndsOpen (cell_at s.pool.payloads j).end
       → (has s.pool.leaves j ≡ true) ⊎ (is_refuted (ready_at s j) ≡ true)
 
 -- and each open leaf has its data stored
@@ -146,7 +146,7 @@ leaf_of (Some h) = Some h.leaf
 pub record IsStoppedAt (Past : PastPlaces) (p : Problem) (s : Growing) (at : ℕ)
     (h : PastStop) : Type 0 where
   pub there : at < length s.pool.payloads
-  pub is_open : (cell_at s.pool.payloads at).end ≡ leaf untried
+  pub is_open : EndsOpen (cell_at s.pool.payloads at).end
   pub stopped : IsStop Past p (place_of (cell_at s.pool.payloads at)) h
 
 -- between two turns: each open leaf has its data stored, or one stops the search
@@ -166,7 +166,8 @@ IsGoing Past p s = GoesOn Past p s s.stop
 
 -- the root as an open leaf without steps
 abbrev pub open_cell : starts.Node → Cell
-open_cell n = record { option = []; steps = []; node = n; first = 0; end = leaf untried; key = 0 }
+open_cell n =
+    record { option = []; steps = []; node = n; first = 0; end = leaf (untried None); key = 0 }
 
 -- the tree is the open root, and this network is to be undercut
 pub record IsOpenRoot (start : starts.Node) (budget : ℕ) (best : Option claims.Network)

@@ -5,7 +5,7 @@ use Rattle.slab.specs.Slab.{Slab, get, Updates}
 use Rattle.problem_rules.specs.Problem.{Problem}
 use Rattle.mixed_numbers.specs.declared.number.Mixed.{Mixed}
 use Rattle.tree_rules.specs.Tree.{leaf}
-use Rattle.tree_rules.specs.Leaf.{untried}
+use Rattle.search_tree.specs.Growth.{EndsOpen}
 use Rattle.search_tree.specs.Cells.{Cell, place_of, cell_at}
 use Rattle.search_tree.specs.declared.growth.Fresh.{Fresh}
 use Rattle.node_evaluation.specs.declared.looks.Ready.{Ready}
@@ -23,10 +23,10 @@ pub record IsAtHand (Past : PastPlaces) (p : Problem) (cells : List Cell) (value
 pub record AreAtHand (Past : PastPlaces) (p : Problem) (cells : List Cell) (values : List Mixed)
     (hand : Slab Ready) : Type 0 where
   pub as_many : length values ≡ length cells
-  pub each : (j : ℕ) → j < length cells → (cell_at cells j).end ≡ leaf untried
+  pub each : (j : ℕ) → j < length cells → EndsOpen (cell_at cells j).end
       → IsAtHand Past p cells values hand j
-  pub apart : (i j : ℕ) → i < length cells → j < length cells → (cell_at cells i).end ≡ leaf untried
-      → (cell_at cells j).end ≡ leaf untried
+  pub apart : (i j : ℕ) → i < length cells → j < length cells → EndsOpen (cell_at cells i).end
+      → EndsOpen (cell_at cells j).end
       → (cell_at cells i).key ≡ (cell_at cells j).key → i ≡ j
 
 -- ---- children are placed

@@ -4,7 +4,7 @@ use Rattle.std.specs.Prelude.{length, Option, Some, None}
 use Rattle.link_lists.specs.Lists.{has}
 use Rattle.problem_rules.specs.Problem.{Problem}
 use Rattle.tree_rules.specs.Tree.{leaf}
-use Rattle.tree_rules.specs.Leaf.{untried}
+use Rattle.search_tree.specs.Growth.{EndsOpen}
 use Rattle.search_tree.specs.Cells.{cell_at}
 use Rattle.node_evaluation.specs.Evaluated.{PastPlaces}
 use Rattle.abb_search.specs.declared.growing.Growing.{Growing}
@@ -26,7 +26,7 @@ waiting s = waiting_below s (length s.pool.payloads)
 
 -- no open leaf is one of which only a lower bound is known
 abbrev pub AreSettled : Growing → Type 0
-AreSettled s = (j : ℕ) → j < length s.pool.payloads → (cell_at s.pool.payloads j).end ≡ leaf untried
+AreSettled s = (j : ℕ) → j < length s.pool.payloads → EndsOpen (cell_at s.pool.payloads j).end
     → is_put_off (ready_at s j) ≡ false
 
 -- fewer leaves wait, or a number overflows at one of them, which stops the search

@@ -1,7 +1,8 @@
 -- The multipliers after the scale are numbers of the list.
 use Rattle.std.proofs.Common.{◌≡◌, ℕ, suc, ◌<◌, List, [], ◌∷◌, ℤ, length, sym, subst, arith}
 use Rattle.integer_laws.specs.Range.{AllInRange}
-use Rattle.branch_tree.specs.Scaled.{Scaled, scaled_of}
+use Rattle.tree_rules.specs.Leaf.{Scaled}
+use Rattle.branch_tree.specs.Scaled.{scaled_of}
 
 rest_in_range : (numbers : List ℤ) → AllInRange numbers → AllInRange (scaled_of numbers).ys
 rest_in_range [] h k d l = absurd (omega arith)

@@ -5,8 +5,8 @@ use Rattle.tree_rules.specs.Leaf as leaves
 use Rattle.tree_rules.specs.Claim as claims
 use Rattle.tree_rules.specs.Tail as tails
 use Rattle.branch_tree.specs.declared.end.End.{End}
-use Rattle.branch_tree.specs.declared.end.End.TheVariants.{Dead, Clash, Refuted, Bound, Branch}
-use Rattle.branch_tree.specs.declared.end.End.TheVariants.{Either, Open}
+use Rattle.branch_tree.specs.declared.end.End.TheVariants.{Dead, Clash, Refuted, Bound, Charge}
+use Rattle.branch_tree.specs.declared.end.End.TheVariants.{Branch, Either, Open}
 use Rattle.branch_tree.specs.declared.claim.Claim.{Claim}
 use Rattle.branch_tree.specs.declared.claim.Claim.TheVariants.{Network, Infeasible, Unknown}
 use Rattle.branch_tree.specs.declared.tail.Tail.{Tail}
@@ -17,9 +17,11 @@ end_of (Dead x) = trees.leaf (leaves.dead x)
 end_of (Clash k) = trees.leaf (leaves.clash k)
 end_of (Refuted ys) = trees.leaf (leaves.refuted ys)
 end_of (Bound s) = trees.leaf (leaves.bounded s.d s.ys)
+end_of (Charge s covers) =
+    trees.leaf (leaves.charged (record { d = s.d; ys = s.ys; covers = covers }))
 end_of (Branch x c) = trees.branch (ways.at_material x c)
 end_of (Either u) = trees.branch (ways.either u)
-end_of Open = trees.leaf leaves.untried
+end_of (Open low) = trees.leaf (leaves.untried low)
 
 abbrev pub claim_of : Claim → claims.Claim
 claim_of (Network w) = claims.network w

@@ -5,6 +5,7 @@ ghost use Rattle.branch_tree.specs.View.{end_of};
 
 use crate::multipliers::Multipliers;
 use crate::scaled::Scaled;
+use covers::Covers;
 
 /// How a node ends.
 #[derive(Drop)]
@@ -17,12 +18,14 @@ pub enum End {
     Refuted(Multipliers),
     /// The multipliers bound the cost of the node's flows, over their scale.
     Bound(Scaled),
+    /// The multipliers and the covers charge the node, over their scale.
+    Charge { scaled: Scaled, covers: Covers },
     /// So many children follow, one for each option of the material.
     Branch { material: u32, children: u32 },
     /// Two children follow: the unit is taken in, and the unit is left out.
     Either(u32),
-    /// The leaf is open.
-    Open,
+    /// The leaf is open, with a bound if one is known.
+    Open(Option<Scaled>),
 }
 
 impl End {

@@ -17,11 +17,12 @@ pub struct Scaled {
 impl Model for Scaled {
     ghost use Rattle.std.specs.Prelude.{◌<◌, length};
     ghost use Rattle.integer_laws.specs.Range.{AllInRange};
-    ghost use Rattle.branch_tree.specs.Scaled as specs;
+    ghost use Rattle.tree_rules.specs.Leaf as rules;
+    ghost use Rattle.branch_tree.specs.Scaled.{scaled_of};
 
-    ghost Value = { specs.Scaled };
+    ghost Value = { rules.Scaled };
 
-    ghost view = { λ s. specs.scaled_of s.numbers.items };
+    ghost view = { λ s. scaled_of s.numbers.items };
 
     ghost invariant = { λ s. (0 < length s.numbers.items) × AllInRange s.numbers.items };
 }

@@ -18,7 +18,7 @@ use Rattle.pns_rules.specs.Shape.{IsProper, shape_of}
 use Rattle.pns_rules.specs.Nodes.{Node}
 use Rattle.pns_rules.specs.Ends.{IsSound}
 use Rattle.pns_rules.specs.Tokens.{digit, AreDigits, token_of}
-use Rattle.tree_rules.specs.Tree.{leaf, Stands}
+use Rattle.tree_rules.specs.Tree.{leaf}
 use Rattle.tree_rules.specs.Leaf.{untried, IsUntried, LeafPasses}
 use Rattle.tree_rules.specs.Claim.{Claim, claimed_cost}
 use Rattle.tree_rules.specs.Accepted.{Tree, first_node, IsPartial}
@@ -26,7 +26,7 @@ use Rattle.tree_rules.specs.Known as trees
 use Rattle.tree_rules.specs.Stops.{IsOpenAt}
 use Rattle.tree_rules.specs.Tail.{Tail, whole, spent, past}
 use Rattle.tree_text_rules.specs.Read.{Certificate, Fault, read_text}
-use Rattle.part_rules.specs.OpenLeaves.{OpenAt, open_leaves}
+use Rattle.part_rules.specs.OpenLeaves.{OpenAt, open_leaves, StandsOpen}
 use Rattle.part_laws.specs.Laws.{OpenLeavesStand}
 use Rattle.studio_rules.specs.Lines.{text_of}
 use Rattle.studio_rules.specs.Part.{PartSays, PartWork, ClaimSays, AgainstWork}
@@ -203,11 +203,12 @@ module _ (p : Problem) (proper : IsProper (shape_of p)) (few : length p.units �
   told_is_start stand claim tree inside outside partial sound told =
       let g = shape_of p in
       let l : OpenAt = told.told in
-      let stands : Stands g (first_node ∷ []) tree l.number l.node (leaf untried) =
+      let stands : StandsOpen g (first_node ∷ []) tree l.number l.node =
       (stand g first_node tree l).0 told.among in
       let small : AreUnits g proper l.node =
       stands_small g proper (LeafPasses true p (claimed_cost claim))
-      (first_node ∷ []) tree l.number l.node (leaf untried) partial.passes (first, tt) stands in
+      (first_node ∷ []) tree l.number l.node (leaf (untried stands.0)) partial.passes (first, tt)
+      stands.1 in
       let same : l.node
       ≡ record {
         inside = has (listed 128 l.node.inside);
@@ -224,7 +225,11 @@ module _ (p : Problem) (proper : IsProper (shape_of p)) (few : length p.units �
         outside_named = told.second_is;
         sound =
             subst (IsSound g) same
-            (sound l.number l.node (record { what = untried; stands = stands; is_open = refl }));
+            (sound l.number l.node (record {
+              what = untried stands.0;
+              stands = stands.1;
+              is_open = (stands.0, refl);
+            }));
       }
     where
       first : AreUnits (shape_of p) proper first_node

@@ -10,12 +10,12 @@ use Rattle.problem_rules.specs.Problem.{Problem}
 use Rattle.pns_rules.specs.Shape.{IsProper, shape_of}
 use Rattle.pns_rules.specs.Nodes.{Node}
 use Rattle.pns_rules.specs.Tokens.{digit, AreDigits, token_of}
-use Rattle.tree_rules.specs.Tree.{leaf, Stands}
+use Rattle.tree_rules.specs.Tree.{leaf}
 use Rattle.tree_rules.specs.Leaf.{untried, LeafPasses}
 use Rattle.tree_rules.specs.Claim.{Claim, claimed_cost}
 use Rattle.tree_rules.specs.Accepted.{Tree, first_node, IsPartial}
 use Rattle.tree_rules.specs.Known as trees
-use Rattle.part_rules.specs.OpenLeaves.{OpenAt, open_leaves, IsAmong}
+use Rattle.part_rules.specs.OpenLeaves.{OpenAt, open_leaves, IsAmong, StandsOpen}
 use Rattle.part_laws.specs.Laws.{OpenLeavesStand}
 use Rattle.studio_rules.specs.Lines.{text_of}
 use Rattle.studio_rules.specs.Split.{token_in, split_lines}
@@ -169,21 +169,22 @@ module _ (p : Problem) (proper : IsProper (shape_of p)) (few : length p.units �
       → IsPartial p first_node claim tree → IsStart p word other ins outs
       → (told : IsTold (open_leaves (shape_of p) (first_node ∷ []) tree 0) (token_of ins)
       (token_of outs))
-      → Stands (shape_of p) (first_node ∷ []) tree told.told.number
-      (record { inside = has ins; outside = has outs }) (leaf untried)
+      → StandsOpen (shape_of p) (first_node ∷ []) tree told.told.number
+      (record { inside = has ins; outside = has outs })
   leaf_is_start stand claim tree word other ins outs partial start told =
       let g = shape_of p in
       let l : OpenAt = told.told in
-      let stands : Stands g (first_node ∷ []) tree l.number l.node (leaf untried) =
+      let stands : StandsOpen g (first_node ∷ []) tree l.number l.node =
       (stand g first_node tree l).0 told.among in
       let small : AreUnits g proper l.node =
       stands_small g proper (LeafPasses true p (claimed_cost claim))
-      (first_node ∷ []) tree l.number l.node (leaf untried) partial.passes (first, tt) stands in
+      (first_node ∷ []) tree l.number l.node (leaf (untried stands.0)) partial.passes (first, tt)
+      stands.1 in
       let inside = same_set l.node.inside ins small.inside start.inside_known told.first_is in
       let outside = same_set l.node.outside outs small.outside start.outside_known told.second_is in
       let same : l.node ≡ record { inside = has ins; outside = has outs } =
       λ i. record { inside = inside i; outside = outside i } in
-      subst (λ (n : Node). Stands g (first_node ∷ []) tree l.number n (leaf untried)) same stands
+      subst (λ (n : Node). StandsOpen g (first_node ∷ []) tree l.number n) same stands
     where
       first : AreUnits (shape_of p) proper first_node
       first = record { inside = λ u e. absurd cc; outside = λ u e. absurd cc }

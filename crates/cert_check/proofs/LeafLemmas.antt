@@ -1,19 +1,22 @@
 -- What is judged of one leaf is judged of the end that is this leaf.
-use Rattle.std.proofs.Common.{◌≡◌, ℕ, List, ◌++◌, Result, Ok, Err, OnOk, IfErr, refl, sym, ap, ◌∙◌}
-use Rattle.std.proofs.Common.{subst, inr}
+use Rattle.std.proofs.Common.{◌≡◌, ℕ, ℤ, Bool, true, false, List, ◌++◌, Option, Result, Ok, Err}
+use Rattle.std.proofs.Common.{OnOk, IfErr, refl, sym, ap, ◌∙◌, subst, inr}
+use Rattle.charge_rules.specs.Cover.{Cover}
+use Rattle.charge_rules.specs.Leaf.{Handed}
 use Rattle.pns_rules.specs.Shape.{Shape}
 use Rattle.pns_rules.specs.Nodes.{Node, Step}
 use Rattle.tree_rules.specs.declared.why.Why.{Why}
 use Rattle.tree_rules.specs.Tree.{End, leaf, TreeNode, StepsPass, after_all, below, EndPasses}
 use Rattle.tree_rules.specs.Fault.{EndFails, NodeFails}
-use Rattle.tree_rules.specs.Leaf.{Leaf, dead, clash, refuted, bounded, untried}
+use Rattle.tree_rules.specs.Leaf.{Leaf, Scaled, dead, clash, refuted, bounded, charged, untried}
 use Rattle.tree_rules.specs.Accepted.{Tree}
 use Rattle.branch_tree.specs.View.{end_of}
 use Rattle.branch_tree.specs.declared.end.End as ends
-use Rattle.branch_tree.specs.declared.end.End.TheVariants.{Dead, Clash, Refuted, Bound, Branch}
-use Rattle.branch_tree.specs.declared.end.End.TheVariants.{Either, Open}
+use Rattle.branch_tree.specs.declared.end.End.TheVariants.{Dead, Clash, Refuted, Bound, Charge}
+use Rattle.branch_tree.specs.declared.end.End.TheVariants.{Branch, Either, Open}
 use Rattle.cert_check.specs.declared.visit.Halt.{Halt}
 use Rattle.cert_check.specs.declared.visit.Halt.TheVariants.{Memory, Fails}
+use Rattle.cert_check.specs.Bare.{bare, as_judged}
 use Rattle.cert_check.specs.Visits.{IsVisited, Halts}
 
 one_leaf : (a b : Leaf) → leaf a ≡ leaf b → a ≡ b
@@ -43,9 +46,79 @@ leaf_of (Dead x) h k = (dead x, refl)
 leaf_of (Clash x) h k = (clash x, refl)
 leaf_of (Refuted ys) h k = (refuted ys, refl)
 leaf_of (Bound s) h k = (bounded s.d s.ys, refl)
+leaf_of (Charge s covers) h k = (charged (record { d = s.d; ys = s.ys; covers = covers }), refl)
 leaf_of (Branch x c) h k = absurd (h x c refl)
 leaf_of (Either u) h k = absurd (k u refl)
-leaf_of Open h k = (untried, refl)
+leaf_of (Open low) h k = (untried low, refl)
+
+-- a leaf that is not open has no bound to be left out
+pub bare_is : (e : ends.End) → ((low : Option Scaled) → e ≡ Open low → ⊥) → (l : Leaf)
+    → end_of e ≡ leaf l → bare l ≡ l
+bare_is e h (dead x) k = refl
+bare_is e h (clash x) k = refl
+bare_is e h (refuted ys) k = refl
+bare_is e h (bounded d ys) k = refl
+bare_is e h (charged c) k = refl
+bare_is e h (untried low) k = absurd (at e h k)
+  where
+    at : (d : ends.End) → ((b : Option Scaled) → d ≡ Open b → ⊥) → end_of d ≡ leaf (untried low) → ⊥
+    at (Dead x) f q = absurd cc
+    at (Clash x) f q = absurd cc
+    at (Refuted ys) f q = absurd cc
+    at (Bound s) f q = absurd cc
+    at (Charge s covers) f q = absurd cc
+    at (Branch x c) f q = absurd cc
+    at (Either u) f q = absurd cc
+    at (Open b) f q = f b refl
+
+-- if bounds of open leaves are judged, a leaf is judged as it is
+pub judged_as_is : (bounds : Bool) → bounds ≡ true → (l : Leaf) → as_judged bounds l ≡ l
+judged_as_is bounds is l = subst (λ (b : Bool). as_judged b l ≡ l) (sym is) refl
+
+-- so is one that is not open, if they are not
+pub judged_bare : (bounds : Bool) → bounds ≡ false → (e : ends.End)
+    → ((low : Option Scaled) → e ≡ Open low → ⊥) → (l : Leaf) → end_of e ≡ leaf l
+    → as_judged bounds l ≡ l
+judged_bare bounds is e h l k =
+    subst (λ (b : Bool). as_judged b l ≡ l) (sym is) (bare_is e h l k)
+
+module _ {A : Type 0} (d : End Leaf) (r : Result A Why) (judged : Leaf → Leaf)
+    (same : (l : Leaf) → d ≡ leaf l → judged l ≡ l) where
+  pub passes_as : (P : Leaf → Type 0) → OnOk r ((l : Leaf) → d ≡ leaf l → P l)
+      → OnOk r ((l : Leaf) → d ≡ leaf l → P (judged l))
+  passes_as P h = at r h
+    where
+      at : (s : Result A Why) → OnOk s ((l : Leaf) → d ≡ leaf l → P l)
+          → OnOk s ((l : Leaf) → d ≡ leaf l → P (judged l))
+      at (Ok x) f = λ l k. subst P (sym (same l k)) (f l k)
+      at (Err why) f = tt
+
+  pub fails_as : (F : Leaf → Why → Type 0)
+      → IfErr r (λ why. (l : Leaf) → d ≡ leaf l → F l why)
+      → IfErr r (λ why. (l : Leaf) → d ≡ leaf l → F (judged l) why)
+  fails_as F h = at r h
+    where
+      at : (s : Result A Why) → IfErr s (λ why. (l : Leaf) → d ≡ leaf l → F l why)
+          → IfErr s (λ why. (l : Leaf) → d ≡ leaf l → F (judged l) why)
+      at (Ok x) f = tt
+      at (Err why) f = λ l k. subst (λ (m : Leaf). F m why) (sym (same l k)) (f l k)
+
+-- ---- values made of what calls give
+
+abbrev pub scaled_by : ℤ → List ℤ → Scaled
+scaled_by d ys = record { d = d; ys = ys }
+
+pub scaled_is : (d : ℤ) (ys : List ℤ) (s : Scaled) → d ≡ s.d → ys ≡ s.ys → scaled_by d ys ≡ s
+scaled_is d ys s h k = ap (λ (x : ℤ). scaled_by x ys) h ∙ ap (λ (zs : List ℤ). scaled_by s.d zs) k
+
+abbrev pub handed_by : ℤ → List ℤ → List Cover → Handed
+handed_by d ys covers = record { d = d; ys = ys; covers = covers }
+
+pub handed_is : (d e : ℤ) (ys zs : List ℤ) (cs bs : List Cover) → d ≡ e → ys ≡ zs → cs ≡ bs
+    → handed_by d ys cs ≡ handed_by e zs bs
+handed_is d e ys zs cs bs h k m =
+    ap (λ (x : ℤ). handed_by x ys cs) h
+    ∙ (ap (λ (xs : List ℤ). handed_by e xs cs) k ∙ ap (λ (xs : List Cover). handed_by e zs xs) m)
 
 module _ (g : Shape) (n m : Node) (t : TreeNode Leaf) (steps : List Step)
     (is_steps : steps ≡ t.steps) (passes : StepsPass g n steps)

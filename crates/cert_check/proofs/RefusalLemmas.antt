@@ -1,12 +1,15 @@
 -- The answer is the one answer that the claim and the tree have, unless there is no memory.
-use Rattle.std.proofs.Common.{ℕ, Bool, false, Result, Ok, Err, OnOk, IfErr, refl, ap, ap₂, inl, inr}
+use Rattle.std.proofs.Common.{◌≡◌, ℕ, Bool, false, [], ◌∷◌, Option, Result, Ok, Err, OnOk, IfErr}
+use Rattle.std.proofs.Common.{refl, ap, ap₂, subst, inl, inr}
 use Rattle.problem_rules.specs.Problem.{Problem}
 use Rattle.problem_rules.specs.Validity.{IsValid}
 use Rattle.pns_rules.specs.Shape.{shape_of}
 use Rattle.pns_rules.specs.Structure.{IsStructure, IsAllowed}
 use Rattle.pns_rules.specs.Nodes.{Node}
 use Rattle.tree_rules.specs.declared.why.Why.{Why}
+use Rattle.tree_rules.specs.Tree.{Pass}
 use Rattle.tree_rules.specs.Claim as rules
+use Rattle.tree_rules.specs.Leaf.{LeafPasses, LeafFails}
 use Rattle.tree_rules.specs.Accepted.{Tree, first_node, Proves, NodeIsFault}
 use Rattle.tree_rules.specs.Costs.{CostsEnough}
 use Rattle.tree_laws.specs.Laws.{AcceptedIsOptimal, PassingClaimHasNoFault, ClaimHasOneFault}
@@ -15,7 +18,7 @@ use Rattle.tree_rules.specs.declared.refusal.Refusal.{Refusal}
 use Rattle.tree_rules.specs.declared.refusal.Refusal.TheVariants.{Memory, Claim}
 use Rattle.tree_rules.specs.declared.refusal.Refusal.TheVariants as refusals
 use Rattle.tree_rules.specs.Refusals.{Refuses}
-use Rattle.cert_check.specs.Refusals.{IsOkOrMemory, IsRefusalOrMemory}
+use Rattle.cert_check.specs.Refusals.{IsOkOrMemory, IsRefusalOrMemory, NamesFault}
 
 module _ {A : Type 0} (partial : Bool) (p : Problem) (start : Node) (claim : rules.Claim)
     (tree : Tree) where
@@ -51,6 +54,47 @@ module _ {A : Type 0} (partial : Bool) (p : Problem) (start : Node) (claim : rul
   names_node no_fault no_node one (Err (refusals.Node j other)) h f k why passes fault =
       let same = one partial p start claim tree j k other why f.1 fault in
       inl (ap₂ (λ (i : ℕ) (w : Why). refusals.Node i w) same.0 same.1)
+
+-- ---- what a walk over the tree shows, if the claim passes
+
+module _ {A : Type 0} (partial : Bool) (p : Problem) (start : Node) (claim : rules.Claim)
+    (tree : Tree) (claimed : rules.ClaimPasses partial p claim) (cost : Option rules.CostOver)
+    (is : cost ≡ rules.claimed_cost claim) (r : Result A Refusal) where
+  pub walk_proves : OnOk r (Pass (shape_of p) (LeafPasses partial p cost) (start ∷ []) tree)
+      → OnOk r (Proves partial p start claim tree)
+  walk_proves h =
+      at r
+      (subst
+      (λ (c : Option rules.CostOver). OnOk r
+      (Pass (shape_of p) (LeafPasses partial p c) (start ∷ []) tree)) is h)
+    where
+      at : (a : Result A Refusal)
+          → OnOk a
+          (Pass (shape_of p) (LeafPasses partial p (rules.claimed_cost claim)) (start ∷ []) tree)
+          → OnOk a (Proves partial p start claim tree)
+      at (Ok x) q = record { claimed = claimed; passes = q }
+      at (Err e) q = tt
+
+  pub walk_refuses : IfErr r
+      (NamesFault (shape_of p) (LeafPasses partial p cost) (LeafFails partial p cost) (start ∷ [])
+      tree)
+      → IfErr r (Refuses partial p start claim tree)
+  walk_refuses h =
+      at r
+      (subst
+      (λ (c : Option rules.CostOver). IfErr r
+      (NamesFault (shape_of p) (LeafPasses partial p c) (LeafFails partial p c) (start ∷ [])
+      tree)) is h)
+    where
+      at : (a : Result A Refusal)
+          → IfErr a
+          (NamesFault (shape_of p) (LeafPasses partial p (rules.claimed_cost claim))
+          (LeafFails partial p (rules.claimed_cost claim)) (start ∷ []) tree)
+          → IfErr a (Refuses partial p start claim tree)
+      at (Ok x) q = tt
+      at (Err Memory) q = tt
+      at (Err (Claim why)) q = absurd q
+      at (Err (refusals.Node k why)) q = (claimed, q)
 
 -- ---- the answer without what was found
 

@@ -7,7 +7,7 @@ use Rattle.pns_rules.specs.Nodes as rules
 use Rattle.tree_rules.specs.declared.why.Why.{Why}
 use Rattle.tree_rules.specs.Tree.{End, branch, leaf, TreeNode, Pass, below, after_all}
 use Rattle.tree_rules.specs.Fault.{NodeFails, IsFirstFault}
-use Rattle.tree_rules.specs.Leaf.{Leaf, dead, clash, refuted, bounded, untried}
+use Rattle.tree_rules.specs.Leaf.{Leaf, dead, clash, refuted, bounded, charged, untried}
 use Rattle.tree_rules.specs.Accepted.{Tree}
 use Rattle.unit_sets.specs.declared.node.Node.{Node}
 use Rattle.pgraph.specs.View.{node_of}
@@ -118,7 +118,8 @@ before_more i [] m (leaf (dead x)) h = tt
 before_more i [] m (leaf (clash x)) h = tt
 before_more i [] m (leaf (refuted ys)) h = tt
 before_more i [] m (leaf (bounded d ys)) h = tt
-before_more i [] m (leaf untried) h = ((let q : i < i + 1 = omega arith in q), tt)
+before_more i [] m (leaf (charged c)) h = tt
+before_more i [] m (leaf (untried low)) h = ((let q : i < i + 1 = omega arith in q), tt)
 
 none_sooner : (i : ℕ) (ls : List OpenAt) → NoneBefore (i + 1) ls → NoneBefore i ls
 none_sooner i [] h = tt
@@ -134,7 +135,9 @@ here_and_behind i m (leaf (dead x)) ls h = none_sooner i ls h
 here_and_behind i m (leaf (clash x)) ls h = none_sooner i ls h
 here_and_behind i m (leaf (refuted ys)) ls h = none_sooner i ls h
 here_and_behind i m (leaf (bounded d ys)) ls h = none_sooner i ls h
-here_and_behind i m (leaf untried) ls h = ((let q : i ≤ i = omega arith in q), none_sooner i ls h)
+here_and_behind i m (leaf (charged c)) ls h = none_sooner i ls h
+here_and_behind i m (leaf (untried low)) ls h =
+    ((let q : i ≤ i = omega arith in q), none_sooner i ls h)
 
 -- the open leaves of nodes from i on have numbers from i on
 pub none_before : (g : Shape) (ns : List rules.Node) (ts : Tree) (i : ℕ)

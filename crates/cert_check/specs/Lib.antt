@@ -1,3 +1,4 @@
+pub mod Bare
 pub mod OpenLeaves
 pub mod Refusals
 pub mod Subtrees

@@ -10,16 +10,18 @@ use Rattle.tree_rules.specs.Ways.{Way, width, MayBranch, options_at}
 use Rattle.tree_rules.specs.Leaf.{Leaf, LeafPasses, LeafFails}
 use Rattle.tree_rules.specs.Accepted.{Tree}
 use Rattle.cert_parts.specs.Shown.{cost_over}
+use Rattle.cert_check.specs.Bare.{as_judged}
 use Rattle.cert_check.specs.declared.visit.Judge.{Judge}
 use Rattle.cert_check.specs.declared.visit.Halt.{Halt}
 use Rattle.cert_check.specs.declared.visit.Halt.TheVariants.{Memory, Fails}
 
 -- the leaves that pass, and those that fail
 abbrev pub leaf_passes : Judge → Node → Leaf → Type 0
-leaf_passes j = LeafPasses j.partial j.site.now (cost_over j.claimed)
+leaf_passes j n l = LeafPasses j.partial j.site.now (cost_over j.claimed) n (as_judged j.bounds l)
 
 abbrev pub leaf_fails : Judge → Node → Leaf → Why → Type 0
-leaf_fails j = LeafFails j.partial j.site.now (cost_over j.claimed)
+leaf_fails j n l why =
+    LeafFails j.partial j.site.now (cost_over j.claimed) n (as_judged j.bounds l) why
 
 -- how the walk is refused that halts at node k
 abbrev pub refusal_at : ℕ → Halt → Refusal

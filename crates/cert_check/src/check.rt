@@ -4,7 +4,6 @@ ghost use Rattle.std.specs.Prelude.{IfOk, IfErr};
 ghost use Rattle.pns_rules.specs.Shape.{shape_of};
 ghost use Rattle.pns_rules.specs.Structure.{IsStructure, IsAllowed};
 ghost use Rattle.tree_rules.specs.Tree.{Pass};
-ghost use Rattle.tree_rules.specs.Leaf.{LeafPasses, LeafFails};
 ghost use Rattle.tree_rules.specs.Claim as rules;
 ghost use Rattle.tree_rules.specs.Accepted.{first_node, Proves, IsAccepted};
 ghost use Rattle.tree_rules.specs.Costs.{CostsEnough};
@@ -13,6 +12,7 @@ ghost use Rattle.branch_tree.specs.View.{claim_of};
 ghost use Rattle.cert_parts.specs.Known.{KnowsInside};
 ghost use Rattle.cert_parts.specs.Shown.{cost_over};
 ghost use Rattle.part_rules.specs.OpenLeaves.{open_leaves};
+ghost use Rattle.cert_check.specs.Bare.{BarePasses, BareFails};
 ghost use Rattle.cert_check.specs.OpenLeaves.{leaves_at, AreBefore};
 ghost use Rattle.cert_check.specs.Refusals.{NamesFault, IsOkOrMemory, NamesClaim, NamesNode};
 ghost use Rattle.tree_rules.specs.Refusals.{Refuses};
@@ -66,6 +66,7 @@ pub fn check_from(
                 site,
                 claimed: cost_of_claim(claim),
                 partial,
+                bounds: true,
             };
             walk(alloc, &judge, start, tree.nodes())
         }
@@ -74,8 +75,8 @@ pub fn check_from(
 }
 
 /// Judges the nodes of the tree in preorder from the start, against the cost that is to be
-/// undercut, if there is one. Leaves may be open. It gives the open leaves in preorder; if a node
-/// fails, those before it.
+/// undercut, if there is one. Leaves may be open, and their bounds are not judged. What is given
+/// are the open leaves in preorder; if a node fails, those before it.
 pub fn check_nodes(
     alloc: Global,
     site: &Site<'_>,
@@ -86,15 +87,14 @@ pub fn check_nodes(
     requires known { KnowsInside (shape_of site.now) (node_of start.now) }
     requires few { length tree.now < 2 ^ 32 }
     ensures passes { OnOk result
-        (Pass (shape_of site.now) (LeafPasses true site.now (cost_over undercut))
+        (Pass (shape_of site.now) (BarePasses site.now (cost_over undercut))
         (node_of start.now ∷ []) tree.now) }
     ensures leaves { IfOk result
         (λ v. leaves_at v.items
         ≡ open_leaves (shape_of site.now) (node_of start.now ∷ []) tree.now 0) }
     ensures fault { IfErr result
-        (λ stop. NamesFault (shape_of site.now) (LeafPasses true site.now (cost_over undercut))
-        (LeafFails true site.now (cost_over undercut)) (node_of start.now ∷ []) tree.now
-        stop.refusal) }
+        (λ stop. NamesFault (shape_of site.now) (BarePasses site.now (cost_over undercut))
+        (BareFails site.now (cost_over undercut)) (node_of start.now ∷ []) tree.now stop.refusal) }
     ensures before { IfErr result
         (λ stop. AreBefore (shape_of site.now) (node_of start.now ∷ []) tree.now stop.refusal
         (leaves_at stop.leaves.items)) }
@@ -104,6 +104,7 @@ pub fn check_nodes(
         site,
         claimed: undercut,
         partial: true,
+        bounds: false,
     };
     walk_to(alloc, &judge, start, tree.nodes())
 }

@@ -29,7 +29,7 @@ pub(crate) fn note_end(
         ++ open_here number (node_of node) (end_of end.now)) }
 {
     match end {
-        End::Open => {
+        End::Open(_) => {
             leaves.push(OpenLeaf { number, node })?;
             Ok(())
         }

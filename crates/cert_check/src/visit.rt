@@ -7,18 +7,20 @@ ghost use Rattle.pns_rules.specs.Nodes.{options, child};
 ghost use Rattle.tree_rules.specs.declared.why.Why.TheVariants as causes;
 ghost use Rattle.tree_rules.specs.Tree as trees;
 ghost use Rattle.tree_rules.specs.Tree.{after_all, below, EndPasses};
-ghost use Rattle.tree_rules.specs.Ways.{at_material, either, MayBranch, options_at, children_at};
+ghost use Rattle.tree_rules.specs.Ways.{at_material, either, MayBranch, options_at};
+ghost use Rattle.tree_rules.specs.Ways.{children_at};
 ghost use Rattle.tree_rules.specs.Fault.{EndFails, NodeFails};
 ghost use Rattle.pgraph.specs.Tables.{shape};
 ghost use Rattle.pgraph.specs.View.{node_of};
 ghost use Rattle.branch_tree.specs.View.{end_of};
 ghost use Rattle.cert_parts.specs.Known.{KnowsInside};
 ghost use Rattle.cert_check.specs.Subtrees.{rest_of, HasEnds, stack_of};
-ghost use Rattle.cert_check.specs.Visits.{leaf_passes, leaf_fails, BranchPasses, IsVisited};
+ghost use Rattle.cert_check.specs.Visits.{leaf_passes, leaf_fails, BranchPasses};
+ghost use Rattle.cert_check.specs.Visits.{IsVisited};
 ghost use Rattle.cert_check.specs.Visits.{Halts};
 
 use crate::children::push_children;
-use crate::leaf::judge_leaf;
+use crate::leaf::judge_leaf_by;
 use crate::subtrees::{Behind, roots};
 use branch_tree::{End, TreeNode};
 use cert_parts::{after_steps, are_all_options, are_options_of_unit, with_unit, without_unit};
@@ -28,12 +30,13 @@ use tree_rules::Why;
 use unit_sets::{Node, UnitSet};
 
 /// By what nodes are judged: the problem with its P-graph, the cost that is to be undercut, if
-/// there is one, and whether leaves may be open.
+/// there is one, whether leaves may be open, and whether the bounds of open leaves are judged.
 #[derive(Clone, Copy)]
 pub struct Judge<'a> {
     pub site: &'a Site<'a>,
     pub claimed: Option<CostOver>,
     pub partial: bool,
+    pub bounds: bool,
 }
 
 /// Why a walk goes no further.
@@ -158,7 +161,7 @@ fn visit_end(
             stack,
         ),
         End::Either(unit) => visit_either(judge.site.graph(), node, *unit, behind, found, stack),
-        end => match judge_leaf(judge.site, node, judge.claimed, judge.partial, end) {
+        end => match judge_leaf_by(judge, node, end) {
             Ok(()) => Ok(()),
             Err(why) => Err(Halt::Fails(why)),
         },

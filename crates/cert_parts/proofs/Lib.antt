@@ -1,3 +1,5 @@
+pub mod ChargeLemmas
+pub mod CoverLemmas
 pub mod EitherLemmas
 pub mod NodeLemmas
 pub mod RowLemmas

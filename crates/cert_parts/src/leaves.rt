@@ -1,6 +1,6 @@
-//! The leaves of a tree, each judged at its node.
-ghost use Rattle.std.specs.Prelude.{◌≡◌, ◌↔◌, ◌≤ℤ◌, ℕ, pos, Bool, length, Option, IsTrue, OnOk};
-ghost use Rattle.std.specs.Prelude.{IfErr};
+//! The leaves of a tree, judged at their nodes.
+ghost use Rattle.std.specs.Prelude.{◌≡◌, ◌↔◌, ◌≤ℤ◌, ℕ, pos, Bool, length, Option, Some, None};
+ghost use Rattle.std.specs.Prelude.{IsTrue, OnOk, IfErr};
 ghost use Rattle.pns_rules.specs.Shape.{shape_of};
 ghost use Rattle.pns_rules.specs.Structure.{Clashes};
 ghost use Rattle.flow_rules.specs.Net.{net_of};
@@ -68,7 +68,7 @@ pub fn judge_clash(site: &Site<'_>, node: &Node, k: u32) -> Result<(), Why>
 }
 
 /// Whether there is one multiplier for each row of the node's program.
-fn is_one_each(site: &Site<'_>, node: &Node, ys: &[i128]) -> bool
+pub(crate) fn is_one_each(site: &Site<'_>, node: &Node, ys: &[i128]) -> bool
     ensures { IsTrue result ↔ IsOneEach site.now (node_of node.now) ys.now }
 {
     let graph = site.graph();
@@ -98,7 +98,7 @@ pub fn judge_refutation(site: &Site<'_>, node: &Node, ys: &[i128]) -> Result<(),
 }
 
 /// Whether d is a scale: at least 1.
-fn is_scale(d: i128) -> bool
+pub(crate) fn is_scale(d: i128) -> bool
     ensures { IsTrue result ↔ (pos 1 ≤ℤ d) }
 {
     d >= 1
@@ -144,10 +144,42 @@ pub fn judge_bound(
 pub fn judge_open(problem: &Problem, node: &Node, partial: bool) -> Result<(), Why>
     ensures passes { OnOk result
         ((claimed : Option claims.CostOver)
-        → LeafPasses partial problem.now claimed (node_of node.now) untried) }
+        → LeafPasses partial problem.now claimed (node_of node.now) (untried None)) }
     ensures fails { IfErr result
         (λ why. (claimed : Option claims.CostOver)
-        → LeafFails partial problem.now claimed (node_of node.now) untried why) }
+        → LeafFails partial problem.now claimed (node_of node.now) (untried None) why) }
 {
     if partial { Ok(()) } else { Err(Why::Open) }
+}
+
+/// A leaf that is open with a bound, which a partial tree may have. The bound over d is formed, and
+/// need reach nothing.
+pub fn judge_low(
+    site: &Site<'_>,
+    node: &Node,
+    partial: bool,
+    d: i128,
+    ys: &[i128],
+) -> Result<(), Why>
+    requires known { KnowsInside (shape_of site.now) (node_of node.now) }
+    ensures passes { OnOk result ((claimed : Option claims.CostOver)
+        → LeafPasses partial site.now claimed (node_of node.now)
+        (untried (Some (record { d = d; ys = ys.now })))) }
+    ensures fails { IfErr result (λ why. (claimed : Option claims.CostOver)
+        → LeafFails partial site.now claimed (node_of node.now)
+        (untried (Some (record { d = d; ys = ys.now }))) why) }
+{
+    if !partial {
+        return Err(Why::Open);
+    }
+    if !is_scale(d) {
+        return Err(Why::Bound);
+    }
+    if !is_one_each(site, node, ys) {
+        return Err(Why::Bound);
+    }
+    let Ok(_) = bound_of(site.problem(), site.graph(), *node, d, ys) else {
+        return Err(Why::Sum);
+    };
+    Ok(())
 }

@@ -6,12 +6,14 @@
 //! fails, with its cause. No call needs numbers that the problem has: whatever uses another number
 //! fails. No call takes memory.
 //!
-//! Modules: `sets` and `materials` are tests of sets and what a node needs; `steps`, which steps
-//! are possible; `nodes`, the nodes that steps and options leave; `options`, whether given sets are
-//! all options of a material (these can be as many as 2^128, so their list is walked and never
-//! made); `either`, branches in two at one unit; `network` and `leaves` judge claims and leaves.
+//! Modules: `sets` and `materials` are tests of sets and what a node needs; `steps` which steps are
+//! possible; `nodes` the nodes that steps and options leave, `options` whether given sets are all
+//! options of a material: they can be as many as 2^128, so their list is walked and never made;
+//! `either` branches in two at one unit; `network` and `leaves` judge claims and leaves, and
+//! `charge` the leaves that charge their node.
 #![tactic(auto)]
 
+mod charge;
 mod either;
 mod leaves;
 mod materials;
@@ -21,7 +23,8 @@ mod options;
 mod sets;
 mod steps;
 
+pub use charge::judge_charge;
 pub use either::{are_options_of_unit, with_unit, without_unit};
-pub use leaves::{judge_bound, judge_clash, judge_dead, judge_open, judge_refutation};
+pub use leaves::{judge_bound, judge_clash, judge_dead, judge_low, judge_open, judge_refutation};
 pub use network::judge_network;
 pub use nodes::{after_steps, are_all_options, child};

@@ -3,13 +3,7 @@ use Rattle.std.specs.Prelude.{ℕ, ◌<◌, ℤ, ◌+ℤ◌, ◌++◌, List, map
 use Rattle.std.specs.List.{AllByRecursion}
 use Rattle.charge_rules.specs.Cover as rules
 use Rattle.charge_rules.specs.ChargeSteps.{beside_steps}
-use Rattle.charges.specs.declared.cover.Cover.{Cover}
-
-abbrev pub cover_of : Cover → rules.Cover
-cover_of c = record { weight = c.weight; beside = c.beside; units = c.units }
-
-abbrev pub covers_of : List Cover → List rules.Cover
-covers_of cs = map cover_of cs
+use Rattle.covers.specs.declared.cover.Cover.{Cover}
 
 -- a unit beside a set is below 128
 abbrev pub IsBesideSmall : Cover → Type 0

@@ -5,20 +5,12 @@ ghost use Rattle.pns_rules.specs.Structure.{IsBetween};
 ghost use Rattle.pgraph.specs.Tables.{shape};
 ghost use Rattle.pgraph.specs.View.{node_of};
 ghost use Rattle.charge_rules.specs.Cover.{Covers, IsCover, IsFree, is_beside};
-ghost use Rattle.charges.specs.Sets.{cover_of};
+ghost use Rattle.covers.specs.View.{cover_of};
 
+use covers::Cover;
 use max_structure::maximal;
 use pgraph::Graph;
 use unit_sets::{Node, UnitSet};
-
-/// A set of units with its weight. If it has a unit `beside` it, it covers only the structures that
-/// have this unit.
-#[derive(Clone, Copy, Debug)]
-pub struct Cover {
-    pub weight: i128,
-    pub beside: Option<u32>,
-    pub units: UnitSet,
-}
 
 /// Whether no solution structure, clash-free or not, contains `inside` and avoids `outside`.
 fn none_between(graph: &Graph, inside: UnitSet, outside: UnitSet) -> bool

@@ -28,5 +28,6 @@ mod unit;
 mod useful;
 
 pub use charge::{Charge, charge_of};
-pub use cover::{Cover, covers_node, is_cover};
+pub use cover::{covers_node, is_cover};
+pub use covers::Cover;
 pub use facts::Facts;

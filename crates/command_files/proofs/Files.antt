@@ -7,7 +7,8 @@ use Rattle.io_rules.specs.State.{ShelfState}
 use Rattle.problem_rules.specs.Problem.{Problem}
 use Rattle.studio_rules.specs.Ending.{Tells, Says}
 use Rattle.studio_rules.specs.declared.status.Status.{Status}
-use Rattle.studio_rules.specs.Reading.{AreHeld, FileFaults, GivesProblem, OnFile, FileSays}
+use Rattle.studio_rules.specs.Reading.{AreHeld, FileFaults, GivesProblem, OnFile, OnText, FileSays}
+use Rattle.studio_rules.specs.Reading.{TextSays}
 use Rattle.endings.proofs.Ending.{Says-map, Says-told}
 
 -- a file that is too long, also if the shelf knows nothing of it
@@ -36,3 +37,21 @@ pub on_file-work : (work : Problem → Status → List (List ℕ) → Type 0) (o
 on_file-work work old new name p given =
     Says-told (work p) (OnFile work old.held name) (λ other. other ≡ name) old new
     (λ s lines h. (given.0, given.1, inr (p, given.2, h)))
+
+-- the same of a command whose work also goes by the bytes of its file
+pub on_text-faults : (work : List ℕ → Problem → Status → List (List ℕ) → Type 0)
+    (old new : ShelfState) (name : List ℕ) (s : Status) (t : List ℕ)
+    → Says (FileFaults old.held name) (λ other. other ≡ name) old new s t
+    → TextSays work name old new s t
+on_text-faults work old new name =
+    Says-map (FileFaults old.held name) (OnText work old.held name) (λ other. other ≡ name)
+    (λ other. other ≡ name) old new
+    (λ s lines h. (h.0, h.1, inl h.2)) (λ other e. e)
+
+pub on_text-work : (work : List ℕ → Problem → Status → List (List ℕ) → Type 0)
+    (old new : ShelfState) (name file : List ℕ) (p : Problem) → AreHeld (old.held name) file
+    → GivesProblem file p → (s : Status) (t : List ℕ) → Tells (work file p) s t
+    → TextSays work name old new s t
+on_text-work work old new name file p is given =
+    Says-told (work file p) (OnText work old.held name) (λ other. other ≡ name) old new
+    (λ s lines h. (file, is, inr (p, given, h)))

@@ -1,6 +1,7 @@
 //! The files of a call, read and judged.
 //!
-//! [`problem_of`], [`edited_of`], [`plan_of`] and [`tree_of`] give what the named file stands for.
+//! [`problem_of`], [`plant_of`], [`edited_of`], [`plan_of`] and [`tree_of`] give what the named
+//! file stands for.
 //! If it gives nothing, they put the text that says why and give the status of the call. `Reading`,
 //! `Script`, `Plan` and `TreeFile` of `studio_rules` say which text that is, and what a command on
 //! such files says.
@@ -17,6 +18,6 @@ mod tree_file;
 
 pub use file::bytes_of;
 pub use plan_file::plan_of;
-pub use problem_file::problem_of;
+pub use problem_file::{plant_of, problem_of};
 pub use script_file::edited_of;
 pub use tree_file::{say_tree_fault, tree_kind_word, tree_of};

@@ -1,7 +1,8 @@
 //! A problem file: it is read and judged.
 ghost use Rattle.std.specs.Prelude.{◌≡◌, ℕ, List, IfOk, IfErr, OnOk, string_bytes};
 ghost use Rattle.studio_rules.specs.Lines.{line};
-ghost use Rattle.studio_rules.specs.Reading.{AreHeld, GivesProblem, FileFaults, fault_line};
+ghost use Rattle.studio_rules.specs.Reading.{AreHeld, GivesProblem, FileFaults};
+ghost use Rattle.studio_rules.specs.Reading.{fault_line};
 ghost use Rattle.studio_rules.specs.Reading.{kind_word};
 ghost use Rattle.studio_rules.specs.Ending.{Ends, Says, Only, OrMemory};
 ghost use Rattle.studio_rules.specs.Keeps.{Keeps};
@@ -75,7 +76,8 @@ fn say_fault<K: Sink, E: Sink>(
     number: u32,
     kind: TextKind,
 ) -> Status
-    ensures { Ends (OrMemory (Only BadProblem (line (fault_line number kind)))) out.old out.new
+    ensures { Ends (OrMemory (Only BadProblem (line (fault_line number kind)))) out.old
+        out.new
         result }
 {
     let source = Source {
@@ -89,8 +91,39 @@ fn say_fault<K: Sink, E: Sink>(
     }
 }
 
-/// Reads the file and judges its text. If that gives no problem, the text that says why was put,
-/// and the status is that of the call.
+/// Reads the file and judges its text: its bytes, and the problem that they give. If they give
+/// none, the text that says why was put, and the status is that of the call.
+pub fn plant_of<F: Shelf, K: Sink, E: Sink>(
+    alloc: Global,
+    shelf: &mut F,
+    out: &mut Outputs<K, E>,
+    name: &str,
+) -> Result<(Vec<u8>, Problem), Status>
+    ensures held { IfOk result
+        (λ plant. AreHeld ((F.state shelf.old).held name.now) plant.0.items) }
+    ensures problem { IfOk result (λ plant. GivesProblem plant.0.items plant.1) }
+    ensures silent { OnOk result (out.new ≡ out.old) }
+    ensures keeps { Keeps (F.state shelf.old) (F.state shelf.new) }
+    ensures told { IfErr result
+        (Ends
+        (Says (FileFaults (F.state shelf.old).held name.now) (λ other. other ≡ name.now)
+        (F.state shelf.old) (F.state shelf.new)) out.old out.new) }
+{
+    let bytes = match bytes_of(alloc, shelf, out, name, FILE_LIMIT) {
+        Ok(bytes) => bytes,
+        Err(status) => return Err(status),
+    };
+    match read_problem(alloc, &bytes) {
+        Ok(problem) => {
+            problem.is_valid();
+            Ok((bytes, problem))
+        }
+        Err(TextFault::At { line, kind }) => Err(say_fault(alloc, out, &bytes, line, kind)),
+        Err(TextFault::Memory) => Err(say_memory(out)),
+    }
+}
+
+/// The same without the bytes.
 pub fn problem_of<F: Shelf, K: Sink, E: Sink>(
     alloc: Global,
     shelf: &mut F,
@@ -107,16 +140,8 @@ pub fn problem_of<F: Shelf, K: Sink, E: Sink>(
         (Says (FileFaults (F.state shelf.old).held name.now) (λ other. other ≡ name.now)
         (F.state shelf.old) (F.state shelf.new)) out.old out.new) }
 {
-    let bytes = match bytes_of(alloc, shelf, out, name, FILE_LIMIT) {
-        Ok(bytes) => bytes,
-        Err(status) => return Err(status),
-    };
-    match read_problem(alloc, &bytes) {
-        Ok(problem) => {
-            problem.is_valid();
-            Ok(problem)
-        }
-        Err(TextFault::At { line, kind }) => Err(say_fault(alloc, out, &bytes, line, kind)),
-        Err(TextFault::Memory) => Err(say_memory(out)),
+    match plant_of(alloc, shelf, out, name) {
+        Ok((_, problem)) => Ok(problem),
+        Err(status) => Err(status),
     }
 }

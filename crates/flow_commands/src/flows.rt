@@ -7,7 +7,7 @@ ghost use Rattle.pgraph.specs.Tables.{shape};
 ghost use Rattle.tree_rules.specs.Known.{AreUnits, KnowsEnd};
 ghost use Rattle.branch_tree.specs.View.{end_of};
 ghost use Rattle.tree_rules.specs.Claim as claims;
-ghost use Rattle.tree_text_rules.specs.Spelling.{network_lines, claim_lines, end_line};
+ghost use Rattle.tree_text_rules.specs.Spelling.{network_lines, claim_lines, end_with_sets};
 ghost use Rattle.tree_text.specs.Prints.{Prints};
 ghost use Rattle.structure_flows.specs.Answers.{AnswersFor};
 ghost use Rattle.studio_rules.specs.Reading.{FileSays};
@@ -41,7 +41,7 @@ fn print_least<K: Sink>(
     requires units { AreUnits problem.now network.now.units }
     requires bound { KnowsEnd problem.now (end_of bound.now) }
     ensures prints { Prints
-        (network_lines problem.now network.now ++ end_line problem.now (end_of bound.now) ∷ [])
+        (network_lines problem.now network.now ++ end_with_sets problem.now (end_of bound.now))
         (K.state out.old) (K.state out.new) result }
     ensures later { (K.state out.old).faults ≤ (K.state out.new).faults }
 {
@@ -60,8 +60,9 @@ fn print_none<K: Sink>(
 ) -> Result<(), PrintFault>
     requires { KnowsEnd problem.now (end_of refuted.now) }
     ensures prints { Prints
-        (claim_lines problem.now claims.infeasible ++ end_line problem.now (end_of refuted.now)
-        ∷ []) (K.state out.old) (K.state out.new) result }
+        (claim_lines problem.now claims.infeasible
+        ++ end_with_sets problem.now (end_of refuted.now)) (K.state out.old) (K.state out.new)
+        result }
     ensures later { (K.state out.old).faults ≤ (K.state out.new).faults }
 {
     match out.put(b"infeasible\n") {

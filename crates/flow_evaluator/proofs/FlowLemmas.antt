@@ -16,7 +16,7 @@ use Rattle.unit_sets.specs.declared.node.Node.{Node}
 use Rattle.mixed_numbers.specs.declared.number.Mixed.{Mixed}
 use Rattle.mixed_numbers.specs.Number.{numerator, denominator}
 use Rattle.mixed_numbers.specs.OrderLaws.{denominator_positive}
-use Rattle.branch_tree.specs.Scaled.{Scaled}
+use Rattle.tree_rules.specs.Leaf.{Scaled}
 use Rattle.flow_rules.specs.Net.{net_of, beside}
 use Rattle.flow_rules.specs.Flows.{IsFlows, cost}
 use Rattle.flow_rules.specs.Program.{Program, program_of}

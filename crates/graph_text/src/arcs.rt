@@ -47,7 +47,8 @@ fn push_width(text: &mut String, picture: &Picture<'_>, flow: i128) -> Result<()
     ensures { OnOk result
         (string_bytes text.new ≡ string_bytes text.old
         ++ (codes ", weight=4, penwidth="
-        ++ width_words (greatest_flow picture.now.problem picture.now.network) (unsigned_abs flow))) }
+        ++ width_words (greatest_flow picture.now.problem picture.now.network)
+        (unsigned_abs flow))) }
 {
     text.push_str(", weight=4, penwidth=")?;
     text.push_str(width(picture.greatest(), flow.unsigned_abs()))?;

@@ -11,7 +11,7 @@ pub fn overview_text() -> &'static [u8]
     b"pns: which units of a plant to build? Exact answers, with proofs (P-graph).
 A FILE is a plant. Answers go to standard output, faults to standard error.
 
-  max FILE                       the maximal structure
+  max FILE, lint FILE            the maximal structure; what looks odd in FILE
   axioms FILE UNITS              do these units meet the axioms S1 to S5?
   list FILE [AFTER COUNT]        those that do; AFTER is start at first
   flows FILE UNITS               the least cost of these units, and their sizes

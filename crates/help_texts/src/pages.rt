@@ -11,7 +11,7 @@ use crate::program::{help_page, status_page, version_page};
 use crate::ranks::{rank_page, rankcheck_page};
 use crate::reports::{graph_page, json_page, report_page, stable_page, table_page};
 use crate::searches::{show_page, solve_page, trial_page};
-use crate::structures::{axioms_page, list_page, max_page};
+use crate::structures::{axioms_page, lint_page, list_page, max_page};
 use studio_rules::TOPIC_PAGES;
 
 /// The page on a command, by its first word.
@@ -23,6 +23,7 @@ pub fn command_page_on(topic: &str) -> Option<&'static [u8]>
         "max" => Some(max_page()),
         "axioms" => Some(axioms_page()),
         "list" => Some(list_page()),
+        "lint" => Some(lint_page()),
         "flows" => Some(flows_page()),
         "solve" => Some(solve_page()),
         "show" => Some(show_page()),

@@ -1,4 +1,4 @@
-//! The pages on claimed networks as people read them.
+//! The pages on networks of claims as people read them.
 ghost use Rattle.std.specs.Prelude.{◌≡◌};
 ghost use Rattle.studio_rules.specs.PageLines.{text_of};
 ghost use Rattle.studio_rules.specs.ReportPages.{table_page, report_page, json_page, graph_page};
@@ -53,6 +53,8 @@ Prints a line that begins with PROVED (check accepts the tree), NOT FINISHED
 one of materials and one of sums. Costs are above 0, incomes below; numbers with
 more than 6 digits show 6. limit names the bound that an amount is at: max, min,
 fixed (both), idle (built, but of size 0), or UNBOUNDED?, at 1000000000.
+If no network meets the bounds, those that clash follow: what the multipliers of
+the first ten refuted leaves use.
 Ends with
   0   The whole text was printed. Line 1 says what is proved.
   1   refused claim WHY: the network of the claim breaks an axiom (axiom) or an

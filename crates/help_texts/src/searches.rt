@@ -41,7 +41,7 @@ pns report in one. It keeps no tree; for a proof to keep use solve.
   FILE    the plant, PNS_problem_v1
   BUDGET  the most nodes, 1 to 1000000; 10k is 10000; 1M if it is left out
 Prints what pns report prints of the tree of pns solve: a line that begins with
-PROVED or NOT FINISHED, and then the network in tables, if there is one.
+PROVED or NOT FINISHED, and then the network in tables or the bounds that clash.
 Standard error shows how far it is, unless PNS_QUIET is set.
 Ends with
   0   PROVED: no network costs less, or no network meets the bounds.

@@ -1,7 +1,7 @@
 //! The pages on units and structures.
 ghost use Rattle.std.specs.Prelude.{◌≡◌};
 ghost use Rattle.studio_rules.specs.PageLines.{text_of};
-ghost use Rattle.studio_rules.specs.StructurePages.{max_page, axioms_page, list_page};
+ghost use Rattle.studio_rules.specs.StructurePages.{max_page, axioms_page, list_page, lint_page};
 
 /// The page on `max`.
 #[tactic(auto, unfolding(studio_rules::specs::StructurePages::max_page))]
@@ -68,5 +68,37 @@ Example
   pns list a.pns start 1
   00000000000000000000000000000005 U1 U3
   more 00000000000000000000000000000005
+"
+}
+
+/// The page on `lint`.
+#[tactic(auto, unfolding(studio_rules::specs::StructurePages::lint_page))]
+pub fn lint_page() -> &'static [u8]
+    ensures { result.now ≡ text_of lint_page }
+{
+    b"pns lint FILE
+Warns of what looks odd in a plant and may be a slip. A warning is no fault.
+  FILE  the plant, PNS_problem_v1
+Prints line L KIND NAME for each warning, in the order of the lines L of FILE,
+and in a line after it what KIND means; or clean. KIND is NoNetwork,
+UnusedMaterial, NoDemand, DefaultCapacity, Free, FreeRaw, NoLimit, Twins,
+FineRates or Alone.
+Ends with
+  0   The whole text was printed.
+  2, 3, 6, 7, 8, 12, 20: see pns help status
+Example
+  pns lint a.pns
+  line 23 UnusedMaterial E
+    No unit of the maximal structure uses or makes this material.
+  line 24 UnusedMaterial F
+    No unit of the maximal structure uses or makes this material.
+  line 31 NoNetwork U4
+    No network can have this unit: it is outside the maximal structure.
+  line 31 Free U4
+    All costs of this unit are 0.
+  line 32 NoNetwork U5
+    No network can have this unit: it is outside the maximal structure.
+  line 32 Free U5
+    All costs of this unit are 0.
 "
 }

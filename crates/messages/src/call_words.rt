@@ -9,8 +9,9 @@ use std::alloc::Global;
 use studio_rules::TOPIC_PAGES;
 
 /// The commands, in the order of the overview.
-const COMMANDS: [&str; 26] = [
+const COMMANDS: [&str; 27] = [
     "max",
+    "lint",
     "axioms",
     "list",
     "flows",

@@ -140,6 +140,8 @@ fn sentence_of(why: Why) -> &'static str {
         Why::Clash => "the exclusion of this leaf has no two units that are taken in",
         Why::Refuted => "the multipliers of this leaf do not prove that nothing meets the bounds",
         Why::Bound => "the multipliers of this leaf do not prove that nothing costs less",
+        Why::Cover =>
+            "some structure of this node has no unit of a set, or a unit of the set is not free",
         Why::Sum => "a number of this proof overflows 128 bits",
     }
 }

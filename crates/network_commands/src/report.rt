@@ -19,8 +19,8 @@ use std::alloc::Global;
 use studio_rules::Status;
 use verdicts::{Unjudged, verdict_of};
 
-/// Prints what the tree proves of the claim, and its network if it has one; or the first line of
-/// the claim that fails.
+/// Prints what the tree proves of the claim, and its network if it has one, or the bounds that
+/// clash; or the first line of the claim that fails.
 fn say_judged<K: Sink, E: Sink>(
     alloc: Global,
     out: &mut Outputs<K, E>,
@@ -33,7 +33,7 @@ fn say_judged<K: Sink, E: Sink>(
         result }
 {
     match verdict_of(alloc, site, claim, tree) {
-        Ok(verdict) => say_made(out, verdict_text(alloc, site, claim, verdict)),
+        Ok(verdict) => say_made(out, verdict_text(alloc, site, claim, tree, verdict)),
         Err(Unjudged::Claim(why)) => say_refused(alloc, out, why),
         Err(Unjudged::Memory) => say_memory(out),
     }

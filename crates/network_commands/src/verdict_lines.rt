@@ -1,14 +1,18 @@
-//! A line with what a tree proves, and after it the tables of the network of the claim.
-ghost use Rattle.std.specs.Prelude.{◌≡◌, ◌++◌, ◌∷◌, [], true, IfOk, OnOk, string_bytes};
+//! A line with what a tree proves, and after it the tables of the network of the claim, or the
+//! bounds that clash.
+ghost use Rattle.std.specs.Prelude.{◌≡◌, ◌<◌, ◌^◌, ◌++◌, ◌∷◌, [], true, length, IfOk, OnOk};
+ghost use Rattle.std.specs.Prelude.{string_bytes};
 ghost use Rattle.tree_rules.specs.Claim as claims;
 ghost use Rattle.tree_rules.specs.Claim.{ClaimPasses};
 ghost use Rattle.branch_tree.specs.View.{claim_of};
+ghost use Rattle.report_rules.specs.Verdict.{IsVerdict};
 ghost use Rattle.studio_rules.specs.Lines.{text_of};
 ghost use Rattle.studio_rules.specs.Report.{proved_line, unfinished_line, failing_line};
 ghost use Rattle.studio_rules.specs.Report.{first_line};
 ghost use Rattle.studio_rules.specs.Report.{tables_of, verdict_lines};
 
-use branch_tree::{Claim, Network};
+use branch_tree::{Claim, Network, Tree};
+use clash_tables::clashes_of;
 use pgraph::Site;
 use pns_problem::Problem;
 use refusal_words::why_word;
@@ -112,31 +116,64 @@ fn first_text(
     Ok(text.into_bytes())
 }
 
-/// The tables of the network, if one is claimed.
-fn tables_of(alloc: Global, site: &Site<'_>, claim: &Claim) -> Result<Vec<u8>, AllocError>
-    requires passes { ClaimPasses true site.now (claim_of claim.now) }
+/// The bounds that clash, if the tree proves that no network meets the bounds.
+fn clash_text(
+    alloc: Global,
+    site: &Site<'_>,
+    tree: &Tree,
+    verdict: Verdict,
+) -> Result<Vec<u8>, AllocError>
+    requires few { length tree.now < 2 ^ 32 }
+    requires verdict { IsVerdict site.now claims.infeasible tree.now verdict }
     ensures { IfOk result
-        (λ bytes. bytes.items ≡ text_of (tables_of site.now (claim_of claim.now))) }
+        (λ bytes. bytes.items ≡ text_of (tables_of site.now claims.infeasible tree.now verdict)) }
 {
-    match claim {
-        Claim::Network(network) => report_of(alloc, site, network),
-        Claim::Infeasible | Claim::Unknown => Ok(Vec::new(alloc)),
+    match verdict {
+        Verdict::Proved => clashes_of(alloc, site, tree),
+        Verdict::Unfinished | Verdict::Fails { .. } => Ok(Vec::new(alloc)),
     }
 }
 
-/// What the tree proves, and the tables of the network if one is claimed.
+/// The tables of the network, if one is claimed, or the bounds that clash.
+fn tables_of(
+    alloc: Global,
+    site: &Site<'_>,
+    claim: &Claim,
+    tree: &Tree,
+    verdict: Verdict,
+) -> Result<Vec<u8>, AllocError>
+    requires few { length tree.now < 2 ^ 32 }
+    requires passes { ClaimPasses true site.now (claim_of claim.now) }
+    requires verdict { IsVerdict site.now (claim_of claim.now) tree.now verdict }
+    ensures { IfOk result
+        (λ bytes. bytes.items
+        ≡ text_of (tables_of site.now (claim_of claim.now) tree.now verdict)) }
+{
+    match claim {
+        Claim::Network(network) => report_of(alloc, site, network),
+        Claim::Infeasible => clash_text(alloc, site, tree, verdict),
+        Claim::Unknown => Ok(Vec::new(alloc)),
+    }
+}
+
+/// What the tree proves, and after it the tables of the network if one is claimed, or the bounds
+/// that clash if it is proved that no network meets the bounds.
 pub fn verdict_text(
     alloc: Global,
     site: &Site<'_>,
     claim: &Claim,
+    tree: &Tree,
     verdict: Verdict,
 ) -> Result<Vec<u8>, AllocError>
+    requires few { length tree.now < 2 ^ 32 }
     requires passes { ClaimPasses true site.now (claim_of claim.now) }
+    requires verdict { IsVerdict site.now (claim_of claim.now) tree.now verdict }
     ensures { IfOk result
-        (λ bytes. bytes.items ≡ text_of (verdict_lines site.now (claim_of claim.now) verdict)) }
+        (λ bytes. bytes.items
+        ≡ text_of (verdict_lines site.now (claim_of claim.now) tree.now verdict)) }
 {
     let mut bytes = first_text(alloc, site.problem(), claim, verdict)?;
-    let tables = tables_of(alloc, site, claim)?;
+    let tables = tables_of(alloc, site, claim, tree, verdict)?;
     bytes.extend_from_slice(&tables)?;
     Ok(bytes)
 }

@@ -13,6 +13,7 @@ use Rattle.problem_rules.specs.Problem.{Problem}
 use Rattle.problem_rules.specs.Validity.{IsValid}
 use Rattle.pns_rules.specs.Shape.{shape_of}
 use Rattle.pns_rules.specs.Nodes.{Node}
+use Rattle.pns_rules.specs.Nodes as rules
 use Rattle.pns_rules.specs.Ends.{IsSound, IsReduced, IsDead, IsNever}
 use Rattle.pns_rules.proofs.ProperLemmas.{proper_if_valid}
 use Rattle.mixed_numbers.specs.declared.number.Mixed.{Mixed}
@@ -22,9 +23,13 @@ use Rattle.tree_rules.specs.Claim as claims
 use Rattle.tree_rules.specs.Claim.{CostOver, claimed_cost}
 use Rattle.tree_rules.specs.Leaf.{Leaf, untried, LeafPasses}
 use Rattle.tree_rules.specs.Lean.{MayUndercut, IsNoDearer}
+use Rattle.tree_rules.specs.Known.{AreUnits}
+use Rattle.pgraph.specs.View.{node_of}
+use Rattle.unit_sets.specs.declared.node.Node as places
 use Rattle.search_laws.proofs.ValueLemmas.{ways_are_dearer}
 use Rattle.search_laws.proofs.SoundLemmas.{children_are_sound}
 use Rattle.search_tree.specs.Cells.{Cell, no_cell, place_of, cell_at}
+use Rattle.search_tree.specs.Growth.{EndsOpen}
 use Rattle.search_tree.specs.Fits.{Follows}
 use Rattle.search_tree.specs.declared.growth.Fresh.{Fresh}
 use Rattle.tree_rules.specs.Costs.{HasFallen}
@@ -314,8 +319,8 @@ module _ (p : Problem) (valid : IsValid p) (n : Node) (w : Way) (sound : IsSound
         (Some (record { at = length old.nodes.items; stop = h }))
     stops_now h o = (
       let e = longer in omega (arith, e),
-      subst (λ (c : Cell). c.end ≡ leaf untried) (sym at_last)
-          (ic.end_is ∙ ap (λ (w : Leaf). leaf w) o.0),
+      subst (λ (c : Cell). EndsOpen c.end) (sym at_last)
+          (o.0.0, ic.end_is ∙ ap (λ (w : Leaf). leaf w) o.0.1),
       subst (λ (c : Cell). IsStop Past p (place_of c) h) (sym at_last) o.1,
     )
 
@@ -330,7 +335,7 @@ module _ (p : Problem) (valid : IsValid p) (n : Node) (w : Way) (sound : IsSound
         ∙ get_or_append_left (cells_of old.nodes.items) (l.cell ∷ []) no_cell h.at
         (omega (arith, lt, count)) in (
           let e = longer in omega (arith, e, lt),
-          subst (λ (c : Cell). c.end ≡ leaf untried) (sym here) o.1,
+          subst (λ (c : Cell). EndsOpen c.end) (sym here) o.1,
           subst (λ (c : Cell). IsStop Past p (place_of c) h.stop) (sym here) o.2,
         )
 
@@ -349,8 +354,10 @@ module _ (p : Problem) (valid : IsValid p) (n : Node) (w : Way) (sound : IsSound
         (λ (vs : List Mixed). AreReady Past p (cells_of old.nodes.items ++ l.cell ∷ []) vs
         (old.ready.items ++ l.ready ∷ [])) (sym values_more)
         (ready_more Past p (cells_of old.nodes.items) (values_of old.nodes.items) old.ready.items
-        (l.cell ∷ []) (l.value ∷ []) (l.ready ∷ []) h
-        ((λ e. o (let q : leaf ic.what ≡ leaf untried = sym ic.end_is ∙ e in cc)), tt))))
+        (l.cell ∷ []) (l.value ∷ []) (l.ready ∷ []) h (
+          (λ e. o (e.0, let q : leaf ic.what ≡ leaf (untried e.0) = sym ic.end_is ∙ e.1 in cc)),
+          tt,
+        ))))
 
     stop_by : (oh : Option StoppedAt) (lh : Option PastStop) (b : Bool) → b ≡ is_some oh
         → StopHolds Past p old.nodes.items old.ready.items oh
@@ -466,3 +473,50 @@ comes [] rest t all e = subst (λ ts. IsIn t ts) e (inl refl)
 comes (s ∷ done) rest t [] e = absurd cc
 comes (s ∷ done) rest t (u ∷ all) e =
     inr (comes done rest t all (let q : (done ++ t ∷ rest) ≡ all = cc in q))
+
+-- a child is left open without steps after one that stops the search
+pub child_waits : (Past : PastPlaces) (p : Problem) (start : places.Node) (option : List ℕ)
+    (steps : List rules.Step) (value : Mixed) (stopped : Bool) (c : Cell)
+    → stopped ≡ true → AreUnits p option → steps ≡ [] → IsSound (shape_of p) (node_of start)
+    → c
+    ≡ record {
+      option = option;
+      steps = steps;
+      node = start;
+      first = 0;
+      end = leaf (untried None);
+      key = 0;
+    }
+    → IsChild Past p (node_of start) option stopped
+    (record { cell = c; value = value; ready = None; network = None; stop = None })
+child_waits Past p start option steps value stopped c e known none sound is =
+    subst
+    (λ (b : Bool). IsChild Past p (node_of start) option b
+    (record { cell = c; value = value; ready = None; network = None; stop = None })) (sym e)
+    (subst
+    (λ (d : Cell). IsChild Past p (node_of start) option true
+    (record { cell = d; value = value; ready = None; network = None; stop = None }))
+    (sym (is ∙ ap as_cell none)) (record {
+      option_is = refl;
+      follows = record { pass = tt; leave = refl };
+      sound = sound;
+      what = untried None;
+      end_is = refl;
+      passes = (refl, tt);
+      found = tt;
+      bounded = refl;
+      uncharged = refl;
+      known = record { option = known; steps = tt; end = tt };
+      open_as = refl;
+    }))
+  where
+    as_cell : List rules.Step → Cell
+    as_cell ss =
+        record {
+          option = option;
+          steps = ss;
+          node = start;
+          first = 0;
+          end = leaf (untried None);
+          key = 0;
+        }

@@ -15,7 +15,7 @@ use Rattle.pgraph.specs.View.{node_of}
 use Rattle.unit_sets.specs.declared.node.Node.{Node}
 use Rattle.tree_rules.specs.Tree.{End, leaf, StepsPass, after_all}
 use Rattle.tree_rules.specs.Claim.{Network, CostOver}
-use Rattle.tree_rules.specs.Leaf.{Leaf, bounded, untried, LeafPasses}
+use Rattle.tree_rules.specs.Leaf.{Leaf, bounded, untried, IsUntried, LeafPasses}
 use Rattle.neutral_extension.specs.Moves.{Extends}
 use Rattle.search_tree.specs.Cells.{Cell, place_of}
 use Rattle.search_tree.specs.Growth.{as_shut}
@@ -34,8 +34,9 @@ use Rattle.node_evaluation.specs.declared.looks.Worth.{Worth}
 use Rattle.node_evaluation.specs.declared.looks.Looked.{Looked}
 use Rattle.node_evaluation.specs.Evaluated.{PastPlaces, cost_over, cost_in, IsWorthAs, IsBoundOf}
 use Rattle.node_evaluation.specs.Evaluated.{IsNetworkOf, HasUnits}
-use Rattle.node_evaluation.specs.Looks.{is_bounded_leaf, is_bounded, cost_of, IsWorthOf, IsFoundAt}
-use Rattle.node_evaluation.specs.Looks.{AreFoundAt, IsOpenAs, IsSameNode, IsSeen, IsLooked}
+use Rattle.node_evaluation.specs.Looks.{is_bounded_leaf, is_bounded, is_charged_leaf, is_charged}
+use Rattle.node_evaluation.specs.Looks.{cost_of, IsWorthOf, IsFoundAt, AreFoundAt, IsOpenAs}
+use Rattle.node_evaluation.specs.Looks.{IsSameNode, IsSeen, IsLooked}
 use Rattle.node_evaluation.proofs.KnownLemmas.{known_steps}
 
 -- what a lower bound is over is above 0
@@ -90,12 +91,13 @@ module _ (Past : PastPlaces) (p : Problem) (cell : Cell) (l : Looked) where
         (exact_value Past p (place_of cell) b exact h) k units));
     bounded = ap (λ (o : Option Network). is_some o) en
         ∙ sym (ap (λ (c : Cell). is_bounded c.end) ec);
+    uncharged = ap (λ (c : Cell). is_charged c.end) ec;
     end_known = subst (λ (c : Cell). KnowsEnd p c.end) (sym ec) (scale, multipliers);
     open_as =
         subst
         (λ (o : Option PastStop). IsOpenAs Past p (place_of l.cell) (bounded b.scaled.d b.scaled.ys)
         l.value l.ready o) (sym eh)
-        (λ e. absurd (let q : bounded b.scaled.d b.scaled.ys ≡ untried = e in cc));
+        (λ e. absurd (let q : bounded b.scaled.d b.scaled.ys ≡ untried e.0 = e.1 in cc));
   }
 
   pub seen_open : (value : Mixed) (choice : Choice) (worth : Worth)
@@ -107,24 +109,26 @@ module _ (Past : PastPlaces) (p : Problem) (cell : Cell) (l : Looked) where
         network = None;
         stop = None;
       }
-      → cell.end ≡ leaf untried → IsReduced (shape_of p) (place_of cell)
+      → cell.end ≡ leaf (untried None) → IsReduced (shape_of p) (place_of cell)
       → IsChoice (shape_of p) (place_of cell) choice
       → IsWorthOf Past p (place_of cell) value worth → IsSeen Past p l
   seen_open value choice worth same untouched reduced chosen is =
       subst (λ (m : Looked). IsSeen Past p m) (sym same) (record {
-        what = untried;
+        what = untried None;
         end_is = untouched;
-        passes = refl;
+        passes = (refl, tt);
         found = tt;
         bounded = sym (ap (λ (e : End Leaf). is_bounded e) untouched);
+        uncharged = ap (λ (e : End Leaf). is_charged e) untouched;
         open_as = λ e. record { reduced = reduced; choice = chosen; worth = is };
         end_known = subst (λ (e : End Leaf). KnowsEnd p e) (sym untouched) tt;
       })
 
   pub seen_closed : (what : Leaf) → l.cell ≡ as_shut cell (leaf what) → l.network ≡ None
-      → l.stop ≡ None → (what ≡ untried → ⊥) → is_bounded_leaf what ≡ false
+      → l.stop ≡ None → (IsUntried what → ⊥) → is_bounded_leaf what ≡ false
+      → is_charged_leaf what ≡ false
       → LeafPasses true p None (place_of cell) what → KnowsLeaf p what → IsSeen Past p l
-  seen_closed what ec en eh shut unbounded passes known = record {
+  seen_closed what ec en eh shut unbounded uncharged passes known = record {
     what = what;
     end_is = ap (λ (c : Cell). c.end) ec;
     passes =
@@ -134,6 +138,7 @@ module _ (Past : PastPlaces) (p : Problem) (cell : Cell) (l : Looked) where
     found = subst (λ (o : Option Network). AreFoundAt p (place_of l.cell) o) (sym en) tt;
     bounded = ap (λ (o : Option Network). is_some o) en
         ∙ sym (ap (λ (c : Cell). is_bounded c.end) ec ∙ unbounded);
+    uncharged = ap (λ (c : Cell). is_charged c.end) ec ∙ uncharged;
     open_as =
         subst (λ (o : Option PastStop). IsOpenAs Past p (place_of l.cell) what l.value l.ready o)
         (sym eh) (λ e. absurd (shut e));
@@ -160,9 +165,9 @@ module _ (Past : PastPlaces) (p : Problem) (g : Shape) (same : g ≡ shape_of p)
       steps = steps;
       node = node;
       first = 0;
-      end = leaf untried;
-      key =
-          0;
+      end =
+          leaf (untried None);
+      key = 0;
     }) (extends : Extends g start list (node_of node) stop) where
   pub there : Extends (shape_of p) start list (node_of node) stop
   there = subst (λ (h : Shape). Extends h start list (node_of node) stop) same extends
@@ -206,10 +211,11 @@ module _ (Past : PastPlaces) (p : Problem) (g : Shape) (same : g ≡ shape_of p)
   looked_ok (Err e) k seen = tt
 
   pub looked_closed : (l : Looked) (what : Leaf) → l.cell ≡ as_shut cell (leaf what)
-      → l.network ≡ None → l.stop ≡ None → (what ≡ untried → ⊥) → is_bounded_leaf what ≡ false
+      → l.network ≡ None → l.stop ≡ None → (IsUntried what → ⊥) → is_bounded_leaf what ≡ false
+      → is_charged_leaf what ≡ false
       → LeafPasses true p None (node_of node) what → KnowsLeaf p what
       → IsLooked Past p start option l
-  looked_closed l what ec en eh shut unbounded passes known =
+  looked_closed l what ec en eh shut unbounded uncharged passes known =
       looked l
       (record {
         option = ap (λ (c : Cell). c.option) ec;
@@ -217,6 +223,6 @@ module _ (Past : PastPlaces) (p : Problem) (g : Shape) (same : g ≡ shape_of p)
             ap (λ (c : Cell). c.steps) ec;
         node = ap (λ (c : Cell). c.node) ec;
       })
-      (seen_closed Past p cell l what ec en eh shut unbounded
+      (seen_closed Past p cell l what ec en eh shut unbounded uncharged
       (subst (λ (m : Node). LeafPasses true p None (node_of m) what) (sym node_is) passes)
       known)

@@ -1,34 +1,36 @@
 -- The network of each leaf among children.
-use Rattle.std.proofs.Common.{◌≡◌, Bool, true, cond, List, [], ◌∷◌, ◌++◌, Option, Some, None, sym}
-use Rattle.std.proofs.Common.{ap, ◌∙◌, subst, true≢false}
+use Rattle.std.proofs.Common.{◌≡◌, Bool, true, false, cond, List, [], ◌∷◌, ◌++◌, Option, Some}
+use Rattle.std.proofs.Common.{None, sym, ap, ◌∙◌, subst, true≢false}
 use Rattle.std.specs.Prelude.{is_some}
 use Rattle.std.proofs.lemmas.List.{map-append}
 use Rattle.problem_rules.specs.Problem.{Problem}
 use Rattle.tree_rules.specs.Tree.{End, leaf}
 use Rattle.tree_rules.specs.Claim as claims
-use Rattle.tree_rules.specs.Leaf.{Leaf, dead, clash, refuted, bounded, untried, LeafPasses}
+use Rattle.tree_rules.specs.Leaf.{Leaf, dead, clash, refuted, bounded, charged, untried, LeafPasses}
 use Rattle.search_tree.specs.Cells.{Cell, place_of}
 use Rattle.search_tree.specs.declared.growth.Fresh.{Fresh}
 use Rattle.node_evaluation.specs.declared.looks.Looked.{Looked}
 use Rattle.node_evaluation.specs.declared.children.Children.{Children}
-use Rattle.node_evaluation.specs.Looks.{cost_of, is_bounded, AreFoundAt}
+use Rattle.node_evaluation.specs.Looks.{cost_of, is_bounded, is_charged, AreFoundAt}
 use Rattle.node_evaluation.specs.Children.{cells_of, IsSolvedBy, AreSolvedBy}
 
 -- a leaf that passes for its network is solved by it
 pub solved_by : (p : Problem) (c : Cell) (w : Option claims.Network) (what : Leaf)
     → c.end ≡ leaf what → LeafPasses true p (cost_of w) (place_of c) what
     → AreFoundAt p (place_of c) w
-    → is_some w ≡ is_bounded c.end → IsSolvedBy p c w
-solved_by p c None what e passes found b = sym b
-solved_by p c (Some w) (dead x) e passes found b =
+    → is_some w ≡ is_bounded c.end → is_charged c.end ≡ false → IsSolvedBy p c w
+solved_by p c None what e passes found b u = (sym b, u)
+solved_by p c (Some w) (dead x) e passes found b u =
     absurd (true≢false (b ∙ ap (λ (d : End Leaf). is_bounded d) e))
-solved_by p c (Some w) (clash k) e passes found b =
+solved_by p c (Some w) (clash k) e passes found b u =
     absurd (true≢false (b ∙ ap (λ (d : End Leaf). is_bounded d) e))
-solved_by p c (Some w) (refuted ys) e passes found b =
+solved_by p c (Some w) (refuted ys) e passes found b u =
     absurd (true≢false (b ∙ ap (λ (d : End Leaf). is_bounded d) e))
-solved_by p c (Some w) (bounded d ys) e passes found b =
+solved_by p c (Some w) (bounded d ys) e passes found b u =
     record { d = d; ys = ys; end_is = e; found = found; bounded = passes }
-solved_by p c (Some w) untried e passes found b =
+solved_by p c (Some w) (charged h) e passes found b u =
+    absurd (true≢false (b ∙ ap (λ (d : End Leaf). is_bounded d) e))
+solved_by p c (Some w) (untried low) e passes found b u =
     absurd (true≢false (b ∙ ap (λ (d : End Leaf). is_bounded d) e))
 
 solved-append : (p : Problem) (cs ds : List Cell) (ws vs : List (Option claims.Network))

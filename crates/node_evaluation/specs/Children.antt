@@ -10,9 +10,10 @@ use Rattle.tree_rules.specs.Ways.{Way}
 use Rattle.tree_rules.specs.Tree.{leaf}
 use Rattle.tree_rules.specs.Claim as claims
 use Rattle.tree_rules.specs.Claim.{CostOver, claimed_cost, ClaimPasses}
-use Rattle.tree_rules.specs.Leaf.{Leaf, bounded, untried, LeafPasses, IsBounded}
+use Rattle.tree_rules.specs.Leaf.{Leaf, bounded, LeafPasses, IsBounded}
 use Rattle.tree_rules.specs.Lean.{MayUndercut}
 use Rattle.search_tree.specs.Cells.{Cell, place_of, cell_at}
+use Rattle.search_tree.specs.Growth.{EndsOpen}
 use Rattle.search_tree.specs.Fits.{Follows}
 use Rattle.search_tree.specs.declared.growth.Fresh.{Fresh}
 use Rattle.tree_rules.specs.Costs.{HasFallen}
@@ -26,8 +27,8 @@ use Rattle.node_evaluation.specs.declared.looks.Looked.{Looked}
 use Rattle.node_evaluation.specs.declared.children.StoppedAt.{StoppedAt}
 use Rattle.node_evaluation.specs.declared.children.Children.{Children}
 use Rattle.node_evaluation.specs.Evaluated.{PastPlaces, cost_in}
-use Rattle.node_evaluation.specs.Looks.{cost_of, is_bounded, has_bounded, KnowsCell, IsFoundAt}
-use Rattle.node_evaluation.specs.Looks.{AreFoundAt, IsSomeReady, IsStop, IsOpenAs}
+use Rattle.node_evaluation.specs.Looks.{cost_of, is_bounded, is_charged, has_bounded, KnowsCell}
+use Rattle.node_evaluation.specs.Looks.{IsFoundAt, AreFoundAt, IsSomeReady, IsStop, IsOpenAs}
 
 -- ---- the cheapest network
 
@@ -60,7 +61,7 @@ values_of fs = map (λ (f : Fresh). f.value) fs
 abbrev pub AreReady : PastPlaces → Problem → List Cell → List Mixed → List (Option Ready) → Type 0
 AreReady Past p [] [] [] = Unit {0}
 AreReady Past p (c ∷ cs) (v ∷ vs) (r ∷ rs) =
-    (c.end ≡ leaf untried → IsSomeReady Past p (place_of c) v r) × AreReady Past p cs vs rs
+    (EndsOpen c.end → IsSomeReady Past p (place_of c) v r) × AreReady Past p cs vs rs
 AreReady Past p [] [] (r ∷ rs) = ⊥
 AreReady Past p [] (v ∷ vs) rs = ⊥
 AreReady Past p (c ∷ cs) [] rs = ⊥
@@ -84,6 +85,7 @@ pub record IsChild (Past : PastPlaces) (p : Problem) (start : Node) (option : Li
   pub passes : LeafPasses true p (cost_of l.network) (place_of l.cell) what
   pub found : AreFoundAt p (place_of l.cell) l.network
   pub bounded : is_some l.network ≡ is_bounded l.cell.end
+  pub uncharged : is_charged l.cell.end ≡ false
   pub known : KnowsCell p l.cell
   pub open_as : IsChildAs Past p (place_of l.cell) what l.value l.ready l.stop stopped
 
@@ -94,7 +96,7 @@ abbrev pub StopHolds : PastPlaces → Problem → List Fresh → List (Option Re
     → Type 0
 StopHolds Past p nodes ready None = AreReady Past p (cells_of nodes) (values_of nodes) ready
 StopHolds Past p nodes ready (Some h) =
-    (h.at < length nodes) × ((cell_at (cells_of nodes) h.at).end ≡ leaf untried)
+    (h.at < length nodes) × EndsOpen (cell_at (cells_of nodes) h.at).end
     × IsStop Past p (place_of (cell_at (cells_of nodes) h.at)) h.stop
 
 abbrev pub stop_after : Option StoppedAt → ℕ → Option PastStop → Option StoppedAt
@@ -144,9 +146,9 @@ pub record IsSolvedAs (p : Problem) (c : Cell) (w : claims.Network) : Type 0 whe
   pub found : IsFoundAt p (place_of c) w
   pub bounded : IsBounded p (Some (cost_in w)) (place_of c) d ys
 
--- the cell is such a leaf, or not bounded
+-- the cell is such a leaf, or no leaf that is bounded or charges its node
 abbrev pub IsSolvedBy : Problem → Cell → Option claims.Network → Type 0
-IsSolvedBy p c None = is_bounded c.end ≡ false
+IsSolvedBy p c None = (is_bounded c.end ≡ false) × (is_charged c.end ≡ false)
 IsSolvedBy p c (Some w) = IsSolvedAs p c w
 
 -- there is a network for each cell that is bounded, and for no other

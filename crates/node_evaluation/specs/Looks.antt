@@ -8,8 +8,8 @@ use Rattle.pns_rules.specs.Ends.{IsSound, IsReduced, IsDead, IsNever}
 use Rattle.mixed_numbers.specs.declared.number.Mixed.{Mixed}
 use Rattle.tree_rules.specs.Tree.{End, branch, leaf}
 use Rattle.tree_rules.specs.Claim.{Network, CostOver, IsFeasible}
-use Rattle.tree_rules.specs.Leaf.{Leaf, dead, clash, refuted, bounded, untried, LeafPasses}
-use Rattle.tree_rules.specs.Leaf.{IsRefuted}
+use Rattle.tree_rules.specs.Leaf.{Leaf, dead, clash, refuted, bounded, charged, untried, IsUntried}
+use Rattle.tree_rules.specs.Leaf.{LeafPasses, IsRefuted}
 use Rattle.tree_rules.specs.Lean.{HasCheaper}
 use Rattle.tree_rules.specs.Known.{KnowsNode, KnowsEnd}
 use Rattle.search_tree.specs.Cells.{Cell, place_of}
@@ -61,8 +61,8 @@ pub record IsStop (Past : PastPlaces) (p : Problem) (n : Node) (h : PastStop) : 
 -- an open leaf is ready, unless it stops the search
 abbrev pub IsOpenAs : PastPlaces → Problem → Node → Leaf → Mixed → Option Ready → Option PastStop
     → Type 0
-IsOpenAs Past p n what value ready None = what ≡ untried → IsSomeReady Past p n value ready
-IsOpenAs Past p n what value ready (Some h) = (what ≡ untried) × IsStop Past p n h
+IsOpenAs Past p n what value ready None = IsUntried what → IsSomeReady Past p n value ready
+IsOpenAs Past p n what value ready (Some h) = IsUntried what × IsStop Past p n h
 
 -- ---- what a cell ends with
 
@@ -72,13 +72,27 @@ is_bounded_leaf (dead x) = false
 is_bounded_leaf (clash k) = false
 is_bounded_leaf (refuted ys) = false
 is_bounded_leaf (bounded d ys) = true
-is_bounded_leaf untried = false
+is_bounded_leaf (charged h) = false
+is_bounded_leaf (untried low) = false
 
 abbrev pub is_bounded : End Leaf → Bool
 is_bounded (branch w) = false
 is_bounded (leaf l) = is_bounded_leaf l
 
--- whether one of the cells ends in such a leaf
+-- whether it is a leaf that charges its node
+abbrev pub is_charged_leaf : Leaf → Bool
+is_charged_leaf (dead x) = false
+is_charged_leaf (clash k) = false
+is_charged_leaf (refuted ys) = false
+is_charged_leaf (bounded d ys) = false
+is_charged_leaf (charged h) = true
+is_charged_leaf (untried low) = false
+
+abbrev pub is_charged : End Leaf → Bool
+is_charged (branch w) = false
+is_charged (leaf l) = is_charged_leaf l
+
+-- whether one of the cells ends with a bound
 abbrev pub has_bounded : List Cell → Bool
 has_bounded [] = false
 has_bounded (c ∷ cs) = is_bounded c.end || has_bounded cs
@@ -116,13 +130,14 @@ pub record IsSameNode (c d : Cell) : Type 0 where
   pub node : d.node ≡ c.node
 
 -- the cell is a leaf, which passes if the network that was found is claimed, and is bounded just if
--- one was found
+-- one was found. A look charges no node.
 pub record IsSeen (Past : PastPlaces) (p : Problem) (l : Looked) : Type 0 where
   pub what : Leaf
   pub end_is : l.cell.end ≡ leaf what
   pub passes : LeafPasses true p (cost_of l.network) (place_of l.cell) what
   pub found : AreFoundAt p (place_of l.cell) l.network
   pub bounded : is_some l.network ≡ is_bounded l.cell.end
+  pub uncharged : is_charged l.cell.end ≡ false
   pub open_as : IsOpenAs Past p (place_of l.cell) what l.value l.ready l.stop
   pub end_known : KnowsEnd p l.cell.end
 

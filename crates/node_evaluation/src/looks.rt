@@ -142,7 +142,7 @@ fn look_closer<E: Evaluator>(
     requires split { decided ≡ true → IsDecided (shape_of site.now) (node_of cell.node) }
     requires first { decided ≡ false
         → IsFirst (IsUndecided (shape_of site.now) (node_of cell.node)) material }
-    requires open { cell.end ≡ leaf untried }
+    requires open { cell.end ≡ leaf (untried None) }
     ensures same { IfOk result (λ l. IsSameNode cell l.cell) }
     ensures seen { IfOk result (IsSeen E.past site.now) }
     ensures own { E.values site.now workspace.new.evaluator }
@@ -187,7 +187,7 @@ fn look_first<E: Evaluator>(
     requires sound { IsSound (shape_of site.now) (node_of cell.node) }
     requires reduced { IsReduced (shape_of site.now) (node_of cell.node) }
     requires first { IsFirst (IsUndecided (shape_of site.now) (node_of cell.node)) material }
-    requires open { cell.end ≡ leaf untried }
+    requires open { cell.end ≡ leaf (untried None) }
     ensures same { IfOk result (λ l. IsSameNode cell l.cell) }
     ensures seen { IfOk result (IsSeen E.past site.now) }
     ensures own { E.values site.now workspace.new.evaluator }
@@ -244,7 +244,7 @@ pub fn open_cell(option: UnitSet, steps: Steps, node: Node) -> Cell
       node = node;
       first = 0;
       end =
-          leaf untried;
+          leaf (untried None);
       key = 0;
     } }
 {
@@ -253,7 +253,7 @@ pub fn open_cell(option: UnitSet, steps: Steps, node: Node) -> Cell
         steps,
         node,
         first: 0,
-        end: End::Open,
+        end: End::Open(None),
         key: 0,
     }
 }

@@ -1,14 +1,16 @@
 -- The claim of both: whatever passes for the one claim or the other passes for it.
-use Rattle.std.proofs.Common.{◌≡◌, ℤ, pos, ◌*ℤ◌, ◌≤ℤ◌, ◌<ℤ◌, Bool, true, false, int_lt, Option}
-use Rattle.std.proofs.Common.{Some, None, refl, arith, if◌then◌else◌, subst}
+use Rattle.std.proofs.Common.{◌≡◌, inl, inr, ℤ, pos, ◌*ℤ◌, ◌≤ℤ◌, ◌<ℤ◌, Bool, true, false, int_lt}
+use Rattle.std.proofs.Common.{Option, Some, None, refl, arith, if◌then◌else◌, subst}
 use Rattle.std.proofs.lemmas.Int.{ints}
 use Rattle.integer_laws.proofs.Order.{mul-le_left, mul-lt_left}
 use Rattle.integer_laws.proofs.Ring.{ring_z}
 use Rattle.problem_rules.specs.Problem.{Problem}
 use Rattle.pns_rules.specs.Nodes.{Node}
+use Rattle.charge_rules.specs.Leaf.{IsScale, ChargeReaches}
 use Rattle.tree_rules.specs.Claim.{Network, Claim, network, infeasible, unknown, CostOver}
 use Rattle.tree_rules.specs.Claim.{claimed_cost, IsAtLeast, IsFeasible, ClaimPasses}
-use Rattle.tree_rules.specs.Leaf.{Leaf, dead, clash, refuted, bounded, untried, LeafPasses}
+use Rattle.tree_rules.specs.Leaf.{Leaf, dead, clash, refuted, bounded, charged, untried, IsClaimed}
+use Rattle.tree_rules.specs.Leaf.{LeafPasses}
 use Rattle.tree_rules.specs.Accepted.{Tree}
 use Rattle.part_rules.specs.Graft.{has_open, claim_of_both}
 
@@ -46,6 +48,22 @@ at_least_too a b n d pa pb pd less h =
     taken_out b.d (a.cost *ℤ d) (n *ℤ a.d) bd0
     (let all : (b.d *ℤ (a.cost *ℤ d)) ≤ℤ (b.d *ℤ (n *ℤ a.d)) = omega (arith, ring_z) in all)
 
+-- and so is a charge
+charge_too : (a b : CostOver) (x d : ℤ) → pos 1 ≤ℤ a.d → pos 1 ≤ℤ b.d → IsNoDearer a b
+    → ChargeReaches (IsAtLeast (Some b)) x d → ChargeReaches (IsAtLeast (Some a)) x d
+charge_too a b x d pa pb less (inl r) = inl (r.0, at_least_too a b x d pa pb r.0 less r.1)
+charge_too a b x d pa pb less (inr r) = inr r
+
+-- where no cost is claimed, a charge counts none
+scale_without : (claimed : Option CostOver) (d : ℤ) → IsScale ⊥ d → IsScale (IsClaimed claimed) d
+scale_without claimed d (inl e) = inl e
+scale_without claimed d (inr q) = absurd q.1
+
+charge_without : (claimed : Option CostOver) (x d : ℤ)
+    → ChargeReaches (IsAtLeast None) x d → ChargeReaches (IsAtLeast claimed) x d
+charge_without claimed x d (inl r) = absurd r.1
+charge_without claimed x d (inr r) = inr r
+
 -- ---- leaves
 
 pub leaf_cheaper : (p : Problem) (a b : CostOver) (n : Node) (l : Leaf) → pos 1 ≤ℤ a.d
@@ -60,16 +78,30 @@ leaf_cheaper p a b n (bounded d ys) pa pb less h = record {
   formed = h.formed;
   reaches = at_least_too a b _ d pa pb h.positive less h.reaches;
 }
-leaf_cheaper p a b n untried pa pb less h = refl
+leaf_cheaper p a b n (charged c) pa pb less h = record {
+  scale = h.scale;
+  each_row = h.each_row;
+  covered = h.covered;
+  formed = h.formed;
+  reaches = charge_too a b _ c.d pa pb less h.reaches;
+}
+leaf_cheaper p a b n (untried low) pa pb less h = h
 
--- if no cost is claimed there is no bounded leaf
+-- where no cost is claimed there is no bounded leaf, and no charge of a cost
 pub leaf_without : (p : Problem) (claimed : Option CostOver) (n : Node) (l : Leaf)
     → LeafPasses true p None n l → LeafPasses true p claimed n l
 leaf_without p claimed n (dead x) h = h
 leaf_without p claimed n (clash k) h = h
 leaf_without p claimed n (refuted ys) h = h
 leaf_without p claimed n (bounded d ys) h = absurd h.reaches
-leaf_without p claimed n untried h = refl
+leaf_without p claimed n (charged c) h = record {
+  scale = scale_without claimed c.d h.scale;
+  each_row = h.each_row;
+  covered = h.covered;
+  formed = h.formed;
+  reaches = charge_without claimed _ c.d h.reaches;
+}
+leaf_without p claimed n (untried low) h = h
 
 -- ---- claims
 

@@ -6,30 +6,31 @@ use Rattle.pns_rules.specs.Shape.{Shape}
 use Rattle.pns_rules.specs.Nodes.{Node}
 use Rattle.tree_rules.specs.Ways.{width}
 use Rattle.tree_rules.specs.Tree.{End, branch, leaf, TreeNode, children, IsForest, IsTree, skip}
-use Rattle.tree_rules.specs.Tree.{roots, StepsPass, after_all, EndPasses, below, Stands, Pass}
-use Rattle.tree_rules.specs.Leaf.{Leaf, untried}
+use Rattle.tree_rules.specs.Tree.{roots, StepsPass, after_all, EndPasses, below, Pass}
+use Rattle.tree_rules.specs.Leaf.{Leaf}
 use Rattle.tree_rules.specs.Accepted.{Tree}
 use Rattle.part_rules.specs.Graft.{grafted, graft_at}
+use Rattle.part_rules.specs.OpenLeaves.{IsOpenEnd, StandsOpen}
 use Rattle.part_laws.proofs.ForestLemmas.{after_all-append, steps-append, forest-append, skip-whole}
 use Rattle.part_laws.proofs.ForestLemmas.{forest_below, end-append, pass-append}
 
 -- node k of the list is an open leaf
 abbrev pub IsOpenNode : ℕ → Tree → Type 0
 IsOpenNode k [] = ⊥
-IsOpenNode zero (t ∷ ts) = t.end ≡ leaf untried
+IsOpenNode zero (t ∷ ts) = IsOpenEnd t.end
 IsOpenNode (suc k) (t ∷ ts) = IsOpenNode k ts
 
 pub stands_open : (g : Shape) (ns : List Node) (ts : Tree) (k : ℕ) (n : Node)
-    → Stands g ns ts k n (leaf untried) → IsOpenNode k ts
-stands_open g [] ts k n s = absurd s
-stands_open g (m ∷ ms) [] k n s = absurd s
-stands_open g (m ∷ ms) (t ∷ ts) zero n s = s.1
+    → StandsOpen g ns ts k n → IsOpenNode k ts
+stands_open g [] ts k n s = absurd s.1
+stands_open g (m ∷ ms) [] k n s = absurd s.1
+stands_open g (m ∷ ms) (t ∷ ts) zero n s = (s.0, s.1.1)
 stands_open g (m ∷ ms) (t ∷ ts) (suc k) n s =
     stands_open g (below g (after_all g m t.steps) t.end ++ ms) ts k n s
 
 -- an open leaf has no children
-no_children : (t : TreeNode Leaf) → t.end ≡ leaf untried → children t.end ≡ 0
-no_children t e = ap (λ (end : End Leaf). children end) e
+no_children : (t : TreeNode Leaf) → IsOpenEnd t.end → children t.end ≡ 0
+no_children t o = ap (λ (end : End Leaf). children end) o.1
 
 module _ (r : TreeNode Leaf) (rs : Tree) (whole : IsForest 1 (r ∷ rs)) where
   -- the place of the part when some subtrees were skipped, if it was not
@@ -85,7 +86,7 @@ module _ (r : TreeNode Leaf) (rs : Tree) (whole : IsForest 1 (r ∷ rs)) where
     end-graft n (leaf l) k ts o h = h
 
     -- at the node of the leaf
-    here : (m : Node) (ms : List Node) (t : TreeNode Leaf) (us : Tree) → t.end ≡ leaf untried
+    here : (m : Node) (ms : List Node) (t : TreeNode Leaf) (us : Tree) → IsOpenEnd t.end
         → StepsPass g m t.steps → Pass g P ms us → Pass g P (after_all g m t.steps ∷ []) (r ∷ rs)
         → Pass g P (m ∷ ms) (grafted t r ∷ (rs ++ us))
     here m ms t us e steps rest part =
@@ -106,15 +107,14 @@ module _ (r : TreeNode Leaf) (rs : Tree) (whole : IsForest 1 (r ∷ rs)) where
         (steps-append g m t.steps r.steps steps part.0, both.0, both.1)
 
     pub pass-graft : (ns : List Node) (ts : Tree) (k : ℕ) (n : Node) → Pass g P ns ts
-        → Stands g ns ts k n (leaf untried) → Pass g P (n ∷ []) (r ∷ rs)
-        → Pass g P ns (graft_at k ts (r ∷ rs))
-    pass-graft [] ts k n h s q = absurd s
-    pass-graft (m ∷ ms) [] k n h s q = absurd s
+        → StandsOpen g ns ts k n → Pass g P (n ∷ []) (r ∷ rs) → Pass g P ns (graft_at k ts (r ∷ rs))
+    pass-graft [] ts k n h s q = absurd s.1
+    pass-graft (m ∷ ms) [] k n h s q = absurd s.1
     pass-graft (m ∷ ms) (t ∷ us) zero n h s q =
-        here m ms t us s.1 h.0
-        (subst (λ (end : End Leaf). Pass g P (below g (after_all g m t.steps) end ++ ms) us) s.1
-        h.2)
-        (subst (λ (j : Node). Pass g P (j ∷ []) (r ∷ rs)) (sym s.0) q)
+        here m ms t us (s.0, s.1.1) h.0
+        (subst (λ (end : End Leaf). Pass g P (below g (after_all g m t.steps) end ++ ms) us)
+        s.1.1 h.2)
+        (subst (λ (j : Node). Pass g P (j ∷ []) (r ∷ rs)) (sym s.1.0) q)
     pass-graft (m ∷ ms) (t ∷ us) (suc k) n h s q =
         let a : Node = after_all g m t.steps in (
           h.0,
@@ -128,7 +128,7 @@ tree-graft k ts [] o h q = absurd q
 tree-graft k ts (r ∷ rs) o h q = root-graft r rs q.1 k ts o h
 
 pub passes-graft : (g : Shape) (P : Node → Leaf → Type 0) (ns : List Node) (ts part : Tree) (k : ℕ)
-    (n : Node) → IsTree part → Pass g P ns ts → Stands g ns ts k n (leaf untried)
-    → Pass g P (n ∷ []) part → Pass g P ns (graft_at k ts part)
+    (n : Node) → IsTree part → Pass g P ns ts → StandsOpen g ns ts k n → Pass g P (n ∷ []) part
+    → Pass g P ns (graft_at k ts part)
 passes-graft g P ns ts [] k n q h s p = absurd q
 passes-graft g P ns ts (r ∷ rs) k n q h s p = pass-graft r rs q.1 g P ns ts k n h s p

@@ -3,12 +3,13 @@ use Rattle.std.proofs.Common.{◌≡◌, ◌⊎◌, ℕ, zero, suc, ◌+◌, tru
 use Rattle.std.proofs.Common.{subst, inl, inr, arith}
 use Rattle.pns_rules.specs.Shape.{Shape, shape_of}
 use Rattle.pns_rules.specs.Nodes.{Node}
-use Rattle.tree_rules.specs.Tree.{End, branch, leaf, after_all, below, Stands, Pass}
+use Rattle.tree_rules.specs.Tree.{End, branch, leaf, after_all, below, Pass}
 use Rattle.tree_rules.specs.Claim.{claimed_cost}
-use Rattle.tree_rules.specs.Leaf.{Leaf, dead, clash, refuted, bounded, untried, LeafPasses}
+use Rattle.tree_rules.specs.Leaf.{Leaf, dead, clash, refuted, bounded, charged, untried, LeafPasses}
 use Rattle.tree_rules.specs.Accepted.{Tree}
 use Rattle.tree_laws.proofs.OpenLemmas.{passes_too}
-use Rattle.part_rules.specs.OpenLeaves.{OpenAt, open_here, open_leaves, IsAmong}
+use Rattle.part_rules.specs.OpenLeaves.{OpenAt, open_here, open_leaves, IsAmong, IsOpenEnd}
+use Rattle.part_rules.specs.OpenLeaves.{StandsOpen}
 use Rattle.part_rules.specs.Graft.{graft_at, claim_of_both}
 use Rattle.part_laws.specs.Laws.{OpenLeavesStand, GraftIsTree, GraftIsPartial}
 use Rattle.part_laws.proofs.ClaimLemmas.{IsBoth, both_claims}
@@ -52,25 +53,25 @@ among_one l (x ∷ xs) ys (inr h) = elim (among_one l xs ys h) [ inl p ↦ inl (
 
 -- the node itself is open, with this number
 here_only : (l : OpenAt) (k : ℕ) (m : Node) (e : End Leaf) → IsAmong l (open_here k m e)
-    → (l.number ≡ k) × (m ≡ l.node) × (e ≡ leaf untried)
+    → (l.number ≡ k) × (m ≡ l.node) × IsOpenEnd e
 here_only l k m (branch w) h = absurd h
 here_only l k m (leaf (dead x)) h = absurd h
 here_only l k m (leaf (clash x)) h = absurd h
 here_only l k m (leaf (refuted ys)) h = absurd h
 here_only l k m (leaf (bounded d ys)) h = absurd h
-here_only l k m (leaf untried) (inl e) =
-    (ap (λ (o : OpenAt). o.number) e, ap (λ (o : OpenAt). o.node) (sym e), refl)
-here_only l k m (leaf untried) (inr h) = absurd h
+here_only l k m (leaf (charged c)) h = absurd h
+here_only l k m (leaf (untried low)) (inl e) =
+    (ap (λ (o : OpenAt). o.number) e, ap (λ (o : OpenAt). o.node) (sym e), (low, refl))
+here_only l k m (leaf (untried low)) (inr h) = absurd h
 
-here_also : (l : OpenAt) (k : ℕ) (m : Node) (e : End Leaf) → l.number ≡ k → m ≡ l.node
-    → e ≡ leaf untried → IsAmong l (open_here k m e)
+here_also : (l : OpenAt) (k : ℕ) (m : Node) (e : End Leaf) → l.number ≡ k → m ≡ l.node → IsOpenEnd e
+    → IsAmong l (open_here k m e)
 here_also l k m e number node is =
-    subst (λ (end : End Leaf). IsAmong l (open_here k m end)) (sym is)
+    subst (λ (end : End Leaf). IsAmong l (open_here k m end)) (sym is.1)
     (inl (λ i. record { number = number i; node = sym node i }))
 
 listed_stand : (g : Shape) (ns : List Node) (ts : Tree) (k : ℕ) (l : OpenAt)
-    → IsAmong l (open_leaves g ns ts k) → (j : ℕ) × (l.number ≡ k + j)
-    × Stands g ns ts j l.node (leaf untried)
+    → IsAmong l (open_leaves g ns ts k) → (j : ℕ) × (l.number ≡ k + j) × StandsOpen g ns ts j l.node
 listed_stand g [] ts k l h = absurd h
 listed_stand g (n ∷ ns) [] k l h = absurd h
 listed_stand g (n ∷ ns) (t ∷ ts) k l h =
@@ -79,7 +80,7 @@ listed_stand g (n ∷ ns) (t ∷ ts) k l h =
       | inl p ↦
           let o = here_only l k m t.end p in
           let same = o.0 in
-          (zero, (let e : l.number ≡ k + 0 = omega arith in e), (o.1, o.2))
+          (zero, (let e : l.number ≡ k + 0 = omega arith in e), (o.2.0, (o.1, o.2.1)))
       | inr q ↦
           let s = listed_stand g (below g m t.end ++ ns) ts (k + 1) l q in
           let j : ℕ = s.0 in
@@ -88,13 +89,13 @@ listed_stand g (n ∷ ns) (t ∷ ts) k l h =
     ]
 
 pub stand_listed : (g : Shape) (ns : List Node) (ts : Tree) (k j : ℕ) (l : OpenAt)
-    → l.number ≡ k + j → Stands g ns ts j l.node (leaf untried) → IsAmong l (open_leaves g ns ts k)
-stand_listed g [] ts k j l e s = absurd s
-stand_listed g (n ∷ ns) [] k j l e s = absurd s
+    → l.number ≡ k + j → StandsOpen g ns ts j l.node → IsAmong l (open_leaves g ns ts k)
+stand_listed g [] ts k j l e s = absurd s.1
+stand_listed g (n ∷ ns) [] k j l e s = absurd s.1
 stand_listed g (n ∷ ns) (t ∷ ts) k zero l e s =
     let m : Node = after_all g n t.steps in
     among_both l (open_here k m t.end) (open_leaves g (below g m t.end ++ ns) ts (k + 1))
-    (inl (here_also l k m t.end (let q : l.number ≡ k = omega arith in q) s.0 s.1))
+    (inl (here_also l k m t.end (let q : l.number ≡ k = omega arith in q) s.1.0 (s.0, s.1.1)))
 stand_listed g (n ∷ ns) (t ∷ ts) k (suc j) l e s =
     let m : Node = after_all g n t.steps in
     among_both l (open_here k m t.end) (open_leaves g (below g m t.end ++ ns) ts (k + 1))
@@ -103,7 +104,7 @@ stand_listed g (n ∷ ns) (t ∷ ts) k (suc j) l e s =
 pub open_leaves_stand : OpenLeavesStand
 open_leaves_stand g n tree l = (
   (λ h. let s = listed_stand g (n ∷ []) tree 0 l h in let same =
-      s.1 in subst (λ (j : ℕ). Stands g (n ∷ []) tree j l.node (leaf untried))
+      s.1 in subst (λ (j : ℕ). StandsOpen g (n ∷ []) tree j l.node)
       (let e : s.0 ≡ l.number = omega arith in e) s.2),
   (λ s. stand_listed g (n ∷ []) tree 0 l.number l (omega arith) s),
 )

@@ -20,6 +20,7 @@ use Rattle.tree_laws.proofs.UpLemmas.{IsOver, over_goes_up}
 use Rattle.part_rules.specs.Graft.{graft_at, claim_of_both}
 use Rattle.part_rules.specs.Part.{Part, start_of}
 use Rattle.part_rules.specs.Merge.{IsLeafOf, IsMerged}
+use Rattle.part_rules.specs.OpenLeaves.{StandsOpen}
 use Rattle.part_rules.specs.Several.{AreMerged}
 use Rattle.part_laws.specs.Order.{StartApart, OthersStayOpen, EitherOrder, AnyOrder, EachOrder}
 use Rattle.part_laws.proofs.GraftLemmas.{passes-graft}
@@ -38,7 +39,7 @@ abbrev HasForm : Problem → Node → Tree → Type 0
 HasForm p start tree = Pass (shape_of p) AnyLeaf (start ∷ []) tree
 
 abbrev IsOpenAt : Problem → Tree → ℕ → Node → Type 0
-IsOpenAt p tree k n = Stands (shape_of p) (first_node ∷ []) tree k n (leaf untried)
+IsOpenAt p tree k n = StandsOpen (shape_of p) (first_node ∷ []) tree k n
 
 record IsFormed (p : Problem) (part : Part) : Type 0 where
   whole : IsTree part.tree
@@ -59,11 +60,13 @@ one_place : (p : Problem) → IsValid p → (tree : Tree) → HasForm p first_no
 one_place p valid tree h n j k s r =
     let proper = proper_if_valid p valid in
     let apart : (u : ℕ) → n.inside u ≡ true → n.outside u ≡ true → ⊥
-    = stands_apart (shape_of p) proper AnyLeaf (first_node ∷ []) tree j n (leaf untried) h
-    ((λ u e o. absurd cc), tt) s in
+    = stands_apart (shape_of p) proper AnyLeaf (first_node ∷ []) tree j n (leaf (untried s.0)) h
+    ((λ u e o. absurd cc), tt) s.1 in
     let itself : IsOver n n = record { inside = λ u e. e; outside = λ u e. e } in
     leaves_apart (shape_of p) (IsOver n) (over_goes_up (shape_of p) proper n apart) AnyLeaf
-    (first_node ∷ []) tree j k n n untried untried h ((λ g none. none), tt) s itself r itself
+    (first_node ∷ []) tree j k n n (untried s.0) (untried r.0) h ((λ g none. none), tt) s.1 itself
+    r.1
+    itself
 
 -- ---- two parts
 
@@ -87,8 +90,11 @@ module _ (p : Problem) where
   behind tree [] k j n o lt w form s r = absurd w
   behind tree (x ∷ xs) k j n o lt w form s r = (
     length xs + j,
-    stands_behind (shape_of p) AnyLeaf (first_node ∷ []) tree k j (length xs + j) n o (leaf untried)
-        x xs lt refl w.1 form s r,
+    (
+      r.0,
+      stands_behind (shape_of p) AnyLeaf (first_node ∷ []) tree k j (length xs + j) n o
+          (leaf (untried r.0)) x xs lt refl w.1 form s r.1,
+    ),
     turns,
   )
     where
@@ -105,8 +111,9 @@ module _ (p : Problem) where
       → IsOpenAt p tree j o → ⊥
   not_same tree k j n o e apart s r =
       let there : IsOpenAt p tree j n = subst (λ (i : ℕ). IsOpenAt p tree i n) e s in
-      let free : End Leaf = leaf untried in
-      apart (one_node (shape_of p) (first_node ∷ []) tree j n o free free there r)
+      apart
+      (one_node (shape_of p) (first_node ∷ []) tree j n o (leaf (untried there.0))
+      (leaf (untried r.0)) there.1 r.1)
 
   stays_open : (tree part : Tree) (k j : ℕ) (n o : Node) → IsTree part → HasForm p n part
       → (n ≡ o → ⊥) → IsOpenAt p tree k n → IsOpenAt p tree j o

@@ -13,6 +13,7 @@ use Rattle.tree_rules.specs.Claim.{CostOver, Claim, network, infeasible, unknown
 use Rattle.tree_rules.specs.Leaf.{Leaf, untried, LeafPasses}
 use Rattle.tree_rules.specs.Accepted.{Tree}
 use Rattle.part_rules.specs.Graft.{grafted, graft_at, has_open, claim_of_both}
+use Rattle.part_rules.specs.OpenLeaves.{StandsOpen}
 use Rattle.part_laws.specs.Splices.{Splice, spliced, AllBelow, AllAbove, AreRising, IsPut, ArePut}
 use Rattle.part_laws.specs.Splices.{settled, cheapest}
 use Rattle.part_laws.proofs.ForestLemmas.{after_all-append, forest_below}
@@ -74,8 +75,7 @@ module _ (g : Shape) (P : Node → Leaf → Type 0) where
   pub stands_behind : (ns : List Node) (ts : Tree) (j k m : ℕ) (a n : Node) (e : End Leaf)
       (q : TreeNode Leaf) (qs : Tree) → j < k → m ≡ length qs + k → IsForest 1 (q ∷ qs)
       → Pass g P (a ∷ []) (q ∷ qs)
-      → Stands g ns ts j a (leaf untried) → Stands g ns ts k n e
-      → Stands g ns (graft_at j ts (q ∷ qs)) m n e
+      → StandsOpen g ns ts j a → Stands g ns ts k n e → Stands g ns (graft_at j ts (q ∷ qs)) m n e
   stands_behind [] ts j k m a n e q qs lt is f h at s = absurd s
   stands_behind (b ∷ bs) [] j k m a n e q qs lt is f h at s = absurd s
   stands_behind (b ∷ bs) (t ∷ ts) j zero m a n e q qs lt is f h at s = absurd (omega arith)
@@ -86,9 +86,9 @@ module _ (g : Shape) (P : Node → Leaf → Type 0) where
   stands_behind (b ∷ bs) (t ∷ ts) zero (suc k) (suc m) a n e q qs lt is f h at s =
       let c : Node = after_all g b t.steps in
       let behind : Stands g bs ts k n e =
-      subst (λ (end : End Leaf). Stands g (below g c end ++ bs) ts k n e) at.1 s in
+      subst (λ (end : End Leaf). Stands g (below g c end ++ bs) ts k n e) at.1.1 s in
       let passes : Pass g P (c ∷ []) (q ∷ qs) =
-      subst (λ (i : Node). Pass g P (i ∷ []) (q ∷ qs)) (sym at.0) h in
+      subst (λ (i : Node). Pass g P (i ∷ []) (q ∷ qs)) (sym at.1.0) h in
       let z : Node = after_all g c q.steps in
       let some : Pass g P (below g z q.end) qs =
       subst (λ (is : List Node). Pass g P is qs) (append-nil (below g z q.end)) passes.2 in
@@ -103,16 +103,16 @@ module _ (g : Shape) (P : Node → Leaf → Type 0) where
 
 module _ (p : Problem) (start : Node) (tree : Tree) where
   pub kept_by : (part : Tree) (ts : Tree) (k j : ℕ) (n : Node) → IsTree part → k < j
-      → Stands (shape_of p) (start ∷ []) ts k n (leaf untried)
-      → Stands (shape_of p) (start ∷ []) (graft_at j ts part) k n (leaf untried)
+      → StandsOpen (shape_of p) (start ∷ []) ts k n
+      → StandsOpen (shape_of p) (start ∷ []) (graft_at j ts part) k n
   kept_by [] ts k j n h lt s = absurd h
   kept_by (q ∷ qs) ts k j n h lt s =
-      stands_before (shape_of p) (start ∷ []) ts k j n (leaf untried) q qs lt s
+      (s.0, stands_before (shape_of p) (start ∷ []) ts k j n (leaf (untried s.0)) q qs lt s.1)
 
   -- a leaf before all parts keeps its place
   stands_kept : (k : ℕ) (n : Node) (ss : List Splice) → AllAbove k ss → ArePut p start tree ss
-      → Stands (shape_of p) (start ∷ []) tree k n (leaf untried)
-      → Stands (shape_of p) (start ∷ []) (spliced ss tree) k n (leaf untried)
+      → StandsOpen (shape_of p) (start ∷ []) tree k n
+      → StandsOpen (shape_of p) (start ∷ []) (spliced ss tree) k n
   stands_kept k n [] above put s = s
   stands_kept k n (h ∷ ss) above put s =
       kept_by h.part (spliced ss tree) k h.place n put.0.whole above.0
@@ -122,25 +122,26 @@ module _ (p : Problem) (start : Node) (tree : Tree) where
   pub record IsIn (front back : List Splice) (s : Splice) (n : Node) : Type 0 where
     pub place : ℕ
     pub later : s.place ≤ place
-    pub stands : Stands (shape_of p) (start ∷ []) (spliced (front ++ back) tree) place n
-        (leaf untried)
+    pub stands : StandsOpen (shape_of p) (start ∷ []) (spliced (front ++ back) tree) place n
     pub is : spliced (front ++ s ∷ back) tree ≡ graft_at place (spliced (front ++ back) tree) s.part
 
   one_before : (k : ℕ) (part new : Tree) (ts us : Tree) (place : ℕ) (a n : Node)
       (claimed : Option CostOver) → IsTree part → IsTree new
       → Pass (shape_of p) (LeafPasses true p claimed) (a ∷ []) part → k < place
-      → Stands (shape_of p) (start ∷ []) ts k a (leaf untried)
-      → Stands (shape_of p) (start ∷ []) ts place n (leaf untried) → us ≡ graft_at place ts new
-      → (m : ℕ) × (place ≤ m)
-      × Stands (shape_of p) (start ∷ []) (graft_at k ts part) m n (leaf untried)
+      → StandsOpen (shape_of p) (start ∷ []) ts k a
+      → StandsOpen (shape_of p) (start ∷ []) ts place n → us ≡ graft_at place ts new
+      → (m : ℕ) × (place ≤ m) × StandsOpen (shape_of p) (start ∷ []) (graft_at k ts part) m n
       × (graft_at k us part ≡ graft_at m (graft_at k ts part) new)
   one_before k [] new ts us place a n claimed h w q lt at s e = absurd h
   one_before k (r ∷ rs) [] ts us place a n claimed h w q lt at s e = absurd w
   one_before k (r ∷ rs) (v ∷ vs) ts us place a n claimed h w q lt at s e = (
     length rs + place,
     omega arith,
-    stands_behind (shape_of p) (LeafPasses true p claimed) (start ∷ []) ts k place
-        (length rs + place) a n (leaf untried) r rs lt refl h.1 q at s,
+    (
+      s.0,
+      stands_behind (shape_of p) (LeafPasses true p claimed) (start ∷ []) ts k place
+          (length rs + place) a n (leaf (untried s.0)) r rs lt refl h.1 q at s.1,
+    ),
     ap (λ (xs : Tree). graft_at k xs (r ∷ rs)) e
         ∙ grafts_turn k place (length rs + place) ts r rs v vs lt refl,
   )

@@ -3,11 +3,10 @@ use Rattle.std.specs.Prelude.{ℕ, List, [], ◌∷◌, ◌↔◌}
 use Rattle.problem_rules.specs.Problem.{Problem}
 use Rattle.pns_rules.specs.Shape.{Shape, shape_of}
 use Rattle.pns_rules.specs.Nodes.{Node}
-use Rattle.tree_rules.specs.Tree.{leaf, IsTree, Stands}
+use Rattle.tree_rules.specs.Tree.{IsTree}
 use Rattle.tree_rules.specs.Claim.{Claim}
-use Rattle.tree_rules.specs.Leaf.{untried}
 use Rattle.tree_rules.specs.Accepted.{Tree, IsPartial}
-use Rattle.part_rules.specs.OpenLeaves.{OpenAt, open_leaves, IsAmong}
+use Rattle.part_rules.specs.OpenLeaves.{OpenAt, open_leaves, IsAmong, StandsOpen}
 use Rattle.part_rules.specs.Graft.{graft_at, claim_of_both}
 
 -- ---- open leaves
@@ -16,8 +15,7 @@ use Rattle.part_rules.specs.Graft.{graft_at, claim_of_both}
 abbrev pub OpenLeavesStand : Type 0
 OpenLeavesStand =
     (g : Shape) (n : Node) (tree : Tree) (l : OpenAt)
-    → IsAmong l (open_leaves g (n ∷ []) tree 0)
-    ↔ Stands g (n ∷ []) tree l.number l.node (leaf untried)
+    → IsAmong l (open_leaves g (n ∷ []) tree 0) ↔ StandsOpen g (n ∷ []) tree l.number l.node
 
 -- ---- grafts
 
@@ -25,12 +23,11 @@ OpenLeavesStand =
 -- proves the claim of both but for its open leaves.
 abbrev pub GraftIsTree : Type 0
 GraftIsTree = (g : Shape) (ns : List Node) (k : ℕ) (n : Node) (tree part : Tree)
-    → Stands g ns tree k n (leaf untried) → IsTree tree → IsTree part
-    → IsTree (graft_at k tree part)
+    → StandsOpen g ns tree k n → IsTree tree → IsTree part → IsTree (graft_at k tree part)
 
 abbrev pub GraftIsPartial : Type 0
 GraftIsPartial =
     (p : Problem) (start n : Node) (claim other : Claim) (tree part : Tree) (k : ℕ)
     → IsTree tree → IsTree part → IsPartial p start claim tree → IsPartial p n other part
-    → Stands (shape_of p) (start ∷ []) tree k n (leaf untried)
+    → StandsOpen (shape_of p) (start ∷ []) tree k n
     → IsPartial p start (claim_of_both claim other (graft_at k tree part)) (graft_at k tree part)

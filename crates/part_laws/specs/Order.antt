@@ -6,10 +6,10 @@ use Rattle.problem_rules.specs.Problem.{Problem}
 use Rattle.problem_rules.specs.Validity.{IsValid}
 use Rattle.pns_rules.specs.Shape.{shape_of}
 use Rattle.pns_rules.specs.Nodes.{Node}
-use Rattle.tree_rules.specs.Tree.{leaf, IsTree, Stands}
+use Rattle.tree_rules.specs.Tree.{IsTree}
 use Rattle.tree_rules.specs.Claim.{Claim, network, infeasible, unknown}
-use Rattle.tree_rules.specs.Leaf.{untried}
 use Rattle.tree_rules.specs.Accepted.{Tree, first_node}
+use Rattle.part_rules.specs.OpenLeaves.{StandsOpen}
 use Rattle.part_rules.specs.Part.{Part, start_of}
 use Rattle.part_rules.specs.Merge.{IsLeafOf, IsMerged}
 use Rattle.part_rules.specs.Several.{AreMerged}
@@ -35,8 +35,8 @@ abbrev pub OthersStayOpen : Type 0
 OthersStayOpen =
     (p : Problem) (claim both : Claim) (tree whole : Tree) (part : Part) (k : ℕ) (n : Node)
     → IsTree part.tree → IsMerged p claim tree part both whole → (start_of part ≡ n → ⊥)
-    → Stands (shape_of p) (first_node ∷ []) tree k n (leaf untried)
-    → (m : ℕ) × Stands (shape_of p) (first_node ∷ []) whole m n (leaf untried)
+    → StandsOpen (shape_of p) (first_node ∷ []) tree k n
+    → (m : ℕ) × StandsOpen (shape_of p) (first_node ∷ []) whole m n
 
 -- two parts that start at different nodes, in either order
 abbrev pub EitherOrder : Type 0

@@ -4,11 +4,12 @@ use Rattle.std.specs.Prelude.{◌<◌, ℕ, true, List, [], ◌∷◌, Option, i
 use Rattle.problem_rules.specs.Problem.{Problem}
 use Rattle.pns_rules.specs.Shape.{shape_of}
 use Rattle.pns_rules.specs.Nodes.{Node}
-use Rattle.tree_rules.specs.Tree.{leaf, IsTree, Stands, Pass}
+use Rattle.tree_rules.specs.Tree.{IsTree, Pass}
 use Rattle.tree_rules.specs.Claim.{CostOver, Claim, network, infeasible, unknown}
-use Rattle.tree_rules.specs.Leaf.{untried, LeafPasses}
+use Rattle.tree_rules.specs.Leaf.{LeafPasses}
 use Rattle.tree_rules.specs.Accepted.{Tree}
 use Rattle.part_rules.specs.Graft.{graft_at, cheaper, has_open}
+use Rattle.part_rules.specs.OpenLeaves.{StandsOpen}
 
 -- the tree of a part, and the number of the leaf whose place it takes
 pub record Splice : Type 0 where
@@ -38,7 +39,7 @@ AreRising (s ∷ ss) = AllAbove s.place ss × AreRising ss
 pub record IsPut (p : Problem) (start : Node) (tree : Tree) (s : Splice) : Type 0 where
   pub node : Node
   pub claimed : Option CostOver
-  pub stands : Stands (shape_of p) (start ∷ []) tree s.place node (leaf untried)
+  pub stands : StandsOpen (shape_of p) (start ∷ []) tree s.place node
   pub whole : IsTree s.part
   pub passes : Pass (shape_of p) (LeafPasses true p claimed) (node ∷ []) s.part
 

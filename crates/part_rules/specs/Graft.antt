@@ -24,7 +24,7 @@ graft_at (suc k) (t ∷ ts) (root ∷ part) = t ∷ graft_at k ts (root ∷ part
 -- ---- the claim
 
 abbrev pub is_open : End Leaf → Bool
-is_open (leaf untried) = true
+is_open (leaf (untried low)) = true
 is_open end = false
 
 abbrev pub has_open : Tree → Bool

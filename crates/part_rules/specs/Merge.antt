@@ -3,12 +3,11 @@
 use Rattle.std.specs.Prelude.{◌≡◌, ℕ, true, [], ◌∷◌}
 use Rattle.problem_rules.specs.Problem.{Problem}
 use Rattle.pns_rules.specs.Shape.{shape_of}
-use Rattle.tree_rules.specs.Tree.{leaf, Stands}
-use Rattle.tree_rules.specs.Leaf.{untried}
 use Rattle.tree_rules.specs.Claim as rules
 use Rattle.tree_rules.specs.Accepted as trees
 use Rattle.tree_rules.specs.Accepted.{first_node, IsPartial}
 use Rattle.part_rules.specs.Graft.{graft_at, claim_of_both}
+use Rattle.part_rules.specs.OpenLeaves.{StandsOpen}
 use Rattle.tree_rules.specs.declared.refusal.Refusal.TheVariants as refusals
 use Rattle.tree_rules.specs.Refusals.{Refuses}
 use Rattle.part_rules.specs.declared.merge_fault.MergeFault.{MergeFault}
@@ -16,9 +15,9 @@ use Rattle.part_rules.specs.declared.merge_fault.MergeFault.TheVariants.{Tree, P
 use Rattle.part_rules.specs.Part as parts
 use Rattle.part_rules.specs.Part.{start_of}
 
--- leaf k of the tree is open, and its node is that of the part
+-- leaf k of the tree is open, with a bound or without, and its node is that of the part
 abbrev pub IsLeafOf : Problem → trees.Tree → parts.Part → ℕ → Type 0
-IsLeafOf p tree part k = Stands (shape_of p) (first_node ∷ []) tree k (start_of part) (leaf untried)
+IsLeafOf p tree part k = StandsOpen (shape_of p) (first_node ∷ []) tree k (start_of part)
 
 -- The tree is partial from the first node, and the part from its own. The part is put in the place
 -- of the one open leaf that has the part's node. The claim is that of both, and the result is

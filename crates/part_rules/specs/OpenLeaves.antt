@@ -1,9 +1,9 @@
--- The open leaves of a tree: a search in parts continues from them.
-use Rattle.std.specs.Prelude.{◌≡◌, ◌⊎◌, ℕ, ◌+◌, List, [], ◌∷◌, ◌++◌}
+-- The open leaves of a tree: where a search in parts goes on.
+use Rattle.std.specs.Prelude.{◌≡◌, ◌⊎◌, ℕ, ◌+◌, List, [], ◌∷◌, ◌++◌, Option}
 use Rattle.pns_rules.specs.Shape.{Shape}
 use Rattle.pns_rules.specs.Nodes.{Node}
-use Rattle.tree_rules.specs.Tree.{End, leaf, after_all, below}
-use Rattle.tree_rules.specs.Leaf.{Leaf, untried}
+use Rattle.tree_rules.specs.Tree.{End, leaf, after_all, below, Stands}
+use Rattle.tree_rules.specs.Leaf.{Leaf, Scaled, untried}
 use Rattle.tree_rules.specs.Accepted.{Tree}
 
 -- the number of an open leaf among all nodes in preorder, and the node after its steps
@@ -13,10 +13,18 @@ pub record OpenAt : Type 0 where
 
 -- the node, if it ends in an open leaf
 abbrev pub open_here : ℕ → Node → End Leaf → List OpenAt
-open_here k n (leaf untried) = record { number = k; node = n } ∷ []
+open_here k n (leaf (untried low)) = record { number = k; node = n } ∷ []
 open_here k n end = []
 
--- the open leaves in preorder of the subtrees of the nodes `ns`; the first node has the number k
+-- the end is that of an open leaf, with a bound or without
+abbrev pub IsOpenEnd : End Leaf → Type 0
+IsOpenEnd end = (low : Option Scaled) × (end ≡ leaf (untried low))
+
+-- of the subtrees of the nodes node k is an open leaf at this node of the search
+abbrev pub StandsOpen : Shape → List Node → Tree → ℕ → Node → Type 0
+StandsOpen g ns ts k n = (low : Option Scaled) × Stands g ns ts k n (leaf (untried low))
+
+-- of the subtrees of the nodes `ns` the open leaves in preorder, if the first node has number k
 abbrev pub open_leaves : Shape → List Node → Tree → ℕ → List OpenAt
 open_leaves g [] ts k = []
 open_leaves g (n ∷ ns) [] k = []

@@ -50,7 +50,8 @@ fn added_back(alloc: Global, parts: &Parts, k: u32, name: &String) -> Result<Edi
     requires outputs { AreTermsBelow (length parts.now.materials)
         (unit_at parts.now k).outputs }
     ensures { let u = unit_at parts.now k in IfOk result (λ e. edit_of e ≡
-        add_unit k (string_bytes name.now) u.lower u.upper u.fix u.proportional (named_terms parts.now u.inputs) (named_terms parts.now u.outputs)) }
+        add_unit k (string_bytes name.now) u.lower u.upper u.fix u.proportional
+        (named_terms parts.now u.inputs) (named_terms parts.now u.outputs)) }
 {
     let unit = &parts.units[k as usize];
     Ok(Edit::AddUnit {

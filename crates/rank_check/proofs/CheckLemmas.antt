@@ -1,15 +1,15 @@
 -- What the walk and the marks say of a ranking.
-use Rattle.std.proofs.Common.{◌≡◌, ℕ, ◌+◌, true, false, List, [], ◌∷◌, length, Result, Ok, Err}
-use Rattle.std.proofs.Common.{OnOk, IfErr, sym, subst, arith}
+use Rattle.std.proofs.Common.{◌≡◌, ℕ, ◌+◌, false, List, [], ◌∷◌, length, Result, Ok, Err, OnOk}
+use Rattle.std.proofs.Common.{IfErr, sym, subst, arith}
 use Rattle.std.proofs.lemmas.List.{append-nil}
 use Rattle.problem_rules.specs.Problem.{Problem}
 use Rattle.pns_rules.specs.Shape.{shape_of}
 use Rattle.tree_rules.specs.declared.why.Why.{Why}
 use Rattle.tree_rules.specs.Fault.{IsFirstFault}
 use Rattle.tree_rules.specs.Claim.{Network}
-use Rattle.tree_rules.specs.Leaf as leaves
 use Rattle.tree_rules.specs.Accepted.{first_node}
 use Rattle.part_rules.specs.OpenLeaves.{OpenAt, open_leaves}
+use Rattle.cert_check.specs.Bare.{BarePasses, BareFails}
 use Rattle.cert_check.specs.OpenLeaves.{AreThoseBefore}
 use Rattle.rank_rules.specs.declared.why.RankWhy.{RankWhy}
 use Rattle.rank_rules.specs.declared.why.RankWhy.TheVariants.{Plain}
@@ -35,9 +35,8 @@ module _ (p : Problem) (t : Text) where
 
   abbrev Stops : ℕ → Why → Type 0
   Stops k cause =
-      IsFirstFault (shape_of p) (leaves.LeafPasses true p (to_undercut t.count t.networks))
-      (leaves.LeafFails true p (to_undercut t.count t.networks)) (first_node ∷ []) t.tree k
-      cause
+      IsFirstFault (shape_of p) (BarePasses p (to_undercut t.count t.networks))
+      (BareFails p (to_undercut t.count t.networks)) (first_node ∷ []) t.tree k cause
 
   pub ranked : (found : List OpenAt) → ArePassing p [] t.networks → PlainPasses p t
       → found ≡ all_open → Passes found → IsRanked p (ranking_of t)

@@ -1,7 +1,8 @@
 -- A tree with open leaves, which are judged by their marks, passes or has its first fault as a
 -- ranked tree does.
 use Rattle.std.proofs.Common.{◌≡◌, ◌⊎◌, ℕ, zero, suc, ◌+◌, ◌<◌, ◌≤◌, true, false, List, [], ◌∷◌}
-use Rattle.std.proofs.Common.{◌++◌, length, Option, refl, sym, ap, ◌∙◌, subst, inl, inr, arith}
+use Rattle.std.proofs.Common.{◌++◌, length, Option, Some, None, refl, sym, ap, ◌∙◌, subst, inl, inr}
+use Rattle.std.proofs.Common.{arith}
 use Rattle.problem_rules.specs.Problem.{Problem}
 use Rattle.pns_rules.specs.Shape.{Shape, shape_of}
 use Rattle.pns_rules.specs.Nodes.{Node}
@@ -21,6 +22,7 @@ use Rattle.rank_rules.specs.declared.why.RankWhy.TheVariants.{Plain}
 use Rattle.rank_rules.specs.Leaf.{Leaf, plain, named, LeafPasses, LeafFails, IsTold}
 use Rattle.rank_rules.specs.Ranked.{IsToldAt}
 use Rattle.rank_rules.specs.Marked.{Mark, marked_leaf, first_mark, marked_end, marks_behind, marked}
+use Rattle.cert_check.specs.Bare.{BarePasses, BareFails}
 use Rattle.cert_check.specs.OpenLeaves.{AllBefore, NoneBefore}
 use Rattle.cert_check.proofs.TurnLemmas.{none_before}
 use Rattle.rank_check.specs.Marks.{MarksPass, IsFirstMark}
@@ -34,7 +36,8 @@ children_same ms (leaf (leaves.dead x)) = refl
 children_same ms (leaf (leaves.clash k)) = refl
 children_same ms (leaf (leaves.refuted ys)) = refl
 children_same ms (leaf (leaves.bounded d ys)) = refl
-children_same ms (leaf leaves.untried) = refl
+children_same ms (leaf (leaves.charged c)) = refl
+children_same ms (leaf (leaves.untried low)) = refl
 
 pub below_same : (g : Shape) (n : Node) (ms : List Mark) (e : End leaves.Leaf)
     → below g n (marked_end ms e) ≡ below g n e
@@ -43,7 +46,8 @@ below_same g n ms (leaf (leaves.dead x)) = refl
 below_same g n ms (leaf (leaves.clash k)) = refl
 below_same g n ms (leaf (leaves.refuted ys)) = refl
 below_same g n ms (leaf (leaves.bounded d ys)) = refl
-below_same g n ms (leaf leaves.untried) = refl
+below_same g n ms (leaf (leaves.charged c)) = refl
+below_same g n ms (leaf (leaves.untried low)) = refl
 
 skip_marked : (k : ℕ) (ms : List Mark) (ts : plain_trees.Tree) → (rest : List Mark)
     × (trees.skip k (marked ms ts) ≡ marked rest (trees.skip k ts))
@@ -89,10 +93,10 @@ first_before k ls found others l rest e is none all =
 
 module _ (p : Problem) (ws : List Network) (undercut : Option CostOver) where
   abbrev P : Node → leaves.Leaf → Type 0
-  P = leaves.LeafPasses true p undercut
+  P = BarePasses p undercut
 
   abbrev F : Node → leaves.Leaf → Why → Type 0
-  F = leaves.LeafFails true p undercut
+  F = BareFails p undercut
 
   abbrev P' : Node → Leaf → Type 0
   P' = LeafPasses false p ws undercut
@@ -107,7 +111,27 @@ module _ (p : Problem) (ws : List Network) (undercut : Option CostOver) where
   HerePasses ms n (leaf (leaves.clash k)) = Unit {0}
   HerePasses ms n (leaf (leaves.refuted ys)) = Unit {0}
   HerePasses ms n (leaf (leaves.bounded d ys)) = Unit {0}
-  HerePasses ms n (leaf leaves.untried) = P' n (marked_leaf (first_mark ms))
+  HerePasses ms n (leaf (leaves.charged c)) = Unit {0}
+  HerePasses ms n (leaf (leaves.untried low)) = P' n (marked_leaf None (first_mark ms))
+
+  -- whatever the bound of an open leaf is, its mark judges it
+  low_passes : (n : Node) (low : Option leaves.Scaled) (m : Mark)
+      → P' n (marked_leaf None m)
+      → P' n (marked_leaf low m)
+  low_passes n low None h = absurd (let no : false ≡ true = h.0 in cc)
+  low_passes n low (Some m) h = h
+
+  low_fails : (n : Node) (low : Option leaves.Scaled) (m : Mark) (why : Why)
+      → F' n (marked_leaf None m) why → F' n (marked_leaf low m) why
+  low_fails n low None why (inl h) = inl h
+  low_fails n low None why (inr h) = absurd (let no : false ≡ true = h.0 in cc)
+  low_fails n low (Some m) why h = h
+
+  low_told : (low : Option leaves.Scaled) (m : Mark) (cause : Why) (why : RankWhy)
+      → IsTold (leaf (marked_leaf None m)) cause why
+      → IsTold (leaf (marked_leaf low m)) cause why
+  low_told low None cause why h = h
+  low_told low (Some m) cause why h = h
 
   end_passes : (ms : List Mark) (n : Node) (e : End leaves.Leaf) (ts : plain_trees.Tree)
       → EndPasses (shape_of p) P n e ts → HerePasses ms n e
@@ -117,7 +141,9 @@ module _ (p : Problem) (ws : List Network) (undercut : Option CostOver) where
   end_passes ms n (leaf (leaves.clash k)) ts h here = h
   end_passes ms n (leaf (leaves.refuted ys)) ts h here = h
   end_passes ms n (leaf (leaves.bounded d ys)) ts h here = h
-  end_passes ms n (leaf leaves.untried) ts h here = here
+  end_passes ms n (leaf (leaves.charged c)) ts h here = h
+  end_passes ms n (leaf (leaves.untried low)) ts h here =
+      low_passes n low (first_mark ms) here
 
   -- an open leaf does not fail if leaves may be open
   end_fails : (ms : List Mark) (n : Node) (e : End leaves.Leaf) (ts : plain_trees.Tree) (why : Why)
@@ -135,8 +161,9 @@ module _ (p : Problem) (ws : List Network) (undercut : Option CostOver) where
   end_fails ms n (leaf (leaves.clash k)) ts why h = (h, refl)
   end_fails ms n (leaf (leaves.refuted ys)) ts why h = (h, refl)
   end_fails ms n (leaf (leaves.bounded d ys)) ts why h = (h, refl)
-  end_fails ms n (leaf leaves.untried) ts why (inl h) = absurd (h.1 refl)
-  end_fails ms n (leaf leaves.untried) ts why (inr h) = absurd h.1
+  end_fails ms n (leaf (leaves.charged c)) ts why h = (h, refl)
+  end_fails ms n (leaf (leaves.untried low)) ts why (inl h) = absurd (h.1 refl)
+  end_fails ms n (leaf (leaves.untried low)) ts why (inr h) = absurd h.1
 
   -- a step that fails has its own cause
   step_told : (e : End Leaf) (why : Why) → why ≡ causes.Step → IsTold e why (Plain why)
@@ -166,7 +193,8 @@ module _ (p : Problem) (ws : List Network) (undercut : Option CostOver) where
   here_and_rest ms i n (leaf (leaves.clash k)) ls h = (tt, h)
   here_and_rest ms i n (leaf (leaves.refuted ys)) ls h = (tt, h)
   here_and_rest ms i n (leaf (leaves.bounded d ys)) ls h = (tt, h)
-  here_and_rest ms i n (leaf leaves.untried) ls h = h
+  here_and_rest ms i n (leaf (leaves.charged c)) ls h = (tt, h)
+  here_and_rest ms i n (leaf (leaves.untried low)) ls h = h
 
   pub marked_passes : (ns : List Node) (ts : plain_trees.Tree) (ms : List Mark) (i : ℕ)
       → Pass (shape_of p) P ns ts → MarksPass P' (open_leaves (shape_of p) ns ts i) ms
@@ -197,7 +225,8 @@ module _ (p : Problem) (ws : List Network) (undercut : Option CostOver) where
   here_before i l n (leaf (leaves.clash x)) ls lt h = h
   here_before i l n (leaf (leaves.refuted ys)) ls lt h = h
   here_before i l n (leaf (leaves.bounded d ys)) ls lt h = h
-  here_before i l n (leaf leaves.untried) ls lt h = (lt, h)
+  here_before i l n (leaf (leaves.charged c)) ls lt h = h
+  here_before i l n (leaf (leaves.untried low)) ls lt h = (lt, h)
 
   -- the nodes of all open leaves are before the end of the list
   pub all_before : (ns : List Node) (ts : plain_trees.Tree) (i l : ℕ) → l ≡ i + length ts
@@ -231,14 +260,16 @@ module _ (p : Problem) (ws : List Network) (undercut : Option CostOver) where
       record { rest = found; is = refl; all = h }
   part i k n (leaf (leaves.bounded d ys)) ls found others lt h none =
       record { rest = found; is = refl; all = h }
-  part i k n (leaf leaves.untried) ls (l ∷ rest) others lt h none = record {
+  part i k n (leaf (leaves.charged c)) ls found others lt h none =
+      record { rest = found; is = refl; all = h }
+  part i k n (leaf (leaves.untried low)) ls (l ∷ rest) others lt h none = record {
     rest = rest;
     is =
         ap (λ (x : OpenAt). x ∷ rest)
         (sym (same_head (record { number = i; node = n }) l ls (rest ++ others) h));
     all = same_rest (record { number = i; node = n }) l ls (rest ++ others) h;
   }
-  part i k n (leaf leaves.untried) ls [] others lt h none =
+  part i k n (leaf (leaves.untried low)) ls [] others lt h none =
       let q : NoneBefore k (record { number = i; node = n } ∷ ls) =
       subst (λ (xs : List OpenAt). NoneBefore k xs) (sym h) none in
       let low : k ≤ i = q.0 in
@@ -332,8 +363,18 @@ module _ (p : Problem) (ws : List Network) (undercut : Option CostOver) where
   here_or_rest ms i k n (leaf (leaves.clash x)) ts ls why h = inr (tt, h)
   here_or_rest ms i k n (leaf (leaves.refuted ys)) ts ls why h = inr (tt, h)
   here_or_rest ms i k n (leaf (leaves.bounded d ys)) ts ls why h = inr (tt, h)
-  here_or_rest ms i k n (leaf leaves.untried) ts ls why (inl h) = inl (h.0, h.1)
-  here_or_rest ms i k n (leaf leaves.untried) ts ls why (inr h) = inr h
+  here_or_rest ms i k n (leaf (leaves.charged c)) ts ls why h = inr (tt, h)
+  here_or_rest ms i k n (leaf (leaves.untried low)) ts ls why (inl h) =
+      let f = h.1 in
+      inl (
+        h.0,
+        (
+          f.0,
+          low_fails n low (first_mark ms) f.0 f.1,
+          low_told low (first_mark ms) f.0 why f.2,
+        ),
+      )
+  here_or_rest ms i k n (leaf (leaves.untried low)) ts ls why (inr h) = inr h
 
   rest_before : (i l : ℕ) (n : Node) (e : End leaves.Leaf) (ls : List OpenAt)
       → AllBefore l (open_here i n e ++ ls) → AllBefore l ls
@@ -342,7 +383,8 @@ module _ (p : Problem) (ws : List Network) (undercut : Option CostOver) where
   rest_before i l n (leaf (leaves.clash x)) ls h = h
   rest_before i l n (leaf (leaves.refuted ys)) ls h = h
   rest_before i l n (leaf (leaves.bounded d ys)) ls h = h
-  rest_before i l n (leaf leaves.untried) ls h = h.1
+  rest_before i l n (leaf (leaves.charged c)) ls h = h
+  rest_before i l n (leaf (leaves.untried low)) ls h = h.1
 
   pub mark_fault : (ns : List Node) (ts : plain_trees.Tree) (ms : List Mark) (i j l k : ℕ)
       (why : RankWhy) (found others : List OpenAt)

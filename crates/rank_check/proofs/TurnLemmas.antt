@@ -1,8 +1,6 @@
 -- The open leaves in turn, each with the mark at its place.
-use Rattle.std.proofs.Common.{◌≡◌, ℕ, zero, suc, ◌+◌, ◌<◌, ◌≤◌, false, List, [], ◌∷◌, length}
-use Rattle.std.proofs.Common.{drop}
-use Rattle.std.proofs.Common.{map, get_or, Option, None, refl, sym, ap, ◌∙◌, subst, inl, inr}
-use Rattle.std.proofs.Common.{arith}
+use Rattle.std.proofs.Common.{◌≡◌, ℕ, zero, suc, ◌+◌, ◌<◌, ◌≤◌, false, List, [], ◌∷◌, length, drop}
+use Rattle.std.proofs.Common.{map, get_or, Option, None, refl, sym, ap, ◌∙◌, subst, inl, inr, arith}
 use Rattle.problem_rules.specs.Problem.{Problem}
 use Rattle.pns_rules.specs.Nodes.{Node}
 use Rattle.tree_rules.specs.declared.why.Why.TheVariants as causes
@@ -59,7 +57,7 @@ module _ (p : Problem) (ws : List Network) where
   pub marks_next : (ls : List OpenAt) (ms : List Mark) (i : ℕ) (l : OpenAt)
       → drop i ls ≡ l ∷ drop (i + 1) ls
       → ((undercut : Option CostOver)
-      → LeafPasses false p ws undercut l.node (marked_leaf (first_mark (drop i ms))))
+      → LeafPasses false p ws undercut l.node (marked_leaf None (first_mark (drop i ms))))
       → AreOn ls ms i → AreOn ls ms (i + 1)
   marks_next ls ms i l here h on =
       let others : other_marks (drop i ms) ≡ drop (i + 1) ms =

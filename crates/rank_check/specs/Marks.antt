@@ -1,6 +1,6 @@
 -- The open leaves of a tree, each judged by its mark. P says which leaves pass, F for which cause
 -- one fails.
-use Rattle.std.specs.Prelude.{◌≡◌, ◌⊎◌, ℕ, ℤ, pos, ◌≤ℤ◌, false, List, [], ◌∷◌, Option}
+use Rattle.std.specs.Prelude.{◌≡◌, ◌⊎◌, ℕ, ℤ, pos, ◌≤ℤ◌, false, List, [], ◌∷◌, Option, None}
 use Rattle.problem_rules.specs.Problem.{Problem}
 use Rattle.pns_rules.specs.Nodes.{Node}
 use Rattle.tree_rules.specs.declared.why.Why.{Why}
@@ -18,12 +18,13 @@ use Rattle.rank_rules.specs.Marked.{Mark, marked_leaf, first_mark, other_marks}
 -- each leaf passes as what its mark makes of it
 abbrev pub MarksPass : (Node → Leaf → Type 0) → List OpenAt → List Mark → Type 0
 MarksPass P [] ms = Unit {0}
-MarksPass P (l ∷ ls) ms = P l.node (marked_leaf (first_mark ms)) × MarksPass P ls (other_marks ms)
+MarksPass P (l ∷ ls) ms = P l.node (marked_leaf None (first_mark ms))
+    × MarksPass P ls (other_marks ms)
 
 -- a leaf fails for a cause, for which this one is given
 abbrev pub MarkFails : (Node → Leaf → Why → Type 0) → Node → Mark → RankWhy → Type 0
-MarkFails F n m why = (cause : Why) × F n (marked_leaf m) cause
-    × IsTold (leaf (marked_leaf m)) cause why
+MarkFails F n m why = (cause : Why) × F n (marked_leaf None m) cause
+    × IsTold (leaf (marked_leaf None m)) cause why
 
 -- a leaf that names the network that was found, or none, fails for a cause, for which this one is
 -- given
@@ -41,7 +42,8 @@ abbrev pub IsFirstMark : (Node → Leaf → Type 0) → (Node → Leaf → Why �
 IsFirstMark P F [] ms k why = ⊥
 IsFirstMark P F (l ∷ ls) ms k why =
     ((l.number ≡ k) × MarkFails F l.node (first_mark ms) why)
-    ⊎ (P l.node (marked_leaf (first_mark ms)) × IsFirstMark P F ls (other_marks ms) k why)
+    ⊎ (P l.node (marked_leaf None (first_mark ms))
+    × IsFirstMark P F ls (other_marks ms) k why)
 
 -- whatever cost is to be undercut, each leaf passes by its mark among the networks
 abbrev pub AllMarksPass : Problem → List Network → List OpenAt → List Mark → Type 0

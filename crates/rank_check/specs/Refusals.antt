@@ -1,13 +1,13 @@
 -- What a refusal says of a ranking. `Memory`, out of memory, says nothing. It is the only answer
 -- that may come instead of another.
-use Rattle.std.specs.Prelude.{◌≡◌, ◌⊎◌, ℕ, false, true, List, [], ◌∷◌, Result, Ok, Err}
+use Rattle.std.specs.Prelude.{◌≡◌, ◌⊎◌, ℕ, false, List, [], ◌∷◌, Result, Ok, Err}
 use Rattle.problem_rules.specs.Problem.{Problem}
 use Rattle.pns_rules.specs.Shape.{shape_of}
 use Rattle.tree_rules.specs.Tree.{Pass}
-use Rattle.tree_rules.specs.Leaf as leaves
 use Rattle.tree_rules.specs.Accepted.{first_node}
 use Rattle.part_rules.specs.OpenLeaves.{OpenAt}
 use Rattle.tree_rules.specs.declared.refusal.Refusal as plain
+use Rattle.cert_check.specs.Bare.{BarePasses, BareFails}
 use Rattle.cert_check.specs.Refusals.{NamesFault}
 use Rattle.rank_rules.specs.declared.why.RankWhy.{RankWhy}
 use Rattle.rank_rules.specs.Leaf.{LeafPasses, LeafFails}
@@ -18,17 +18,16 @@ use Rattle.rank_check.specs.Marks.{MarksPass, IsFirstMark}
 use Rattle.rank_check.specs.declared.refusal.RankRefusal.{RankRefusal}
 use Rattle.rank_check.specs.declared.refusal.RankRefusal.TheVariants.{Memory, Network, Node}
 
--- the tree passes if leaves may be open
+-- the tree passes, if leaves may be open, and their bounds are not judged
 abbrev pub PlainPasses : Problem → Text → Type 0
 PlainPasses p t =
-    Pass (shape_of p) (leaves.LeafPasses true p (to_undercut t.count t.networks)) (first_node ∷ [])
-    t.tree
+    Pass (shape_of p) (BarePasses p (to_undercut t.count t.networks)) (first_node ∷ []) t.tree
 
--- its first fault if leaves may be open
+-- its first fault, if leaves may be open, and their bounds are not judged
 abbrev pub NamesPlainFault : Problem → Text → plain.Refusal → Type 0
 NamesPlainFault p t refusal =
-    NamesFault (shape_of p) (leaves.LeafPasses true p (to_undercut t.count t.networks))
-    (leaves.LeafFails true p (to_undercut t.count t.networks))
+    NamesFault (shape_of p) (BarePasses p (to_undercut t.count t.networks))
+    (BareFails p (to_undercut t.count t.networks))
     (first_node ∷ []) t.tree refusal
 
 -- the open leaves pass by their marks, or the first that fails is that of node k

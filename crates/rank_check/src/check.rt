@@ -1,6 +1,5 @@
 //! Whole ranked trees.
-ghost use Rattle.std.specs.Prelude.{◌≡◌, ◌<◌, ◌^◌, [], ◌∷◌, ℕ, ℤ, false, Some, length, OnOk};
-ghost use Rattle.std.specs.Prelude.{IfOk};
+ghost use Rattle.std.specs.Prelude.{◌≡◌, ◌<◌, ◌^◌, [], ◌∷◌, ℕ, ℤ, false, Some, length, OnOk, IfOk};
 ghost use Rattle.std.specs.Prelude.{IfErr};
 ghost use Rattle.number_sets.specs.Sets.{has};
 ghost use Rattle.pns_rules.specs.Shape.{shape_of};
@@ -20,8 +19,7 @@ ghost use Rattle.rank_rules.specs.Text.{ranking_of};
 ghost use Rattle.rank_check.specs.declared.refusal.RankRefusal.TheVariants as refusals;
 ghost use Rattle.rank_check.specs.Others.{AllOthers};
 ghost use Rattle.rank_check.specs.Refusals.{PlainPasses, NamesPlainFault, OpenPass, OpenFails};
-ghost use Rattle.rank_check.specs.Refusals.{IsNodeAnswer, Refuses, IsOkOrMemory};
-ghost use Rattle.rank_check.specs.Refusals.{IsRefusalOrMemory};
+ghost use Rattle.rank_check.specs.Refusals.{IsNodeAnswer, Refuses, IsOkOrMemory, IsRefusalOrMemory};
 
 use crate::leaf::cost_of;
 use crate::marks::judge_marks;

@@ -1,5 +1,5 @@
 //! The open leaves of the tree, each judged by its mark.
-ghost use Rattle.std.specs.Prelude.{◌≡◌, [], false, map, drop, Option, OnOk, IfErr};
+ghost use Rattle.std.specs.Prelude.{◌≡◌, [], false, map, drop, Option, None, OnOk, IfErr};
 ghost use Rattle.tree_rules.specs.Claim as rules;
 ghost use Rattle.pgraph.specs.View.{node_of};
 ghost use Rattle.cert_check.specs.OpenLeaves.{leaves_at};
@@ -29,7 +29,7 @@ fn judge_mark(
     ensures passes { OnOk result
         ((undercut : Option rules.CostOver)
         → LeafPasses false site.now networks.now undercut (node_of node.now)
-        (marked_leaf (mark_of mark.now))) }
+        (marked_leaf None (mark_of mark.now))) }
     ensures fails { IfErr result
         (λ why. (undercut : Option rules.CostOver)
         → MarkFails (LeafFails false site.now networks.now undercut) (node_of node.now)
@@ -55,7 +55,7 @@ fn judge_mark_at(
     ensures passes { OnOk result
         ((undercut : Option rules.CostOver)
         → LeafPasses false site.now networks.now undercut (node_of node.now)
-        (marked_leaf (first_mark (drop at (map mark_of marks.now))))) }
+        (marked_leaf None (first_mark (drop at (map mark_of marks.now))))) }
     ensures fails { IfErr result
         (λ why. (undercut : Option rules.CostOver)
         → MarkFails (LeafFails false site.now networks.now undercut) (node_of node.now)

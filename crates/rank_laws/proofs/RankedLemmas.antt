@@ -81,7 +81,7 @@ module _ (p : Problem) (valid : IsValid p) (r : Ranking) (ranked : IsRanked p r)
       → InFamily (shape_of p) n.inside n.outside s → CostsEnough p undercut s
   plain_holds undercut has_scale n l h s f =
       elim (leaf_holds p valid false undercut has_scale n l h s f) [
-        | inl e ↦ absurd cc
+        | inl e ↦ absurd (let no : false ≡ true = e.1 in cc)
         | inr k ↦ k
       ]
 

@@ -13,7 +13,7 @@ use Rattle.tree_rules.specs.Fault.{Fails}
 use Rattle.tree_rules.specs.Tree.{End, branch, leaf}
 use Rattle.tree_rules.specs.Claim.{Network, CostOver}
 use Rattle.tree_rules.specs.Leaf as leaves
-use Rattle.tree_rules.specs.Leaf.{IsOneEach, IsFormed, Reaches, IsBounded, untried}
+use Rattle.tree_rules.specs.Leaf.{Scaled, IsOneEach, IsFormed, Reaches, IsBounded, untried}
 use Rattle.rank_rules.specs.declared.why.RankWhy.{RankWhy}
 use Rattle.rank_rules.specs.declared.why.RankWhy.TheVariants.{Plain, Named}
 use Rattle.rank_rules.specs.Networks.{cost_of, numbered}
@@ -63,6 +63,6 @@ IsTold (leaf (plain l)) cause why = why ≡ Plain cause
 IsTold (leaf (named k d ys)) cause why =
     ((cause ≡ Bound) × (why ≡ Named)) ⊎ ((cause ≡ Bound → ⊥) × (why ≡ Plain cause))
 
--- an open leaf of a ranked tree
+-- an open leaf of a ranked tree, with a bound or without
 abbrev pub IsOpenLeaf : Leaf → Type 0
-IsOpenLeaf l = l ≡ plain untried
+IsOpenLeaf l = (low : Option Scaled) × (l ≡ plain (untried low))

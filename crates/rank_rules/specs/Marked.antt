@@ -18,9 +18,10 @@ pub record Name : Type 0 where
 abbrev pub Mark : Type 0
 Mark = Option Name
 
-abbrev pub marked_leaf : Mark → ranks.Leaf
-marked_leaf None = ranks.plain leaves.untried
-marked_leaf (Some m) = ranks.named m.network m.d m.ys
+-- the leaf that an open one with this bound stands for
+abbrev pub marked_leaf : Option leaves.Scaled → Mark → ranks.Leaf
+marked_leaf low None = ranks.plain (leaves.untried low)
+marked_leaf low (Some m) = ranks.named m.network m.d m.ys
 
 abbrev pub first_mark : List Mark → Mark
 first_mark [] = None
@@ -37,7 +38,8 @@ marked_end ms (trees.leaf (leaves.dead x)) = trees.leaf (ranks.plain (leaves.dea
 marked_end ms (trees.leaf (leaves.clash k)) = trees.leaf (ranks.plain (leaves.clash k))
 marked_end ms (trees.leaf (leaves.refuted ys)) = trees.leaf (ranks.plain (leaves.refuted ys))
 marked_end ms (trees.leaf (leaves.bounded d ys)) = trees.leaf (ranks.plain (leaves.bounded d ys))
-marked_end ms (trees.leaf leaves.untried) = trees.leaf (marked_leaf (first_mark ms))
+marked_end ms (trees.leaf (leaves.charged h)) = trees.leaf (ranks.plain (leaves.charged h))
+marked_end ms (trees.leaf (leaves.untried low)) = trees.leaf (marked_leaf low (first_mark ms))
 
 -- the marks of the open leaves after the end
 abbrev pub marks_behind : List Mark → trees.End leaves.Leaf → List Mark
@@ -46,7 +48,8 @@ marks_behind ms (trees.leaf (leaves.dead x)) = ms
 marks_behind ms (trees.leaf (leaves.clash k)) = ms
 marks_behind ms (trees.leaf (leaves.refuted ys)) = ms
 marks_behind ms (trees.leaf (leaves.bounded d ys)) = ms
-marks_behind ms (trees.leaf leaves.untried) = other_marks ms
+marks_behind ms (trees.leaf (leaves.charged h)) = ms
+marks_behind ms (trees.leaf (leaves.untried low)) = other_marks ms
 
 abbrev pub marked_node : List Mark → trees.TreeNode leaves.Leaf → trees.TreeNode ranks.Leaf
 marked_node ms t = record { option = t.option; steps = t.steps; end = marked_end ms t.end }

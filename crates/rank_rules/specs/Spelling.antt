@@ -1,7 +1,7 @@
 -- The one text of a ranking, as lines of tokens: how many networks were asked for, how many are
 -- there, and three lines for each. Then come the lines of a tree text that follow its claim, in
 -- which the end of a leaf that names a network is a line of its own.
-use Rattle.std.specs.Prelude.{ℕ, List, [], ◌∷◌, ◌++◌, length, map, flat_map, codes, decimal}
+use Rattle.std.specs.Prelude.{ℕ, ℤ, List, [], ◌∷◌, ◌++◌, length, map, flat_map, codes, decimal}
 use Rattle.std.specs.Fmt.{signed_decimal}
 use Rattle.problem_rules.specs.Problem.{Problem}
 use Rattle.tree_rules.specs.Tree.{TreeNode, End, branch, leaf}
@@ -26,13 +26,17 @@ networks_word = codes "networks"
 abbrev pub named_word : Token
 named_word = codes "named"
 
-abbrev pub end_line : Problem → End Leaf → List Token
-end_line p (branch w) = trees.end_line p (branch w)
-end_line p (leaf (plain l)) = trees.end_line p (leaf l)
-end_line p (leaf (named k d ys)) = named_word ∷ decimal k ∷ signed_decimal d ∷ map signed_decimal ys
+abbrev pub named_line : ℕ → ℤ → List ℤ → List Token
+named_line k d ys = named_word ∷ decimal k ∷ signed_decimal d ∷ map signed_decimal ys
+
+-- the line of an end, and after it those of its sets
+abbrev pub end_with_sets : Problem → End Leaf → List (List Token)
+end_with_sets p (branch w) = trees.end_with_sets p (branch w)
+end_with_sets p (leaf (plain l)) = trees.end_with_sets p (leaf l)
+end_with_sets p (leaf (named k d ys)) = named_line k d ys ∷ []
 
 abbrev pub node_lines : Problem → TreeNode Leaf → List (List Token)
-node_lines p t = trees.head_lines p t.option t.steps ++ end_line p t.end ∷ []
+node_lines p t = trees.head_lines p t.option t.steps ++ end_with_sets p t.end
 
 abbrev pub tree_lines : Problem → Tree → List (List Token)
 tree_lines p tree = flat_map (node_lines p) tree

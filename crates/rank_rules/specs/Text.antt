@@ -1,11 +1,13 @@
 -- What a text says of a ranking: the counts, the networks, the tree with its marks, and how the
 -- search ended.
-use Rattle.std.specs.Prelude.{ℕ, ◌≤◌, List, [], ◌∷◌, length, Some, None}
+use Rattle.std.specs.Prelude.{◌≡◌, ℕ, ◌≤◌, List, [], ◌∷◌, length, Some, None}
+use Rattle.tree_rules.specs.Tree as trees
+use Rattle.tree_rules.specs.Leaf as leaves
 use Rattle.tree_rules.specs.Claim.{Network}
 use Rattle.tree_rules.specs.Accepted.{Tree}
 use Rattle.rank_rules.specs.Ranked.{Ranking}
 use Rattle.tree_rules.specs.Tail.{Tail}
-use Rattle.rank_rules.specs.Marked.{Mark, marked}
+use Rattle.rank_rules.specs.Marked.{Mark, marked, first_mark, marks_behind}
 
 pub record Text : Type 0 where
   pub count : ℕ
@@ -24,8 +26,26 @@ AreNumbered [] = Unit {0}
 AreNumbered (None ∷ ms) = AreNumbered ms
 AreNumbered (Some m ∷ ms) = (1 ≤ m.network) × AreNumbered ms
 
--- at least one network is asked for, and no more than that are there
-pub record IsCounted (count : ℕ) (networks : List Network) (marks : List Mark) : Type 0 where
+-- a leaf with a bound of its own is open, and names no network
+abbrev pub IsBareAt : Mark → trees.End leaves.Leaf → Type 0
+IsBareAt m (trees.branch w) = Unit {0}
+IsBareAt m (trees.leaf (leaves.dead x)) = Unit {0}
+IsBareAt m (trees.leaf (leaves.clash k)) = Unit {0}
+IsBareAt m (trees.leaf (leaves.refuted ys)) = Unit {0}
+IsBareAt m (trees.leaf (leaves.bounded d ys)) = Unit {0}
+IsBareAt m (trees.leaf (leaves.charged h)) = Unit {0}
+IsBareAt m (trees.leaf (leaves.untried None)) = Unit {0}
+IsBareAt m (trees.leaf (leaves.untried (Some low))) = m ≡ None
+
+abbrev pub AreBare : List Mark → Tree → Type 0
+AreBare ms [] = Unit {0}
+AreBare ms (t ∷ ts) = IsBareAt (first_mark ms) t.end × AreBare (marks_behind ms t.end) ts
+
+-- at least one network is asked for, and no more than that are there; and a leaf that names one has
+-- no bound of its own
+pub record IsCounted (count : ℕ) (networks : List Network) (tree : Tree) (marks : List Mark)
+    : Type 0 where
   pub asked : 1 ≤ count
   pub within : length networks ≤ count
   pub numbered : AreNumbered marks
+  pub bare : AreBare marks tree

@@ -15,10 +15,11 @@ use Rattle.tree_rules.specs.Tree.{End, leaf}
 use Rattle.tree_rules.specs.Claim.{Network, CostOver}
 use Rattle.tree_rules.specs.Leaf.{Leaf, bounded, untried, IsBounded}
 use Rattle.rank_rules.specs.Networks.{cost_of, last_cost}
+use Rattle.search_tree.specs.Growth.{EndsOpen}
 use Rattle.search_tree.specs.Cells.{Cell, no_cell, place_of, cell_at}
 use Rattle.tree_rules.specs.Costs.{HasFallen}
 use Rattle.turn_laws.proofs.GrowLemmas.{leaf_fallen}
-use Rattle.node_evaluation.specs.Looks.{is_bounded, IsFoundAt}
+use Rattle.node_evaluation.specs.Looks.{is_bounded, is_charged, IsFoundAt}
 use Rattle.node_evaluation.specs.Children.{IsSolvedAs, IsSolvedBy, AreSolvedBy}
 use Rattle.rank_search.specs.Found.{FoundAt, networks_of, IsOfLeaf, AreApart, AreRising}
 use Rattle.rank_search.specs.Found.{IsFoundThere, IsListedOrBeaten, AreBest}
@@ -207,9 +208,21 @@ module _ (p : Problem) (cells : List Cell) (c : Cell) where
   each_there (f ∷ fs) h = (there_more f h.0, each_there fs h.1)
 
   -- ---- nothing is found there
-  unsolved : (count : ℕ) (fs : List FoundAt) → is_bounded c.end ≡ false → AreBest p count cells fs
-      → AreBest p count more fs
-  unsolved count fs none b = record {
+  -- nor is a node charged
+  uncharged_more : ((j : ℕ) → j < length cells → is_charged (cell_at cells j).end ≡ false)
+      → is_charged c.end ≡ false → (j : ℕ) → j < length more
+      → is_charged (cell_at more j).end ≡ false
+  uncharged_more h none j lt = elim (cases_eq j (length cells)) [
+    | inl same ↦ ap (λ i. is_charged (cell_at more i).end) same
+        ∙ (ap (λ (k : Cell). is_charged k.end) last_is ∙ none)
+    | inr ne ↦
+        let less : j < length cells = let n = longer in omega (arith, lt, n, ne) in
+        ap (λ (k : Cell). is_charged k.end) (before j less) ∙ h j less
+  ]
+
+  unsolved : (count : ℕ) (fs : List FoundAt) → is_bounded c.end ≡ false → is_charged c.end ≡ false
+      → AreBest p count cells fs → AreBest p count more fs
+  unsolved count fs none uncharged b = record {
     there = λ k f e. there_more f (b.there k f e);
     apart = b.apart;
     rising = b.rising;
@@ -226,6 +239,7 @@ module _ (p : Problem) (cells : List Cell) (c : Cell) where
           ⊎ ((length fs ≡ count) × IsBounded p (last_cost (networks_of fs)) (place_of k) d ys))
           (sym (before j less)) (b.leaves j less)
     ];
+    uncharged = uncharged_more b.uncharged uncharged;
   }
 
   -- ---- a network is found there
@@ -364,6 +378,7 @@ module _ (p : Problem) (cells : List Cell) (c : Cell) where
             (subst (λ i. IsOfLeaf i all) (sym same) (of_leaf_here a.before a.after found))
         | inr ne ↦ old_leaf j (let n = longer in omega (arith, lt, n, ne))
       ];
+      uncharged = uncharged_more b.uncharged (ap (λ (e : End Leaf). is_charged e) solved.end_is);
     }
 
   one_more : (w : Option Network) (l m : Listed) → IsListed l → AreBest p l.count cells l.found
@@ -371,7 +386,7 @@ module _ (p : Problem) (cells : List Cell) (c : Cell) where
   one_more None l m listed b s e = record {
     best =
         subst (λ (k : Listed). AreBest p k.count more k.found) (sym e)
-        (unsolved l.count l.found s b);
+        (unsolved l.count l.found s.0 s.1 b);
     listed = subst IsListed (sym e) listed;
     count_is = ap (λ (k : Listed). k.count) e;
   }
@@ -431,21 +446,22 @@ no_cells p count = record {
   rising = tt;
   few = omega arith;
   leaves = λ j lt. absurd (omega (arith, lt));
+  uncharged = λ j lt. absurd (omega (arith, lt));
 }
 
 -- ---- an open leaf is branched
 
 pub as_branch : (p : Problem) (count : ℕ) (cells : List Cell) (fs : List FoundAt) (at : ℕ)
-    (now : Cell) → AreBest p count cells fs → at < length cells
-    → (cell_at cells at).end ≡ leaf untried
-    → is_bounded now.end ≡ false → AreBest p count (slice_set cells at now) fs
-as_branch p count cells fs at now b there was_open none = record {
+    (now : Cell) → AreBest p count cells fs → at < length cells → EndsOpen (cell_at cells at).end
+    → is_bounded now.end ≡ false → is_charged now.end ≡ false
+    → AreBest p count (slice_set cells at now) fs
+as_branch p count cells fs at now b there was_open none uncharged = record {
   there = λ k f e.
       let h = b.there k f e in
       let same =
       get_or-set_other cells at f.leaf now no_cell
-      (λ (q : f.leaf ≡ at). let r : leaf (bounded h.d h.ys) ≡ leaf untried =
-      sym h.end_is ∙ (ap (λ i. (cell_at cells i).end) q ∙ was_open) in cc) in
+      (λ (q : f.leaf ≡ at). let r : leaf (bounded h.d h.ys) ≡ leaf (untried was_open.0) =
+      sym h.end_is ∙ (ap (λ i. (cell_at cells i).end) q ∙ was_open.1) in cc) in
       record {
         there = let a = h.there in let n = length-set cells at now in omega (arith, a, n);
         d = h.d;
@@ -471,5 +487,13 @@ as_branch p count cells fs at now b there was_open none = record {
         ⊎ ((length fs ≡ count) × IsBounded p (last_cost (networks_of fs)) (place_of c) d ys))
         (sym (get_or-set_other cells at j now no_cell ne))
         (b.leaves j (let n = length-set cells at now in omega (arith, lt, n)))
+  ];
+  uncharged = λ j lt. elim (cases_eq j at) [
+    | inl same ↦ ap (λ i. is_charged (cell_at (slice_set cells at now) i).end) same
+        ∙ (ap (λ (c : Cell). is_charged c.end) (get_or-set_same cells at now no_cell there)
+        ∙ uncharged)
+    | inr ne ↦
+        ap (λ (c : Cell). is_charged c.end) (get_or-set_other cells at j now no_cell ne)
+        ∙ b.uncharged j (let n = length-set cells at now in omega (arith, lt, n))
   ];
 }

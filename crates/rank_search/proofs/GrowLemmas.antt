@@ -173,7 +173,7 @@ module _ (Past : PastPlaces) (p : Problem) (valid : IsValid p) (budget : ℕ) (s
         l.found at (as_parent (cell_at s.pool.payloads at) (length s.pool.payloads)
         (branch (way_of m))) r.best
         (there p valid s g at is_leaf same_parents below)
-        (untried_there p valid s g at is_leaf same_parents below) refl
+        (untried_there p valid s g at is_leaf same_parents below) refl refl
 
     best_now : AreBestNow p
         (slice_set

@@ -7,15 +7,15 @@ use Rattle.problem_rules.specs.Each.{Each}
 use Rattle.problem_rules.specs.Problem.{Problem}
 use Rattle.tree_rules.specs.Tree.{End, branch, leaf, TreeNode, children, HasChildren, IsForest}
 use Rattle.tree_rules.specs.Tree.{IsTree}
-use Rattle.tree_rules.specs.Leaf.{Leaf, dead, clash, refuted, bounded, untried}
+use Rattle.tree_rules.specs.Leaf.{Leaf, dead, clash, refuted, bounded, charged, untried}
 use Rattle.tree_rules.specs.Accepted.{Tree}
 use Rattle.rank_rules.specs.Leaf as ranks
 use Rattle.rank_rules.specs.Ranked as ranked
 use Rattle.tree_rules.specs.Known.{KnowsEnd, KnowsTree}
-use Rattle.rank_rules.specs.Marked.{Mark, marked, marked_end, marks_behind}
+use Rattle.rank_rules.specs.Marked.{Mark, marked, marked_end, first_mark, marks_behind}
 use Rattle.ranked_tree.specs.declared.mark.Mark as code
 use Rattle.ranked_tree.specs.View.{mark_of}
-use Rattle.rank_rules.specs.Text.{AreNumbered}
+use Rattle.rank_rules.specs.Text.{AreNumbered, IsBareAt, AreBare}
 use Rattle.search_tree.specs.Preorder.{told_end}
 use Rattle.rank_search.specs.Naming.{Names, opened_end, opened_node, opened, marks_at, marks_in}
 use Rattle.rank_search.specs.Naming.{marks_of}
@@ -29,7 +29,8 @@ named_leaf (Some k) (dead x) = ranks.plain (dead x)
 named_leaf (Some k) (clash x) = ranks.plain (clash x)
 named_leaf (Some k) (refuted ys) = ranks.plain (refuted ys)
 named_leaf (Some k) (bounded d ys) = ranks.named k d ys
-named_leaf (Some k) untried = ranks.plain untried
+named_leaf (Some k) (charged c) = ranks.plain (charged c)
+named_leaf (Some k) (untried low) = ranks.plain (untried low)
 
 abbrev pub named_node : Option ℕ → TreeNode Leaf → TreeNode ranks.Leaf
 named_node n t = record { option = t.option; steps = t.steps; end = told_end (named_leaf n) t.end }
@@ -46,13 +47,15 @@ marked_one None (leaf (dead x)) ms = refl
 marked_one None (leaf (clash x)) ms = refl
 marked_one None (leaf (refuted ys)) ms = refl
 marked_one None (leaf (bounded d ys)) ms = refl
-marked_one None (leaf untried) ms = refl
+marked_one None (leaf (charged c)) ms = refl
+marked_one None (leaf (untried low)) ms = refl
 marked_one (Some k) (branch w) ms = refl
 marked_one (Some k) (leaf (dead x)) ms = refl
 marked_one (Some k) (leaf (clash x)) ms = refl
 marked_one (Some k) (leaf (refuted ys)) ms = refl
 marked_one (Some k) (leaf (bounded d ys)) ms = refl
-marked_one (Some k) (leaf untried) ms = refl
+marked_one (Some k) (leaf (charged c)) ms = refl
+marked_one (Some k) (leaf (untried low)) ms = refl
 
 behind_one : (n : Option ℕ) (e : End Leaf) (ms : List Mark)
     → marks_behind (marks_at n e ++ ms) (opened_end n e) ≡ ms
@@ -61,13 +64,15 @@ behind_one None (leaf (dead x)) ms = refl
 behind_one None (leaf (clash x)) ms = refl
 behind_one None (leaf (refuted ys)) ms = refl
 behind_one None (leaf (bounded d ys)) ms = refl
-behind_one None (leaf untried) ms = refl
+behind_one None (leaf (charged c)) ms = refl
+behind_one None (leaf (untried low)) ms = refl
 behind_one (Some k) (branch w) ms = refl
 behind_one (Some k) (leaf (dead x)) ms = refl
 behind_one (Some k) (leaf (clash x)) ms = refl
 behind_one (Some k) (leaf (refuted ys)) ms = refl
 behind_one (Some k) (leaf (bounded d ys)) ms = refl
-behind_one (Some k) (leaf untried) ms = refl
+behind_one (Some k) (leaf (charged c)) ms = refl
+behind_one (Some k) (leaf (untried low)) ms = refl
 
 pub marked_is : (ns : Names) (ts : Tree) → length ns ≡ length ts
     → marked (marks_in ns ts) (opened ns ts) ≡ named_tree ns ts
@@ -90,7 +95,8 @@ same_children (Some k) (leaf (dead x)) = refl
 same_children (Some k) (leaf (clash x)) = refl
 same_children (Some k) (leaf (refuted ys)) = refl
 same_children (Some k) (leaf (bounded d ys)) = refl
-same_children (Some k) (leaf untried) = refl
+same_children (Some k) (leaf (charged c)) = refl
+same_children (Some k) (leaf (untried low)) = refl
 
 has_same : (n : Option ℕ) (e : End Leaf) → HasChildren e → HasChildren (opened_end n e)
 has_same None e h = h
@@ -99,7 +105,8 @@ has_same (Some k) (leaf (dead x)) h = tt
 has_same (Some k) (leaf (clash x)) h = tt
 has_same (Some k) (leaf (refuted ys)) h = tt
 has_same (Some k) (leaf (bounded d ys)) h = tt
-has_same (Some k) (leaf untried) h = tt
+has_same (Some k) (leaf (charged c)) h = tt
+has_same (Some k) (leaf (untried low)) h = tt
 
 opened_forest : (k : ℕ) (ns : Names) (ts : Tree) → IsForest k ts → IsForest k (opened ns ts)
 opened_forest k [] ts h = h
@@ -130,7 +137,8 @@ knows_opened p (Some k) (leaf (dead x)) h = h
 knows_opened p (Some k) (leaf (clash x)) h = h
 knows_opened p (Some k) (leaf (refuted ys)) h = h
 knows_opened p (Some k) (leaf (bounded d ys)) h = tt
-knows_opened p (Some k) (leaf untried) h = h
+knows_opened p (Some k) (leaf (charged c)) h = h
+knows_opened p (Some k) (leaf (untried low)) h = h
 
 pub opened_known : (p : Problem) (ns : Names) (ts : Tree) → KnowsTree p ts
     → KnowsTree p (opened ns ts)
@@ -150,19 +158,53 @@ numbered_with None (leaf (dead x)) ms c h = h
 numbered_with None (leaf (clash x)) ms c h = h
 numbered_with None (leaf (refuted ys)) ms c h = h
 numbered_with None (leaf (bounded d ys)) ms c h = h
-numbered_with None (leaf untried) ms c h = h
+numbered_with None (leaf (charged c)) ms d h = h
+numbered_with None (leaf (untried low)) ms c h = h
 numbered_with (Some k) (branch w) ms c h = h
 numbered_with (Some k) (leaf (dead x)) ms c h = h
 numbered_with (Some k) (leaf (clash x)) ms c h = h
 numbered_with (Some k) (leaf (refuted ys)) ms c h = h
 numbered_with (Some k) (leaf (bounded d ys)) ms c h = (c, h)
-numbered_with (Some k) (leaf untried) ms c h = h
+numbered_with (Some k) (leaf (charged c)) ms d h = h
+numbered_with (Some k) (leaf (untried low)) ms c h = h
 
 pub marks_numbered : (ns : Names) (ts : Tree) → Each IsCountedName ns → AreNumbered (marks_in ns ts)
 marks_numbered [] ts h = tt
 marks_numbered (n ∷ ns) [] h = tt
 marks_numbered (n ∷ ns) (t ∷ ts) h =
     numbered_with n t.end (marks_in ns ts) h.0 (marks_numbered ns ts h.1)
+
+-- ---- a leaf that names a network has no bound of its own
+
+bare_with : (n : Option ℕ) (e : End Leaf) (ms : List Mark)
+    → IsBareAt (first_mark (marks_at n e ++ ms)) (opened_end n e)
+bare_with None (branch w) ms = tt
+bare_with None (leaf (dead x)) ms = tt
+bare_with None (leaf (clash x)) ms = tt
+bare_with None (leaf (refuted ys)) ms = tt
+bare_with None (leaf (bounded d ys)) ms = tt
+bare_with None (leaf (charged c)) ms = tt
+bare_with None (leaf (untried None)) ms = tt
+bare_with None (leaf (untried (Some low))) ms = refl
+bare_with (Some k) (branch w) ms = tt
+bare_with (Some k) (leaf (dead x)) ms = tt
+bare_with (Some k) (leaf (clash x)) ms = tt
+bare_with (Some k) (leaf (refuted ys)) ms = tt
+bare_with (Some k) (leaf (bounded d ys)) ms = tt
+bare_with (Some k) (leaf (charged c)) ms = tt
+bare_with (Some k) (leaf (untried None)) ms = tt
+bare_with (Some k) (leaf (untried (Some low))) ms = refl
+
+pub marks_bare : (ns : Names) (ts : Tree) → length ns ≡ length ts
+    → AreBare (marks_in ns ts) (opened ns ts)
+marks_bare [] [] l = tt
+marks_bare [] (t ∷ ts) l = absurd (omega (arith, l))
+marks_bare (n ∷ ns) [] l = absurd (omega (arith, l))
+marks_bare (n ∷ ns) (t ∷ ts) l = (
+  bare_with n t.end (marks_in ns ts),
+  subst (λ (ms : List Mark). AreBare ms (opened ns ts)) (sym (behind_one n t.end (marks_in ns ts)))
+      (marks_bare ns ts (omega (arith, l))),
+)
 
 -- ---- node after node
 

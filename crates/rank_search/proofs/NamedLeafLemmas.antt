@@ -2,7 +2,7 @@
 -- one, if it is bounded, is bounded by the last network.
 use Rattle.std.proofs.Common.{◌≡◌, ℕ, zero, suc, ◌+◌, ◌<◌, ℤ, Bool, true, false, cond, List, []}
 use Rattle.std.proofs.Common.{◌∷◌, length, Option, Some, None, refl, sym, ap, ◌∙◌, subst, arith}
-use Rattle.std.proofs.Common.{inl, inr, eq-eqb}
+use Rattle.std.proofs.Common.{inl, inr, eq-eqb, true≢false}
 use Rattle.std.specs.List.{slice_get}
 use Rattle.std.proofs.lemmas.List.{length-map}
 use Rattle.problem_rules.specs.Problem.{Problem}
@@ -10,16 +10,20 @@ use Rattle.pns_rules.specs.Shape.{shape_of}
 use Rattle.pns_rules.specs.Nodes.{Node}
 use Rattle.tree_rules.specs.Tree.{End, leaf}
 use Rattle.tree_rules.specs.Leaf as leaves
-use Rattle.tree_rules.specs.Leaf.{Leaf, dead, clash, refuted, bounded, untried, IsBounded}
+use Rattle.tree_rules.specs.Leaf.{Leaf, Scaled, dead, clash, refuted, bounded, charged, untried}
+use Rattle.tree_rules.specs.Leaf.{IsUntried, IsBounded}
 use Rattle.tree_rules.specs.Claim.{Network, CostOver}
 use Rattle.rank_rules.specs.Leaf as ranks
+use Rattle.rank_rules.specs.Leaf.{IsOpenLeaf}
 use Rattle.rank_rules.specs.Networks.{numbered, network_at, last_cost}
+use Rattle.search_tree.specs.Growth.{EndsOpen}
 use Rattle.search_tree.specs.declared.shut.Shut.{Shut}
 use Rattle.search_tree.specs.declared.shut.Shut.TheVariants as shuts
 use Rattle.search_tree.specs.Cells.{Cell, place_of, cell_at}
 use Rattle.search_tree.specs.Fits.{EndFits, Fits}
 use Rattle.search_tree.specs.Shut.{shut_as, shut_leaf}
 use Rattle.search_tree.proofs.ShutLemmas.{proof_of}
+use Rattle.node_evaluation.specs.Looks.{is_charged_leaf, is_charged}
 use Rattle.abb_search.specs.declared.growing.Growing.{Growing}
 use Rattle.abb_search.specs.Closing.{ShutsNode, ShutsLeaf, ShutAll, ShutsIfSome, ShutSome}
 use Rattle.rank_search.specs.Found.{FoundAt, networks_of, undercut_by, IsOfLeaf, IsFoundThere}
@@ -38,11 +42,11 @@ ClosesAt partial p undercut n (Some m) = ShutsNode p undercut n m
 
 abbrev pub Closes : Bool → Problem → Option CostOver → List Cell → List (Option Shut) → Type 0
 Closes partial p undercut cells ms = (j : ℕ) → j < length cells
-    → (cell_at cells j).end ≡ leaf untried
+    → EndsOpen (cell_at cells j).end
     → ClosesAt partial p undercut (place_of (cell_at cells j)) (proof_of ms j)
 
 shuts_one : (p : Problem) (undercut : Option CostOver) (c : Cell) (m : Option Shut)
-    → c.end ≡ leaf untried → ShutsLeaf p undercut c m → ClosesAt false p undercut (place_of c) m
+    → EndsOpen c.end → ShutsLeaf p undercut c m → ClosesAt false p undercut (place_of c) m
 shuts_one p undercut c None is h = absurd (h is)
 shuts_one p undercut c (Some m) is h = h
 
@@ -71,19 +75,20 @@ shut_passes partial p undercut n (shuts.Refuted ys) h = h.refuted
 plain_passes : (partial : Bool) (p : Problem) (claimed undercut : Option CostOver) (n : Node)
     (l : Leaf) (m : Option Shut) → leaves.LeafPasses true p claimed n l
     → ((d : ℤ) (ys : List ℤ) → l ≡ bounded d ys → IsBounded p undercut n d ys)
-    → (l ≡ untried → ClosesAt partial p undercut n m)
+    → is_charged_leaf l ≡ false → (IsUntried l → ClosesAt partial p undercut n m)
     → leaves.LeafPasses partial p undercut n (shut_leaf m l)
-plain_passes partial p claimed undercut n (dead x) None h b o = h
-plain_passes partial p claimed undercut n (dead x) (Some m) h b o = h
-plain_passes partial p claimed undercut n (clash k) None h b o = h
-plain_passes partial p claimed undercut n (clash k) (Some m) h b o = h
-plain_passes partial p claimed undercut n (refuted ys) None h b o = h
-plain_passes partial p claimed undercut n (refuted ys) (Some m) h b o = h
-plain_passes partial p claimed undercut n (bounded d ys) None h b o = b d ys refl
-plain_passes partial p claimed undercut n (bounded d ys) (Some m) h b o = b d ys refl
-plain_passes partial p claimed undercut n untried None h b o = o refl
-plain_passes partial p claimed undercut n untried (Some m) h b o =
-    shut_passes partial p undercut n m (o refl)
+plain_passes partial p claimed undercut n (dead x) None h b u o = h
+plain_passes partial p claimed undercut n (dead x) (Some m) h b u o = h
+plain_passes partial p claimed undercut n (clash k) None h b u o = h
+plain_passes partial p claimed undercut n (clash k) (Some m) h b u o = h
+plain_passes partial p claimed undercut n (refuted ys) None h b u o = h
+plain_passes partial p claimed undercut n (refuted ys) (Some m) h b u o = h
+plain_passes partial p claimed undercut n (bounded d ys) None h b u o = b d ys refl
+plain_passes partial p claimed undercut n (bounded d ys) (Some m) h b u o = b d ys refl
+plain_passes partial p claimed undercut n (charged c) m h b u o = absurd (true≢false u)
+plain_passes partial p claimed undercut n (untried low) None h b u o = (o (low, refl), h.1)
+plain_passes partial p claimed undercut n (untried low) (Some m) h b u o =
+    shut_passes partial p undercut n m (o (low, refl))
 
 bounded_stays : (m : Option Shut) (d : ℤ) (ys : List ℤ) → shut_leaf m (bounded d ys) ≡ bounded d ys
 bounded_stays None d ys = refl
@@ -91,43 +96,47 @@ bounded_stays (Some m) d ys = refl
 
 -- ---- an open leaf of the answer was open before
 
-shut_open : (m : Option Shut) (l : Leaf) → shut_leaf m l ≡ untried → l ≡ untried
+shut_open : (m : Option Shut) (l : Leaf) → IsUntried (shut_leaf m l) → IsUntried l
 shut_open None l h = h
-shut_open (Some m) (dead x) h = let q : dead x ≡ untried = h in cc
-shut_open (Some m) (clash k) h = let q : clash k ≡ untried = h in cc
-shut_open (Some m) (refuted ys) h = let q : refuted ys ≡ untried = h in cc
-shut_open (Some m) (bounded d ys) h = let q : bounded d ys ≡ untried = h in cc
-shut_open (Some m) untried h = refl
+shut_open (Some m) (dead x) h = h
+shut_open (Some m) (clash k) h = h
+shut_open (Some m) (refuted ys) h = h
+shut_open (Some m) (bounded d ys) h = h
+shut_open (Some m) (charged c) h = h
+shut_open (Some m) (untried low) h = (low, refl)
 
 plain_is : (l k : Leaf) → ranks.plain l ≡ ranks.plain k → l ≡ k
 plain_is l k h = cc
 
-named_open : (n : Option ℕ) (l : Leaf) → named_leaf n l ≡ ranks.plain untried → l ≡ untried
-named_open None l h = plain_is l untried h
-named_open (Some k) (dead x) h = plain_is (dead x) untried h
-named_open (Some k) (clash x) h = plain_is (clash x) untried h
-named_open (Some k) (refuted ys) h = plain_is (refuted ys) untried h
-named_open (Some k) (bounded d ys) h = let q : ranks.named k d ys ≡ ranks.plain untried = h in cc
-named_open (Some k) untried h = refl
+named_open : (n : Option ℕ) (l : Leaf) → IsOpenLeaf (named_leaf n l) → IsUntried l
+named_open None l h = (h.0, plain_is l (untried h.0) h.1)
+named_open (Some k) (dead x) h = (h.0, plain_is (dead x) (untried h.0) h.1)
+named_open (Some k) (clash x) h = (h.0, plain_is (clash x) (untried h.0) h.1)
+named_open (Some k) (refuted ys) h = (h.0, plain_is (refuted ys) (untried h.0) h.1)
+named_open (Some k) (bounded d ys) h =
+    absurd (let q : ranks.named k d ys ≡ ranks.plain (untried h.0) = h.1 in cc)
+named_open (Some k) (charged c) h = (h.0, plain_is (charged c) (untried h.0) h.1)
+named_open (Some k) (untried low) h = (low, refl)
 
 pub still_open : (n : Option ℕ) (m : Option Shut) (l : Leaf)
-    → named_leaf n (shut_leaf m l) ≡ ranks.plain untried → l ≡ untried
+    → IsOpenLeaf (named_leaf n (shut_leaf m l)) → IsUntried l
 still_open n m l h = shut_open m l (named_open n (shut_leaf m l) h)
 
-never_open : (m : Shut) → shut_as m ≡ untried → ⊥
-never_open (shuts.Bounded m) h = let q : bounded m.d m.ys ≡ untried = h in cc
-never_open (shuts.Refuted ys) h = let q : refuted ys ≡ untried = h in cc
+never_open : (m : Shut) → IsUntried (shut_as m) → ⊥
+never_open (shuts.Bounded m) h = let q : bounded m.d m.ys ≡ untried h.0 = h.1 in cc
+never_open (shuts.Refuted ys) h = let q : refuted ys ≡ untried h.0 = h.1 in cc
 
 -- nothing shuts one that is open in the answer
-pub told_unshut : (n : Option ℕ) (m : Option Shut)
-    → named_leaf n (shut_leaf m untried) ≡ ranks.plain untried → m ≡ None
-told_unshut n None h = refl
-told_unshut n (Some m) h = absurd (never_open m (named_open n (shut_as m) h))
+pub told_unshut : (n : Option ℕ) (m : Option Shut) (low : Option Scaled)
+    → IsOpenLeaf (named_leaf n (shut_leaf m (untried low))) → m ≡ None
+told_unshut n None low h = refl
+told_unshut n (Some m) low h = absurd (never_open m (named_open n (shut_as m) h))
 
 -- if nothing shuts it, an open leaf is open in the answer
-pub told_open : (n : Option ℕ) → named_leaf n (shut_leaf None untried) ≡ ranks.plain untried
-told_open None = refl
-told_open (Some k) = refl
+pub told_open : (n : Option ℕ) (low : Option Scaled)
+    → IsOpenLeaf (named_leaf n (shut_leaf None (untried low)))
+told_open None low = (low, refl)
+told_open (Some k) low = (low, refl)
 
 -- ---- the networks by their numbers
 
@@ -180,7 +189,8 @@ module _ (partial : Bool) (p : Problem) (count : ℕ) (start : Node) (claimed : 
             ↦ subst (λ (o : Option CostOver). IsBounded p o (place_of (cell_at cells i)) d ys)
             (sym (undercut_is count fs h.0)) h.1
       ])
-      (λ q. closes i lt (e ∙ ap (λ (k : Leaf). leaf k) q))
+      (ap (λ (d : End Leaf). is_charged d) (sym e) ∙ best.uncharged i lt)
+      (λ q. closes i lt (q.0, e ∙ ap (λ (k : Leaf). leaf k) q.1))
 
   with_name : (at : ℕ) (f : FoundAt) → slice_get fs at ≡ Some f → (l : Leaf)
       → (cell_at cells f.leaf).end ≡ leaf l → Holds f.leaf (Some (1 + at)) l

@@ -8,7 +8,7 @@ use Rattle.pns_rules.specs.Ends.{IsSound}
 use Rattle.pgraph.specs.View.{node_of}
 use Rattle.unit_sets.specs.declared.node.Node as starts
 use Rattle.tree_rules.specs.Tree.{End, leaf}
-use Rattle.tree_rules.specs.Leaf.{Leaf, dead, clash, refuted, bounded, untried}
+use Rattle.tree_rules.specs.Leaf.{Leaf, dead, clash, refuted, bounded, charged, untried}
 use Rattle.tree_rules.specs.Claim.{Network, CostOver}
 use Rattle.tree_rules.specs.Accepted.{first_node}
 use Rattle.search_tree.specs.Cells.{Cell, place_of, cell_at}
@@ -44,7 +44,8 @@ leaf_kept p n (dead x) = tt
 leaf_kept p n (clash k) = tt
 leaf_kept p n (refuted ys) = tt
 leaf_kept p n (bounded d ys) = tt
-leaf_kept p n untried = λ alive. tt
+leaf_kept p n (charged c) = tt
+leaf_kept p n (untried low) = λ alive. tt
 
 module _ (Past : PastPlaces) (p : Problem) (start : starts.Node) (budget : ℕ) (s : Growing)
     (h : IsLookedRoot Past p start budget None s) (some : 1 ≤ budget) where

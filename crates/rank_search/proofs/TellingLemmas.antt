@@ -17,7 +17,7 @@ use Rattle.pgraph.specs.View.{node_of}
 use Rattle.tree_rules.specs.Ways.{options_at}
 use Rattle.tree_rules.specs.Tree.{End, branch, leaf, Pass, Stands}
 use Rattle.tree_rules.specs.Leaf as leaves
-use Rattle.tree_rules.specs.Leaf.{Leaf, dead, clash, refuted, bounded, untried, IsUntried}
+use Rattle.tree_rules.specs.Leaf.{Leaf, dead, clash, refuted, bounded, charged, untried, IsUntried}
 use Rattle.tree_rules.specs.Claim.{CostOver, claimed_cost, IsSized}
 use Rattle.tree_rules.specs.Lean.{IsLean}
 use Rattle.tree_rules.specs.Stops.{IsOpenAt, IsPending, IsSpent}
@@ -27,11 +27,11 @@ use Rattle.rank_rules.specs.Networks.{ArePassing}
 use Rattle.rank_rules.specs.Ranked as ranked
 use Rattle.tree_rules.specs.Known.{KnowsEnd, KnowsTree}
 use Rattle.rank_rules.specs.Marked.{Mark, marked}
-use Rattle.rank_rules.specs.Text.{AreNumbered}
+use Rattle.rank_rules.specs.Text.{AreNumbered, AreBare}
 use Rattle.search_tree.specs.declared.shut.Shut.{Shut}
 use Rattle.search_tree.specs.declared.shut.Shut.TheVariants as shuts
 use Rattle.search_tree.specs.Cells.{Cell, place_of, cell_at, IsLinked}
-use Rattle.search_tree.specs.Growth.{as_shut}
+use Rattle.search_tree.specs.Growth.{as_shut, EndsOpen}
 use Rattle.search_tree.specs.Preorder.{IsPreorder, node_at, tree_of, told_tree}
 use Rattle.search_tree.specs.Shut.{shut_as, shut_leaf, shut_end, shut_cells}
 use Rattle.search_tree.proofs.CountLemmas.{preorder_has_all}
@@ -46,14 +46,14 @@ use Rattle.abb_search.specs.Closing.{ShutsNode, IsSpentFor}
 use Rattle.tree_rules.specs.Proved.{IsBelowLimit}
 use Rattle.abb_search.proofs.KnownLemmas.{AreKnown, known_end, knows_tree, few_nodes}
 use Rattle.rank_search.specs.Found.{FoundAt, networks_of, undercut_by, AreBest}
-use Rattle.rank_search.specs.Naming.{Names, name_at, names_at, names_of, IsNamedTree}
+use Rattle.rank_search.specs.Naming.{Names, name_at, names_at, names_of, marks_in, IsNamedTree}
 use Rattle.rank_rules.specs.Leaf.{IsOpenLeaf}
 use Rattle.rank_search.specs.Told.{IsTelling, IsSpentTelling}
 use Rattle.rank_search.proofs.FewLemmas.{few_with_next}
 use Rattle.rank_search.proofs.NamedLeafLemmas.{ClosesAt, Closes, leaf_passes, still_open, told_open}
 use Rattle.rank_search.proofs.NamedLeafLemmas.{told_unshut}
 use Rattle.rank_search.proofs.MarkLemmas.{named_leaf, marked_is, length-opened, opened_known}
-use Rattle.rank_search.proofs.MarkLemmas.{marks_numbered}
+use Rattle.rank_search.proofs.MarkLemmas.{marks_numbered, marks_bare}
 use Rattle.rank_search.proofs.NameLemmas.{IsCountedName, counted_name}
 use Rattle.rank_search.proofs.NetworkLemmas.{each_there, knows_networks, networks_pass}
 use Rattle.rank_search.proofs.OrderLemmas.{leaf_told, shut_order, named_is_told, length-names_at}
@@ -68,8 +68,8 @@ knows_by p undercut n (shuts.Bounded m) h = (h.scale, h.multipliers)
 knows_by p undercut n (shuts.Refuted ys) h = h.multipliers
 
 knows_shut : (p : Problem) (partial : Bool) (undercut : Option CostOver) (n : Node)
-    (m : Option Shut) (e : End Leaf) → KnowsEnd p e
-    → (e ≡ leaf untried → ClosesAt partial p undercut n m) → KnowsEnd p (shut_end m e)
+    (m : Option Shut) (e : End Leaf) → KnowsEnd p e → (EndsOpen e → ClosesAt partial p undercut n m)
+    → KnowsEnd p (shut_end m e)
 knows_shut p partial undercut n None (branch w) k h = k
 knows_shut p partial undercut n None (leaf l) k h = k
 knows_shut p partial undercut n (Some m) (branch w) k h = k
@@ -77,7 +77,9 @@ knows_shut p partial undercut n (Some m) (leaf (dead x)) k h = k
 knows_shut p partial undercut n (Some m) (leaf (clash x)) k h = k
 knows_shut p partial undercut n (Some m) (leaf (refuted ys)) k h = k
 knows_shut p partial undercut n (Some m) (leaf (bounded d ys)) k h = k
-knows_shut p partial undercut n (Some m) (leaf untried) k h = knows_by p undercut n m (h refl)
+knows_shut p partial undercut n (Some m) (leaf (charged c)) k h = k
+knows_shut p partial undercut n (Some m) (leaf (untried low)) k h =
+    knows_by p undercut n m (h (low, refl))
 
 module _ (p : Problem) (partial : Bool) (undercut : Option CostOver) (cells : List Cell)
     (known : AreKnown p cells) (ms : List (Option Shut))
@@ -132,7 +134,7 @@ module _ (p : Problem) (valid : IsValid p) (count : ℕ) (s : Growing) (fs : Lis
       kept_is_lean p (node_of s.start) (claim_with s.best) (undercut_by count fs) t.last
       s.pool.payloads of.order t.kept preorder
 
-  still : (i : ℕ) (l : Leaf) → IsOpenLeaf (told i l) → l ≡ untried
+  still : (i : ℕ) (l : Leaf) → IsOpenLeaf (told i l) → IsUntried l
   still i l o = still_open (name_at names i) (proof_of ms i) l o
 
   lean : IsLean p IsOpenLeaf (undercut_by count fs) first_node (marked marks tree)
@@ -231,6 +233,18 @@ module _ (p : Problem) (valid : IsValid p) (count : ℕ) (s : Growing) (fs : Lis
             (marks_numbered (names_at names of.order) (tree_of (shut_cells ms cells) of.order)
             (each_name IsCountedName names (counted_name (length s.pool.payloads) fs)
             of.order));
+        bare =
+            let a : length (names_at names of.order) ≡ length of.order =
+            length-names_at names of.order in
+            let b : length (tree_of (shut_cells ms cells) of.order) ≡ length of.order =
+            length-map of.order (node_at (shut_cells ms cells)) in
+            subst (λ (ks : List Mark). AreBare ks tree) (sym of.marks_are)
+            (subst
+            (λ (w : Tree). AreBare
+            (marks_in (names_at names of.order) (tree_of (shut_cells ms cells) of.order)) w)
+            (sym of.tree_is)
+            (marks_bare (names_at names of.order) (tree_of (shut_cells ms cells) of.order)
+            (a ∙ sym b)));
       };
       of_networks =
           knows_networks p s.pool.payloads fs (each_there p s.pool.payloads fs best.there) sized;
@@ -240,7 +254,7 @@ module _ (p : Problem) (valid : IsValid p) (count : ℕ) (s : Growing) (fs : Lis
 
   -- ---- an open leaf that nothing shuts
   module _ (there : wanted < length s.pool.payloads) (unshut : proof_of ms wanted ≡ None) where
-    stands_told : (cell_at s.pool.payloads wanted).end ≡ leaf untried
+    stands_told : EndsOpen (cell_at s.pool.payloads wanted).end
         → IsOpenAt p IsOpenLeaf (node_of s.start) (told_tree told s.pool.payloads of.order) place
         (place_of (cell_at s.pool.payloads wanted))
     stands_told is =
@@ -250,10 +264,10 @@ module _ (p : Problem) (valid : IsValid p) (count : ℕ) (s : Growing) (fs : Lis
         wanted place there of.stands is
         (subst
         (λ (m : Option Shut). IsOpenLeaf
-        (named_leaf (name_at names wanted) (shut_leaf m untried))) (sym unshut)
-        (told_open (name_at names wanted)))
+        (named_leaf (name_at names wanted) (shut_leaf m (untried is.0)))) (sym unshut)
+        (told_open (name_at names wanted) is.0))
 
-    pub stands_open : (cell_at s.pool.payloads wanted).end ≡ leaf untried
+    pub stands_open : EndsOpen (cell_at s.pool.payloads wanted).end
         → IsOpenAt p IsOpenLeaf first_node (marked marks tree) place
         (place_of (cell_at s.pool.payloads wanted))
     stands_open is =
@@ -266,9 +280,9 @@ module _ (p : Problem) (valid : IsValid p) (count : ℕ) (s : Growing) (fs : Lis
 
     module _ (options : ℕ) (h : IsSpentFor p (undercut_by count fs) s ms wanted options) where
       pending : (j : ℕ) → j < length s.pool.payloads
-          → (cell_at s.pool.payloads j).end ≡ leaf untried → IsOpenLeaf (told j untried)
+          → (is : EndsOpen (cell_at s.pool.payloads j).end) → IsOpenLeaf (told j (untried is.0))
           → IsPending p (place_of (cell_at s.pool.payloads j))
-      pending j lt is o = h.pending j lt is (told_unshut (name_at names j) (proof_of ms j) o)
+      pending j lt is o = h.pending j lt is (told_unshut (name_at names j) (proof_of ms j) is.0 o)
 
       spent : IsSpent p IsOpenLeaf (undercut_by count fs) first_node (marked marks tree) place
           options s.budget
@@ -297,11 +311,11 @@ module _ (p : Problem) (valid : IsValid p) (count : ℕ) (s : Growing) (fs : Lis
       below_limit = λ all union.
           let leaf_there : Stands (shape_of p) (node_of s.start ∷ [])
           (tree_of s.pool.payloads of.order) place (place_of (cell_at s.pool.payloads wanted))
-          (leaf untried)
+          (leaf (untried h.can.is_open.0))
           = subst
           (λ (e : End Leaf). Stands (shape_of p) (node_of s.start ∷ [])
           (tree_of s.pool.payloads of.order) place (place_of (cell_at s.pool.payloads wanted))
-          e) h.can.is_open (stands_plain place wanted of.stands) in
+          e) h.can.is_open.1 (stands_plain place wanted of.stands) in
           let most =
           few_with_next (shape_of p) (proper_if_valid p valid) all union
           (leaves.LeafPasses true p (claimed_cost (claim_with s.best))) (node_of s.start)
@@ -310,8 +324,8 @@ module _ (p : Problem) (valid : IsValid p) (count : ℕ) (s : Growing) (fs : Lis
           (cell_at s.pool.payloads 0).end
           (stands_plain 0 0 (head_is s.pool.payloads of.order preorder))
           (t.kept.sound 0 linked.some)
-          place (place_of (cell_at s.pool.payloads wanted)) untried leaf_there h.can.reduced h.way
-          h.can.may h.can.splits in
+          place (place_of (cell_at s.pool.payloads wanted)) (untried h.can.is_open.0) leaf_there
+          h.can.reduced h.way h.can.may h.can.splits in
           under_limit s.budget (length (tree_of s.pool.payloads of.order)) options
           (length (options_at (shape_of p) (place_of (cell_at s.pool.payloads wanted)) h.way))
           (2 ^ suc (length (listed (shape_of p).units all)))

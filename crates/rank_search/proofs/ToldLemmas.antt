@@ -3,12 +3,11 @@ use Rattle.std.proofs.Common.{◌≡◌, ℕ, true, false, List, refl}
 use Rattle.problem_rules.specs.Problem.{Problem}
 use Rattle.pns_rules.specs.Shape.{shape_of}
 use Rattle.pns_rules.specs.Ends.{IsSound}
-use Rattle.tree_rules.specs.Tree.{leaf}
-use Rattle.tree_rules.specs.Leaf.{untried}
 use Rattle.tree_rules.specs.Claim.{Network}
 use Rattle.tree_rules.specs.Accepted.{Tree, first_node}
 use Rattle.tree_rules.specs.Stops.{IsOpenAt}
 use Rattle.tree_rules.specs.Tail.{whole, spent, past}
+use Rattle.search_tree.specs.Growth.{EndsOpen}
 use Rattle.search_tree.specs.Cells.{place_of, cell_at}
 use Rattle.node_evaluation.specs.Evaluated.{PastPlaces}
 use Rattle.abb_search.specs.declared.growing.Growing.{Growing}
@@ -52,7 +51,7 @@ module _ (Stops : PastPlaces) (p : Problem) (asked count budget : ℕ) (same : a
   pub past_ranked : (place : ℕ) (s : Growing) (h : StoppedLeaf)
       → IsTelling true p count ws tree marks → IsStoppedAt Stops p s h.leaf h.stop
       → IsSound (shape_of p) (place_of (cell_at s.pool.payloads h.leaf))
-      → ((cell_at s.pool.payloads h.leaf).end ≡ leaf untried
+      → (EndsOpen (cell_at s.pool.payloads h.leaf).end
       → IsOpenAt p IsOpenLeaf first_node (marked marks tree) place
       (place_of (cell_at s.pool.payloads h.leaf)))
       → IsRankedBy Stops p count budget

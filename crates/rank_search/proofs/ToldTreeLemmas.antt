@@ -10,10 +10,11 @@ use Rattle.pns_rules.specs.Shape.{shape_of}
 use Rattle.pns_rules.specs.Nodes.{Node}
 use Rattle.tree_rules.specs.Ways.{Way}
 use Rattle.tree_rules.specs.Tree.{End, branch, leaf, Stands}
-use Rattle.tree_rules.specs.Leaf.{Leaf, untried, IsUntried}
+use Rattle.tree_rules.specs.Leaf.{Leaf, Scaled, untried, IsUntried}
 use Rattle.tree_rules.specs.Claim.{CostOver}
 use Rattle.tree_rules.specs.Lean.{MayUndercut, IsNoDearer, IsLean}
 use Rattle.tree_rules.specs.Stops.{IsOpenAt, IsPending, IsNextCount, IsSpent}
+use Rattle.search_tree.specs.Growth.{EndsOpen}
 use Rattle.search_tree.specs.Cells.{Cell, place_of, cell_at, IsLinked}
 use Rattle.search_tree.specs.Fits.{Fits}
 use Rattle.search_tree.specs.Preorder.{IsPreorder, tree_of, told_end, told_at, told_tree}
@@ -89,10 +90,12 @@ module _ (p : Problem) (P : Node → Leaf → Type 0) (start : Node) (cells : Li
       }
 
   -- ---- if only open leaves become open ones
-  module _ (IsOpen : L → Type 0) (still : (i : ℕ) (l : Leaf) → IsOpen (f i l) → l ≡ untried) where
+  module _ (IsOpen : L → Type 0) (still : (i : ℕ) (l : Leaf) → IsOpen (f i l) → IsUntried l) where
     record IsOpenThere (n : Node) : Type 0 where
       pub place : ℕ
-      pub stands : Stands (shape_of p) (start ∷ []) (tree_of cells order) place n (leaf untried)
+      pub low : Option Scaled
+      pub stands : Stands (shape_of p) (start ∷ []) (tree_of cells order) place n
+          (leaf (untried low))
 
     open_there : (k : ℕ) (n : Node) (l : L)
         → Stands (shape_of p) (start ∷ []) (told_tree f cells order) k n (leaf l) → IsOpen l
@@ -100,14 +103,15 @@ module _ (p : Problem) (P : Node → Leaf → Type 0) (start : Node) (cells : Li
     open_there k n l s o =
         let c = plain k n (leaf l) s in
         let t = told_leaf (f c.number) (cell_at cells c.number).end l c.told in
-        let was : t.was ≡ untried = still c.number t.was (subst IsOpen (sym t.told) o) in
+        let was : IsUntried t.was = still c.number t.was (subst IsOpen (sym t.told) o) in
         record {
           place = c.place;
+          low = was.0;
           stands =
               subst
               (λ (e : End Leaf). Stands (shape_of p) (start ∷ []) (tree_of cells order) c.place n
               e)
-              (t.end_is ∙ ap (λ (w : Leaf). leaf w) was) c.stands;
+              (t.end_is ∙ ap (λ (w : Leaf). leaf w) was.1) c.stands;
         }
 
     pub told_is_lean : (undercut : Option CostOver)
@@ -120,20 +124,21 @@ module _ (p : Problem) (P : Node → Leaf → Type 0) (start : Node) (cells : Li
       in_turn = λ k w n s j m l t o no_dead.
           let b = branch_there k n w s in
           let q = open_there j m l t o in
-          lean.in_turn b.place w n b.stands q.place m untried q.stands refl no_dead;
+          lean.in_turn b.place w n b.stands q.place m (untried q.low) q.stands (q.low, refl)
+          no_dead;
     }
 
     -- an open leaf that is open in the answer has its place
     module _ (at place : ℕ) (there : at < length cells)
         (stands : slice_get order place ≡ Some at) where
-      pub told_stands : (cell_at cells at).end ≡ leaf untried → IsOpen (f at untried)
+      pub told_stands : (is : EndsOpen (cell_at cells at).end) → IsOpen (f at (untried is.0))
           → IsOpenAt p IsOpen start (told_tree f cells order) place (place_of (cell_at cells at))
       told_stands is o = record {
-        what = f at untried;
+        what = f at (untried is.0);
         stands =
             subst
             (λ (e : End Leaf). Stands (shape_of p) (start ∷ []) (told_tree f cells order) place
-            (place_of (cell_at cells at)) (told_end (f at) e)) is
+            (place_of (cell_at cells at)) (told_end (f at) e)) is.1
             (told_cells_stand (shape_of p) P start cells linked fits f (start ∷ []) (0 ∷ []) order
             (aligned_start (shape_of p) P start cells linked fits) preorder place at stands);
         is_open = o;
@@ -146,8 +151,8 @@ module _ (p : Problem) (P : Node → Leaf → Type 0) (start : Node) (cells : Li
       pub number : ℕ
       pub there : number < length cells
       pub node_is : place_of (cell_at cells number) ≡ n
-      pub end_is : (cell_at cells number).end ≡ leaf untried
-      pub is_open : IsOpen (f number untried)
+      pub end_is : EndsOpen (cell_at cells number).end
+      pub is_open : IsOpen (f number (untried end_is.0))
 
     open_cell : (k : ℕ) (n : Node) → IsOpenAt p IsOpen start (told_tree f cells order) k n
         → IsOpenCell n
@@ -158,13 +163,13 @@ module _ (p : Problem) (P : Node → Leaf → Type 0) (start : Node) (cells : Li
         o.stands in
         let t = told_leaf (f c.number) (cell_at cells c.number).end o.what c.end_is in
         let now : IsOpen (f c.number t.was) = subst IsOpen (sym t.told) o.is_open in
-        let was : t.was ≡ untried = still c.number t.was now in
+        let was : IsUntried t.was = still c.number t.was now in
         record {
           number = c.number;
           there = c.there;
           node_is = c.node_is;
-          end_is = t.end_is ∙ ap (λ (w : Leaf). leaf w) was;
-          is_open = subst (λ (w : Leaf). IsOpen (f c.number w)) was now;
+          end_is = (was.0, t.end_is ∙ ap (λ (w : Leaf). leaf w) was.1);
+          is_open = subst (λ (w : Leaf). IsOpen (f c.number w)) was.1 now;
         }
 
     module _ (undercut : Option CostOver) (at place count budget : ℕ)
@@ -172,8 +177,8 @@ module _ (p : Problem) (P : Node → Leaf → Type 0) (start : Node) (cells : Li
         (place_of (cell_at cells at)))
         (may : MayUndercut p undercut (place_of (cell_at cells at)))
         (least : IsLeastOpen p cells at)
-        (pending : (j : ℕ) → j < length cells → (cell_at cells j).end ≡ leaf untried
-        → IsOpen (f j untried) → IsPending p (place_of (cell_at cells j)))
+        (pending : (j : ℕ) → j < length cells → (is : EndsOpen (cell_at cells j).end)
+        → IsOpen (f j (untried is.0)) → IsPending p (place_of (cell_at cells j)))
         (count_is : IsNextCount (shape_of p) (place_of (cell_at cells at)) count)
         (over : budget < length cells + count) where
       pending_at : (n : Node) → IsOpenCell n → IsPending p n

@@ -3,9 +3,8 @@ use Rattle.std.proofs.Common.{◌≡◌, ℕ, ◌<◌, length, Option, Some, Non
 use Rattle.problem_rules.specs.Problem.{Problem}
 use Rattle.pgraph.specs.View.{node_of}
 use Rattle.node_pool.specs.Pooled.{Pooled}
-use Rattle.tree_rules.specs.Tree.{leaf}
 use Rattle.tree_rules.specs.Claim.{CostOver}
-use Rattle.tree_rules.specs.Leaf.{untried}
+use Rattle.search_tree.specs.Growth.{EndsOpen}
 use Rattle.search_tree.specs.Cells.{Cell, place_of, cell_at}
 use Rattle.node_evaluation.specs.Evaluated.{PastPlaces}
 use Rattle.node_evaluation.specs.Looks.{IsStop}
@@ -155,7 +154,7 @@ module _ (Past : PastPlaces) (p : Problem) (budget : ℕ) (s t : Growing) (l : L
     ends = record {
       there = subst (λ (o : Pooled Cell). h.leaf < length o.payloads) (sym e.pool) at.there;
       is_open =
-          subst (λ (o : Pooled Cell). (cell_at o.payloads h.leaf).end ≡ leaf untried) (sym e.pool)
+          subst (λ (o : Pooled Cell). EndsOpen (cell_at o.payloads h.leaf).end) (sym e.pool)
           at.is_open;
       stopped =
           subst (λ (o : Pooled Cell). IsStop Past p (place_of (cell_at o.payloads h.leaf)) h.stop)

@@ -1,6 +1,7 @@
 -- The best networks that a search has found, each with the number of the leaf at which it was
 -- found, and what holds of them and of the cells of the search's tree.
-use Rattle.std.specs.Prelude.{◌≡◌, ◌⊎◌, ℕ, ◌<◌, ◌≤◌, ℤ, List, [], ◌∷◌, length, map, Option, Some}
+use Rattle.std.specs.Prelude.{◌≡◌, ◌⊎◌, ℕ, ◌<◌, ◌≤◌, ℤ, false, List, [], ◌∷◌, length, map}
+use Rattle.std.specs.Prelude.{Option, Some}
 use Rattle.std.specs.List.{slice_get}
 use Rattle.problem_rules.specs.Problem.{Problem}
 use Rattle.tree_rules.specs.Tree.{leaf}
@@ -8,7 +9,7 @@ use Rattle.tree_rules.specs.Claim.{Network, CostOver}
 use Rattle.tree_rules.specs.Leaf.{bounded, IsBounded}
 use Rattle.rank_rules.specs.Networks.{cost_of, last_cost, to_undercut, IsNoCheaper}
 use Rattle.search_tree.specs.Cells.{Cell, place_of, cell_at}
-use Rattle.node_evaluation.specs.Looks.{IsFoundAt}
+use Rattle.node_evaluation.specs.Looks.{is_charged, IsFoundAt}
 
 -- a network, and the number of the leaf at which it was found
 pub record FoundAt : Type 0 where
@@ -57,10 +58,12 @@ IsListedOrBeaten p count fs cells j =
     × IsBounded p (last_cost (networks_of fs)) (place_of (cell_at cells j)) d ys)
 
 -- the networks are the best of those that were found at the leaves of these cells, as many as are
--- asked for at most, best first
+-- asked for at most, best first. No leaf charges its node, whose charge would have to reach what
+-- the last network costs.
 pub record AreBest (p : Problem) (count : ℕ) (cells : List Cell) (fs : List FoundAt) : Type 0 where
   pub there : (k : ℕ) (f : FoundAt) → slice_get fs k ≡ Some f → IsFoundThere p cells f
   pub apart : AreApart fs
   pub rising : AreRising fs
   pub few : length fs ≤ count
   pub leaves : (j : ℕ) → j < length cells → IsListedOrBeaten p count fs cells j
+  pub uncharged : (j : ℕ) → j < length cells → is_charged (cell_at cells j).end ≡ false

@@ -4,7 +4,7 @@ use Rattle.std.specs.Prelude.{◌≡◌, ℕ, suc, ◌<◌, List, [], ◌∷◌,
 use Rattle.std.specs.Prelude.{replicate, get_or, Option, Some, None}
 use Rattle.std.specs.List.{slice_get}
 use Rattle.tree_rules.specs.Tree.{End, branch, leaf, TreeNode}
-use Rattle.tree_rules.specs.Leaf.{Leaf, dead, clash, refuted, bounded, untried}
+use Rattle.tree_rules.specs.Leaf.{Leaf, dead, clash, refuted, bounded, charged, untried}
 use Rattle.tree_rules.specs.Accepted.{Tree}
 use Rattle.rank_rules.specs.Marked.{Mark}
 use Rattle.ranked_tree.specs.declared.mark.Mark as marks
@@ -50,8 +50,9 @@ opened_end (Some k) (branch w) = branch w
 opened_end (Some k) (leaf (dead x)) = leaf (dead x)
 opened_end (Some k) (leaf (clash x)) = leaf (clash x)
 opened_end (Some k) (leaf (refuted ys)) = leaf (refuted ys)
-opened_end (Some k) (leaf (bounded d ys)) = leaf untried
-opened_end (Some k) (leaf untried) = leaf untried
+opened_end (Some k) (leaf (bounded d ys)) = leaf (untried None)
+opened_end (Some k) (leaf (charged h)) = leaf (charged h)
+opened_end (Some k) (leaf (untried low)) = leaf (untried low)
 
 -- It has a mark with its network and its multipliers. An open leaf is marked as open, and no other
 -- end has a mark.
@@ -62,7 +63,8 @@ marks_at name (leaf (clash x)) = []
 marks_at name (leaf (refuted ys)) = []
 marks_at None (leaf (bounded d ys)) = []
 marks_at (Some k) (leaf (bounded d ys)) = Some (record { network = k; d = d; ys = ys }) ∷ []
-marks_at name (leaf untried) = None ∷ []
+marks_at name (leaf (charged h)) = []
+marks_at name (leaf (untried low)) = None ∷ []
 
 abbrev pub opened_node : Option ℕ → TreeNode Leaf → TreeNode Leaf
 opened_node name t = record { option = t.option; steps = t.steps; end = opened_end name t.end }

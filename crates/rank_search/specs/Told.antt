@@ -21,7 +21,7 @@ pub record IsTelling (partial : Bool) (p : Problem) (count : ℕ) (ws : List Net
     (marks : List Mark) : Type 0 where
   pub proves : Proves partial p (record { count = count; networks = ws; tree = marked marks tree })
   pub lean : IsLean p IsOpenLeaf (to_undercut count ws) first_node (marked marks tree)
-  pub counted : IsCounted count ws marks
+  pub counted : IsCounted count ws tree marks
   pub of_networks : Each (KnowsNetwork p) ws
   pub of_tree : KnowsTree p tree
   pub few : length tree < 2 ^ 32 - 1

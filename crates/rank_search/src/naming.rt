@@ -57,11 +57,11 @@ fn take_mark(node: &mut TreeNode, name: Option<u32>) -> Option<Mark>
     ensures node { node.new ≡ opened_node name node.old }
     ensures mark { marks_of result ≡ marks_at name node.old.end }
 {
-    if let End::Open = node.end {
+    if let End::Open(_) = node.end {
         return Some(Mark::Open);
     }
     let network = name?;
-    match mem::replace(&mut node.end, End::Open) {
+    match mem::replace(&mut node.end, End::Open(None)) {
         End::Bound(scaled) => Some(Mark::Named { network, scaled }),
         other => {
             node.end = other;

@@ -3,14 +3,13 @@ ghost use Rattle.std.specs.Prelude.{◌≡◌, ◌<◌, ◌≤◌, ◌^◌, ℕ,
 ghost use Rattle.std.specs.Prelude.{slice_index_or, None, IfOk};
 ghost use Rattle.problem_rules.specs.Each.{Each};
 ghost use Rattle.tree_rules.specs.Claim.{IsSized};
-ghost use Rattle.tree_rules.specs.Tree as trees;
-ghost use Rattle.tree_rules.specs.Leaf.{untried};
 ghost use Rattle.tree_rules.specs.Accepted.{first_node};
 ghost use Rattle.tree_rules.specs.Stops.{IsOpenAt};
 ghost use Rattle.pgraph.specs.View.{node_of};
 ghost use Rattle.rank_rules.specs.Marked.{marked};
 ghost use Rattle.ranked_tree.specs.View.{mark_of};
 ghost use Rattle.search_tree.specs.Cells.{place_of, cell_at, IsLinked};
+ghost use Rattle.search_tree.specs.Growth.{EndsOpen};
 ghost use Rattle.abb_search.specs.Closing.{ShutAll, ShutSome, IsSpentFor};
 ghost use Rattle.abb_search.specs.Growing.{IsTreeKeptFor};
 ghost use Rattle.rank_search.specs.Found.{AreBest, networks_of, undercut_by};
@@ -138,8 +137,7 @@ pub fn tell_stopped(
     ensures tells { IfOk result
         (λ t. IsTelling true site.now found.count t.networks.items t.tree
         (map mark_of t.marks.items)) }
-    ensures open { IfOk result
-        (λ t. (cell_at growing.now.pool.payloads leaf).end ≡ trees.leaf untried
+    ensures open { IfOk result (λ t. EndsOpen (cell_at growing.now.pool.payloads leaf).end
         → IsOpenAt site.now IsOpenLeaf first_node (marked (map mark_of t.marks.items) t.tree)
         t.place (place_of (cell_at growing.now.pool.payloads leaf))) }
     ensures spent { IfOk result

@@ -18,7 +18,7 @@ use std::alloc::{AllocError, Global};
 
 /// The answer, with the place at which the search stopped.
 fn text_of(count: u32, told: Told, tail: Tail) -> RankText
-    requires { IsCounted count told.networks.items (map mark_of told.marks.items) }
+    requires { IsCounted count told.networks.items told.tree (map mark_of told.marks.items) }
     ensures { result ≡ record {
       count = count;
       networks = told.networks.items;

@@ -1,6 +1,7 @@
 -- A ranking with exactly one mark for each open leaf is the same ranked tree, and lines can have
 -- its text.
-use Rattle.std.proofs.Common.{◌≡◌, ◌+◌, ℕ, List, [], ◌∷◌, Some, None, length, refl, ap, ◌∙◌, arith}
+use Rattle.std.proofs.Common.{◌≡◌, ◌+◌, ℕ, List, [], ◌∷◌, Some, None, length, refl, sym, ap, ◌∙◌}
+use Rattle.std.proofs.Common.{subst, arith}
 use Rattle.problem_rules.specs.Each.{Each}
 use Rattle.tree_rules.specs.Tree.{TreeNode, End, branch, leaf}
 use Rattle.tree_rules.specs.Leaf as leaves
@@ -8,7 +9,7 @@ use Rattle.tree_rules.specs.Accepted.{Tree}
 use Rattle.rank_rules.specs.Ranked as ranked
 use Rattle.rank_rules.specs.Marked.{Mark, marked, marked_node, marked_end, first_mark, other_marks}
 use Rattle.rank_rules.specs.Marked.{marks_behind}
-use Rattle.rank_rules.specs.Text.{AreNumbered}
+use Rattle.rank_rules.specs.Text.{AreNumbered, IsBareAt, AreBare}
 use Rattle.rank_text.specs.Fits.{opens, opens_at, FitsMark}
 use Rattle.rank_searches.specs.Normal.{with_mark, marks_for, IsMarkInRange}
 
@@ -20,7 +21,8 @@ with_mark_length ms (leaf (leaves.dead x)) behind = omega arith
 with_mark_length ms (leaf (leaves.clash k)) behind = omega arith
 with_mark_length ms (leaf (leaves.refuted ys)) behind = omega arith
 with_mark_length ms (leaf (leaves.bounded d ys)) behind = omega arith
-with_mark_length ms (leaf leaves.untried) behind = omega arith
+with_mark_length ms (leaf (leaves.charged c)) behind = omega arith
+with_mark_length ms (leaf (leaves.untried low)) behind = omega arith
 
 pub marks_for_length : (ts : Tree) (ms : List Mark) → length (marks_for ts ms) ≡ opens ts
 marks_for_length [] ms = refl
@@ -36,7 +38,8 @@ same_end ms (leaf (leaves.dead x)) behind = refl
 same_end ms (leaf (leaves.clash k)) behind = refl
 same_end ms (leaf (leaves.refuted ys)) behind = refl
 same_end ms (leaf (leaves.bounded d ys)) behind = refl
-same_end ms (leaf leaves.untried) behind = refl
+same_end ms (leaf (leaves.charged c)) behind = refl
+same_end ms (leaf (leaves.untried low)) behind = refl
 
 same_behind : (ms : List Mark) (e : End leaves.Leaf) (behind : List Mark)
     → marks_behind (with_mark ms e behind) e ≡ behind
@@ -45,7 +48,8 @@ same_behind ms (leaf (leaves.dead x)) behind = refl
 same_behind ms (leaf (leaves.clash k)) behind = refl
 same_behind ms (leaf (leaves.refuted ys)) behind = refl
 same_behind ms (leaf (leaves.bounded d ys)) behind = refl
-same_behind ms (leaf leaves.untried) behind = refl
+same_behind ms (leaf (leaves.charged c)) behind = refl
+same_behind ms (leaf (leaves.untried low)) behind = refl
 
 -- and so the same ranked tree
 pub same_tree : (ts : Tree) (ms : List Mark) → marked (marks_for ts ms) ts ≡ marked ms ts
@@ -59,6 +63,28 @@ same_tree (t ∷ ts) ms =
     ap (λ (ns : List Mark). marked ns ts) (same_behind ms t.end rest)
     ∙ same_tree ts (marks_behind ms t.end) in
     λ i. record { option = t.option; steps = t.steps; end = ends i } ∷ behind i
+
+-- ---- leaves with a bound
+
+bare_here : (ms : List Mark) (e : End leaves.Leaf) (behind : List Mark)
+    → IsBareAt (first_mark ms) e → IsBareAt (first_mark (with_mark ms e behind)) e
+bare_here ms (branch w) behind h = tt
+bare_here ms (leaf (leaves.dead x)) behind h = tt
+bare_here ms (leaf (leaves.clash k)) behind h = tt
+bare_here ms (leaf (leaves.refuted ys)) behind h = tt
+bare_here ms (leaf (leaves.bounded d ys)) behind h = tt
+bare_here ms (leaf (leaves.charged c)) behind h = tt
+bare_here ms (leaf (leaves.untried None)) behind h = tt
+bare_here ms (leaf (leaves.untried (Some low))) behind h = h
+
+pub marks_for_bare : (ts : Tree) (ms : List Mark) → AreBare ms ts → AreBare (marks_for ts ms) ts
+marks_for_bare [] ms h = tt
+marks_for_bare (t ∷ ts) ms h =
+    let rest : List Mark = marks_for ts (marks_behind ms t.end) in (
+      bare_here ms t.end rest h.0,
+      subst (λ (ns : List Mark). AreBare ns ts) (sym (same_behind ms t.end rest))
+          (marks_for_bare ts (marks_behind ms t.end) h.1),
+    )
 
 -- ---- numbers
 
@@ -79,7 +105,8 @@ behind_numbered ms (leaf (leaves.dead x)) h = h
 behind_numbered ms (leaf (leaves.clash k)) h = h
 behind_numbered ms (leaf (leaves.refuted ys)) h = h
 behind_numbered ms (leaf (leaves.bounded d ys)) h = h
-behind_numbered ms (leaf leaves.untried) h = others_numbered ms h
+behind_numbered ms (leaf (leaves.charged c)) h = h
+behind_numbered ms (leaf (leaves.untried low)) h = others_numbered ms h
 
 -- a mark in range that is numbered
 mark_fits : (m : Mark) → AreNumbered (m ∷ []) → IsMarkInRange m → FitsMark m
@@ -101,7 +128,8 @@ behind_kept ms (leaf (leaves.dead x)) h = h
 behind_kept ms (leaf (leaves.clash k)) h = h
 behind_kept ms (leaf (leaves.refuted ys)) h = h
 behind_kept ms (leaf (leaves.bounded d ys)) h = h
-behind_kept ms (leaf leaves.untried) h = others_kept ms h
+behind_kept ms (leaf (leaves.charged c)) h = h
+behind_kept ms (leaf (leaves.untried low)) h = others_kept ms h
 
 with_mark_fits : (ms : List Mark) (e : End leaves.Leaf) (behind : List Mark) → AreNumbered ms
     → Each IsMarkInRange ms → Each FitsMark behind → Each FitsMark (with_mark ms e behind)
@@ -110,7 +138,8 @@ with_mark_fits ms (leaf (leaves.dead x)) behind numbered kept fits = fits
 with_mark_fits ms (leaf (leaves.clash k)) behind numbered kept fits = fits
 with_mark_fits ms (leaf (leaves.refuted ys)) behind numbered kept fits = fits
 with_mark_fits ms (leaf (leaves.bounded d ys)) behind numbered kept fits = fits
-with_mark_fits ms (leaf leaves.untried) behind numbered kept fits =
+with_mark_fits ms (leaf (leaves.charged c)) behind numbered kept fits = fits
+with_mark_fits ms (leaf (leaves.untried low)) behind numbered kept fits =
     (first_fits ms numbered kept, fits)
 
 pub marks_for_fit : (ts : Tree) (ms : List Mark) → AreNumbered ms → Each IsMarkInRange ms

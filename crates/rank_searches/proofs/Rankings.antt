@@ -42,7 +42,7 @@ use Rattle.endings.proofs.Printing.{spelled_text}
 use Rattle.rank_searches.specs.Normal.{normal, marks_for, IsMarkInRange}
 use Rattle.studio_rules.specs.Rank.{AreTextOf, Lists, Ranks, Holds, RankWork}
 use Rattle.rank_searches.specs.Found.{ranking_found, RankingSays, FoundSays}
-use Rattle.rank_searches.proofs.Marks.{marks_for_length, same_tree, marks_for_fit}
+use Rattle.rank_searches.proofs.Marks.{marks_for_length, same_tree, marks_for_bare, marks_for_fit}
 
 some_is : {A : Type 0} (P : A → Type 0) (a b : A) → Some a ≡ Some b → P a → P b
 some_is P a b e h = subst P (let e' : a ≡ b = cc in e') h
@@ -57,7 +57,7 @@ networks_fit p (w ∷ ws) known kept =
     (record { known = known.0; kept = kept.0 }, networks_fit p ws known.1 kept.1)
 
 pub fits : (p : Problem) (t : Text) → KnowsText p t → IsTree t.tree
-    → IsCounted t.count t.networks t.marks → t.count < 2 ^ 32 → length t.tree < 2 ^ 32
+    → IsCounted t.count t.networks t.tree t.marks → t.count < 2 ^ 32 → length t.tree < 2 ^ 32
     → Each IsKept t.networks → Each IsMarkInRange t.marks → CountsTail t.tail → Fits p (normal t)
 fits p t known whole counted held few kept ranged tail =
     let asked = counted.asked in
@@ -68,6 +68,7 @@ fits p t known whole counted held few kept ranged tail =
       tree = record { whole = whole; known = known.tree; counted = tree_counted t.tree whole few };
       marks = marks_for_fit t.tree t.marks counted.numbered ranged;
       marked = marks_for_length t.tree t.marks;
+      bare = marks_for_bare t.tree t.marks counted.bare;
       tail = record { known = known.tail; counted = tail };
     }
 

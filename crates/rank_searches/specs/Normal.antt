@@ -4,7 +4,7 @@
 use Rattle.std.specs.Prelude.{◌≤◌, ℕ, List, [], ◌∷◌, Some, None}
 use Rattle.integer_laws.specs.Range.{InRange, AllInRange}
 use Rattle.tree_rules.specs.Tree.{TreeNode, End, branch, leaf}
-use Rattle.tree_rules.specs.Leaf.{Leaf, dead, clash, refuted, bounded, untried}
+use Rattle.tree_rules.specs.Leaf.{Leaf, dead, clash, refuted, bounded, charged, untried}
 use Rattle.tree_rules.specs.Accepted.{Tree}
 use Rattle.rank_rules.specs.Marked.{Mark, first_mark, marks_behind}
 use Rattle.rank_rules.specs.Text.{Text}
@@ -16,7 +16,8 @@ with_mark ms (leaf (dead x)) behind = behind
 with_mark ms (leaf (clash k)) behind = behind
 with_mark ms (leaf (refuted ys)) behind = behind
 with_mark ms (leaf (bounded d ys)) behind = behind
-with_mark ms (leaf untried) behind = first_mark ms ∷ behind
+with_mark ms (leaf (charged h)) behind = behind
+with_mark ms (leaf (untried low)) behind = first_mark ms ∷ behind
 
 abbrev pub marks_for : Tree → List Mark → List Mark
 marks_for [] ms = []

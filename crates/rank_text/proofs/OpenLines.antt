@@ -99,27 +99,50 @@ named_again n fits =
 abbrev pub IsShut : List Token → Type 0
 IsShut line = (is_first (word_text Open) line ≡ false) × (is_first named_word line ≡ false)
 
+-- a line of an open leaf with a bound
+pub record IsLow (line : List Token) : Type 0 where
+  pub opens : is_first (word_text Open) line ≡ true
+  pub not_named : is_first named_word line ≡ false
+  pub more : line ≡ open_tokens → ⊥
+
 -- ---- lines, and a place for the line of each open leaf
 
+-- a line that stands for itself, that of an open leaf, and that of an open leaf with a bound, which
+-- names no network
+pub data Spot : Type 0 where
+  still : List Token → Spot
+  place : Spot
+  low : List Token → Spot
+
 abbrev pub Form : Type 0
-Form = List (Option (List Token))
+Form = List Spot
 
 abbrev pub AreShut : Form → Type 0
 AreShut [] = Unit {0}
-AreShut (None ∷ form) = AreShut form
-AreShut (Some line ∷ form) = IsShut line × AreShut form
+AreShut (place ∷ form) = AreShut form
+AreShut (still line ∷ form) = IsShut line × AreShut form
+AreShut (low line ∷ form) = IsLow line × AreShut form
 
 -- with the lines of these marks, and lines `open` after the last mark; so without marks the lines
 -- of a tree text
 abbrev pub filled : List Mark → Form → List (List Token)
 filled ms [] = []
-filled ms (None ∷ form) = mark_line (first_mark ms) ∷ filled (other_marks ms) form
-filled ms (Some line ∷ form) = line ∷ filled ms form
+filled ms (place ∷ form) = mark_line (first_mark ms) ∷ filled (other_marks ms) form
+filled ms (still line ∷ form) = line ∷ filled ms form
+filled ms (low line ∷ form) = line ∷ filled (other_marks ms) form
 
 abbrev pub places : Form → ℕ
 places [] = 0
-places (None ∷ form) = 1 + places form
-places (Some line ∷ form) = places form
+places (place ∷ form) = 1 + places form
+places (still line ∷ form) = places form
+places (low line ∷ form) = 1 + places form
+
+-- no leaf with a bound names a network
+abbrev pub AreOpen : List Mark → Form → Type 0
+AreOpen ms [] = Unit {0}
+AreOpen ms (place ∷ form) = AreOpen (other_marks ms) form
+AreOpen ms (still line ∷ form) = AreOpen ms form
+AreOpen ms (low line ∷ form) = (first_mark ms ≡ None) × AreOpen (other_marks ms) form
 
 -- ---- what a line is
 
@@ -172,6 +195,14 @@ module _ (line : List Token) (each : Each IsToken line) (shut : IsShut line) whe
   mark_shut : mark_read (line_of line) ≡ None
   mark_shut = mark_said line each ∙ ap₂ (λ (b c : Bool). mark_as b c (line_of line)) shut.1 shut.0
 
+module _ (line : List Token) (each : Each IsToken line) (is : IsLow line) where
+  opened_low : opened (line_of line) ≡ line_of line
+  opened_low = opened_said line each ∙ ap (λ (b : Bool). opened_as b (line_of line)) is.not_named
+
+  mark_low : mark_read (line_of line) ≡ Some (Ok None)
+  mark_low = mark_said line each
+      ∙ ap₂ (λ (b c : Bool). mark_as b c (line_of line)) is.not_named is.opens
+
 mark_opened : (m : Mark) → FitsMark m → opened (line_of (mark_line m)) ≡ line_of open_tokens
 mark_opened None fits = opened_said open_tokens (mark_tokens None tt)
 mark_opened (Some n) fits = opened_said (mark_line (Some n)) (mark_tokens (Some n) fits)
@@ -212,16 +243,36 @@ gives_shut {marked} line each shut rest = record {
   tokens = (each, rest.tokens);
 }
 
+gives_low : {ms : List Mark} {marked plain : List (List Token)} (line : List Token) (m : Mark)
+    → m ≡ None → Each IsToken line → IsLow line → Gives ms marked plain
+    → Gives (m ∷ ms) (line ∷ marked) (line ∷ plain)
+unfolding goes
+gives_low {ms} {marked} {plain} line m none each is rest =
+    subst (λ (n : Mark). Gives (n ∷ ms) (line ∷ marked) (line ∷ plain)) (sym none)
+    record {
+      opened_are =
+          ap₂ (λ (l : Line) (ls : List Line). l ∷ ls) (opened_low line each is) rest.opened_are;
+      marks_are =
+          λ number. at_line number (line_of line) (lines_said marked) (Some (Ok None))
+          (mark_low line each is) ∙ ap (with_marks (None ∷ [])) (rest.marks_are (suc number));
+      tokens = (each, rest.tokens);
+    }
+
 pub gives : (form : Form) (ms : List Mark) → AreShut form → Each (Each IsToken) (filled [] form)
-    → Each FitsMark ms → length ms ≡ places form → Gives ms (filled ms form) (filled [] form)
-gives [] [] shut each fits count =
+    → Each FitsMark ms → length ms ≡ places form → AreOpen ms form
+    → Gives ms (filled ms form) (filled [] form)
+gives [] [] shut each fits count opened =
     record { opened_are = refl; marks_are = λ number. refl; tokens = tt }
-gives [] (m ∷ ms) shut each fits count = absurd cc
-gives (None ∷ form) [] shut each fits count = absurd (omega (arith, count))
-gives (None ∷ form) (m ∷ ms) shut each fits count =
-    gives_open m fits.0 (gives form ms shut each.1 fits.1 (omega (arith, count)))
-gives (Some line ∷ form) ms shut each fits count =
-    gives_shut line each.0 shut.0 (gives form ms shut.1 each.1 fits count)
+gives [] (m ∷ ms) shut each fits count opened = absurd cc
+gives (place ∷ form) [] shut each fits count opened = absurd (omega (arith, count))
+gives (place ∷ form) (m ∷ ms) shut each fits count opened =
+    gives_open m fits.0 (gives form ms shut each.1 fits.1 (omega (arith, count)) opened)
+gives (still line ∷ form) ms shut each fits count opened =
+    gives_shut line each.0 shut.0 (gives form ms shut.1 each.1 fits count opened)
+gives (low line ∷ form) [] shut each fits count opened = absurd (omega (arith, count))
+gives (low line ∷ form) (m ∷ ms) shut each fits count opened =
+    gives_low line m opened.0 each.0 shut.0
+    (gives form ms shut.1 each.1 fits.1 (omega (arith, count)) opened.1)
 
 -- ---- lines whose lines of a tree text are these are the lines with marks
 
@@ -229,6 +280,12 @@ pub record Comes (lines : List Line) (ms : List Mark) (form : Form) : Type 0 whe
   pub lines_are : lines ≡ lines_said (filled ms form)
   pub fits : Each FitsMark ms
   pub count : length ms ≡ places form
+  pub opened : AreOpen ms form
+
+low_tokens : (l : List Token) → is_first (word_text Open) l ≡ true → Each IsToken l
+    → tokens_of (line_of l) ≡ l
+low_tokens [] opens each = absurd cc
+low_tokens (token ∷ tokens) opens each = tokens_said token tokens each.0 each.1
 
 module _ (form : Form) (line : Line) (lines : List Line)
     (rest : (number : ℕ) (ms : List Mark) → marks_taken number lines ≡ Ok ms → Comes lines ms form)
@@ -239,22 +296,23 @@ module _ (form : Form) (line : Line) (lines : List Line)
   -- one mark, and those of the lines after it
   comes_mark : (m : Mark) → FitsMark m → line ≡ line_of (mark_line m)
       → with_marks (m ∷ []) (marks_taken (suc number) lines) ≡ Ok ms
-      → Comes (line ∷ lines) ms (None ∷ form)
+      → Comes (line ∷ lines) ms (place ∷ form)
   comes_mark m fits is e =
       let others = with_ok m (marks_taken (suc number) lines) ms e in
       let r = rest (suc number) others.0 others.1 in
       let count = r.count in
-      subst (λ (ns : List Mark). Comes (line ∷ lines) ns (None ∷ form)) (sym others.2)
+      subst (λ (ns : List Mark). Comes (line ∷ lines) ns (place ∷ form)) (sym others.2)
       record {
         lines_are = ap₂ (λ (l : Line) (ls : List Line). l ∷ ls) is r.lines_are;
         fits =
             (fits, r.fits);
         count = omega (arith, count);
+        opened = r.opened;
       }
 
   -- a line that names a network stands for `open`
   comes_open : (named : Bool) → begins_by named_word line ≡ named
-      → opened_as named line ≡ line_of open_tokens → Comes (line ∷ lines) ms (None ∷ form)
+      → opened_as named line ≡ line_of open_tokens → Comes (line ∷ lines) ms (place ∷ form)
   unfolding goes
   comes_open true named is =
       let got =
@@ -271,7 +329,7 @@ module _ (form : Form) (line : Line) (lines : List Line)
   -- each other line stands for itself
   comes_shut : (l : List Token) → Each IsToken l → IsShut l → (named : Bool)
       → begins_by named_word line ≡ named → opened_as named line ≡ line_of l
-      → Comes (line ∷ lines) ms (Some l ∷ form)
+      → Comes (line ∷ lines) ms (still l ∷ form)
   unfolding goes
   comes_shut l each shut true named is =
       let yes : true ≡ false = ap (begins_by (word_text Open)) is
@@ -284,6 +342,34 @@ module _ (form : Form) (line : Line) (lines : List Line)
         fits =
             r.fits;
         count = r.count;
+        opened = r.opened;
+      }
+
+  -- the line of an open leaf with a bound is open, and names no network
+  comes_low : (l : List Token) → Each IsToken l → IsLow l → (named : Bool)
+      → begins_by named_word line ≡ named → opened_as named line ≡ line_of l
+      → Comes (line ∷ lines) ms (low l ∷ form)
+  unfolding goes
+  comes_low l each is true named same =
+      let texts : word_text Open ≡ (line_of l).text = ap (λ (x : Line). x.text) same in
+      let tokens : open_tokens ≡ l =
+      sym (tokens_said (word_text Open) [] (mark_tokens None tt).0 tt)
+      ∙ ap (λ (t : List ℕ). tokens_of (record { text = t; ended = true })) texts
+      ∙ low_tokens l is.opens each in
+      absurd (is.more (sym tokens))
+  comes_low l each is false named same =
+      let others =
+      with_ok None (marks_taken (suc number) lines) ms
+      (read_as (Some (Ok None)) (ap mark_read same ∙ mark_low l each is)) in
+      let r = rest (suc number) others.0 others.1 in
+      let count = r.count in
+      subst (λ (ns : List Mark). Comes (line ∷ lines) ns (low l ∷ form)) (sym others.2)
+      record {
+        lines_are = ap₂ (λ (l : Line) (ls : List Line). l ∷ ls) same r.lines_are;
+        fits =
+            (tt, r.fits);
+        count = omega (arith, count);
+        opened = (refl, r.opened);
       }
 
 lines_apart : (l m : Line) (ls ms : List Line) → l ∷ ls ≡ m ∷ ms → (l ≡ m) × (ls ≡ ms)
@@ -292,21 +378,29 @@ lines_apart l m ls ms e = (cc, cc)
 pub comes : (form : Form) (lines : List Line) → AreShut form → Each (Each IsToken) (filled [] form)
     → map opened lines ≡ lines_said (filled [] form) → (number : ℕ) (ms : List Mark)
     → marks_taken number lines ≡ Ok ms → Comes lines ms form
-comes [] [] shut each e number [] read = record { lines_are = refl; fits = tt; count = refl }
+comes [] [] shut each e number [] read =
+    record { lines_are = refl; fits = tt; count = refl; opened = tt }
 comes [] [] shut each e number (m ∷ ms) read = absurd cc
 comes [] (line ∷ lines) shut each e number ms read = absurd cc
-comes (None ∷ form) [] shut each e number ms read = absurd cc
-comes (Some l ∷ form) [] shut each e number ms read = absurd cc
-comes (None ∷ form) (line ∷ lines) shut each e number ms read =
+comes (place ∷ form) [] shut each e number ms read = absurd cc
+comes (still l ∷ form) [] shut each e number ms read = absurd cc
+comes (low l ∷ form) [] shut each e number ms read = absurd cc
+comes (place ∷ form) (line ∷ lines) shut each e number ms read =
     let both =
     lines_apart (opened line) (line_of open_tokens) (map opened lines)
     (lines_said (filled [] form)) e in
     comes_open form line lines
     (λ number ms read. comes form lines shut each.1 both.1 number ms read) number ms read
     (begins_by named_word line) refl both.0
-comes (Some l ∷ form) (line ∷ lines) shut each e number ms read =
+comes (still l ∷ form) (line ∷ lines) shut each e number ms read =
     let both =
     lines_apart (opened line) (line_of l) (map opened lines) (lines_said (filled [] form)) e in
     comes_shut form line lines
+    (λ number ms read. comes form lines shut.1 each.1 both.1 number ms read) number ms read l
+    each.0 shut.0 (begins_by named_word line) refl both.0
+comes (low l ∷ form) (line ∷ lines) shut each e number ms read =
+    let both =
+    lines_apart (opened line) (line_of l) (map opened lines) (lines_said (filled [] form)) e in
+    comes_low form line lines
     (λ number ms read. comes form lines shut.1 each.1 both.1 number ms read) number ms read l
     each.0 shut.0 (begins_by named_word line) refl both.0

@@ -29,10 +29,11 @@ use Rattle.tree_text_laws.proofs.Codes.{one_fields}
 use Rattle.tree_text_laws.proofs.Decimals.{counts}
 use Rattle.tree_text_laws.proofs.Said.{no_feed, tokens_said, formed_said, line_from}
 use Rattle.tree_text_laws.specs.Fits.{FitsNetwork, FitsTree, FitsTail}
-use Rattle.tree_text_laws.specs.Lines.{lines_said, TakesJust, ReadsJust}
+use Rattle.tree_text_laws.specs.Lines.{lines_said, TakesJust, TakesBefore, ReadsJust, BeginsNoSet}
+use Rattle.tree_text_laws.proofs.Tails.{tail_no_set}
 use Rattle.tree_text_laws.proofs.Parts.{good_is, on_line_ok, then_ok, first_back, first_again}
 use Rattle.rank_rules.specs.Marked.{Mark}
-use Rattle.rank_rules.specs.Text.{Text, AreNumbered}
+use Rattle.rank_rules.specs.Text.{Text, AreNumbered, AreBare}
 use Rattle.rank_rules.specs.Opened.{opened, marks_taken}
 use Rattle.rank_rules.specs.Read.{file_type_read, behind_word, word_read, count_read, networks_read}
 use Rattle.rank_rules.specs.Read.{with_network, networks_taken, Grown, with_tail, grown_taken}
@@ -154,7 +155,7 @@ network_ok w (Ok rest) taken e = (rest, refl, cc)
 network_ok w (Err fault) taken e = absurd cc
 
 module _ (p : Problem) (formed : IsWellFormed p)
-    (trees : TakesJust (tree_taken p) (plain.tree_lines p) (FitsTree p))
+    (trees : TakesBefore (BeginsNoSet p) (tree_taken p) (plain.tree_lines p) (FitsTree p))
     (tails : ReadsJust (tail_taken p) (plain.tail_lines p) (FitsTail p)) where
   -- ---- the tree and the tail
 
@@ -170,7 +171,8 @@ module _ (p : Problem) (formed : IsWellFormed p)
       ∙ ap
       (λ (r : Result (Taken Tree) Fault). then_read r
       (λ tree number lines. with_tail tree (tail_taken p number lines)))
-      (trees.takes tree number (lines_said (plain.tail_lines p tail)) fits)
+      (trees.takes tree number (lines_said (plain.tail_lines p tail)) fits
+      (tail_no_set p formed tail fits'))
       ∙ ap (with_tail tree) (tails.reads tail (number + length (plain.tree_lines p tree)) fits')
 
   grown_back : (number : ℕ) (lines : List Line) (g : Grown) → grown_taken p number lines ≡ Ok g
@@ -204,6 +206,7 @@ module _ (p : Problem) (formed : IsWellFormed p)
     pub tree : FitsTree p t.tree
     pub marks : Each FitsMark t.marks
     pub marked : length t.marks ≡ opens t.tree
+    pub bare : AreBare t.marks t.tree
     pub tail : FitsTail p t.tail
 
   pub behind_back : (count : ℕ) (ws : List Network) (number : ℕ) (lines : List Line) (t : Text)
@@ -226,6 +229,7 @@ module _ (p : Problem) (formed : IsWellFormed p)
         marks = come.1;
         marked =
             come.2;
+        bare = come.3;
         tail = grown.2;
       }
 
@@ -308,7 +312,7 @@ module _ (p : Problem) (formed : IsWellFormed p)
       all_given : Gives t.marks (grown_lines p t) (plain_grown t.tree t.tail)
       all_given =
           both_given p t.tree t.tail t.marks
-          (both_tokens p formed t.tree t.tail fits.tree fits.tail) fits.marks fits.marked
+          (both_tokens p formed t.tree t.tail fits.tree fits.tail) fits.marks fits.marked fits.bare
 
       behind_again : (number : ℕ)
           → behind_networks p t.count t.networks number (lines_said (grown_lines p t)) ≡ Ok t
@@ -388,6 +392,7 @@ module _ (p : Problem) (formed : IsWellFormed p)
             marks =
                 back.marks;
             marked = back.marked;
+            bare = back.bare;
             tail = back.tail;
           },
         )

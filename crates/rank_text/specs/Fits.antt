@@ -1,5 +1,6 @@
 -- What the text of a ranking can have: networks, a tree and a tail that a tree text can have, and
--- for each open leaf of the tree one mark, with numbers in range.
+-- for each open leaf of the tree one mark, with numbers in range. An open leaf with a bound names
+-- no network.
 use Rattle.std.specs.Prelude.{◌≡◌, ◌≤◌, ◌+◌, ℕ, [], ◌∷◌, length, Some, None}
 use Rattle.integer_laws.specs.Range.{InRange, AllInRange}
 use Rattle.problem_rules.specs.Each.{Each}
@@ -10,7 +11,7 @@ use Rattle.tree_rules.specs.Accepted.{Tree}
 use Rattle.tree_text_laws.specs.LineFits.{IsSomeCount}
 use Rattle.tree_text_laws.specs.Fits.{FitsNetwork, FitsTree, FitsTail}
 use Rattle.rank_rules.specs.Marked.{Mark}
-use Rattle.rank_rules.specs.Text.{Text}
+use Rattle.rank_rules.specs.Text.{Text, AreBare}
 
 -- how many open leaves there are
 abbrev pub opens_at : trees.End leaves.Leaf → ℕ
@@ -19,7 +20,8 @@ opens_at (trees.leaf (leaves.dead x)) = 0
 opens_at (trees.leaf (leaves.clash k)) = 0
 opens_at (trees.leaf (leaves.refuted ys)) = 0
 opens_at (trees.leaf (leaves.bounded d ys)) = 0
-opens_at (trees.leaf leaves.untried) = 1
+opens_at (trees.leaf (leaves.charged h)) = 0
+opens_at (trees.leaf (leaves.untried low)) = 1
 
 abbrev pub opens : Tree → ℕ
 opens [] = 0
@@ -36,4 +38,5 @@ pub record Fits (p : Problem) (t : Text) : Type 0 where
   pub tree : FitsTree p t.tree
   pub marks : Each FitsMark t.marks
   pub marked : length t.marks ≡ opens t.tree
+  pub bare : AreBare t.marks t.tree
   pub tail : FitsTail p t.tail

@@ -3,19 +3,17 @@ ghost use Rattle.std.specs.Prelude.{◌≡◌, ◌≤◌, ◌++◌, ◌∷◌, [
 ghost use Rattle.problem_rules.specs.Each.{Each};
 ghost use Rattle.tree_rules.specs.Known.{KnowsEnd, KnowsNode, KnowsTree};
 ghost use Rattle.branch_tree.specs.View.{end_of};
-ghost use Rattle.tree_rules.specs.Tree.{leaf};
 ghost use Rattle.tree_text_rules.specs.Spelling as trees;
 ghost use Rattle.tree_text.specs.Prints.{Prints};
-ghost use Rattle.rank_rules.specs.Marked.{marked, marked_node, marked_end, marked_leaf};
-ghost use Rattle.rank_rules.specs.Marked.{marks_behind};
+ghost use Rattle.rank_rules.specs.Marked.{marked, marked_node, marked_end, marks_behind};
 ghost use Rattle.ranked_tree.specs.View.{mark_of};
 ghost use Rattle.ranked_tree.specs.Known.{KnowsNetwork};
 ghost use Rattle.rank_text.specs.Known.{KnowsText};
-ghost use Rattle.rank_rules.specs.Spelling.{count_word, networks_word, file_type, end_line};
-ghost use Rattle.rank_rules.specs.Spelling.{node_lines, tree_lines, rank_text_lines};
+ghost use Rattle.rank_rules.specs.Spelling.{count_word, networks_word, file_type, named_line};
+ghost use Rattle.rank_rules.specs.Spelling.{end_with_sets, node_lines, tree_lines, rank_text_lines};
 
 use crate::line::{count_line, named_line};
-use branch_tree::{End, Network, TreeNode};
+use branch_tree::{End, Network, Scaled, TreeNode};
 use pns_io::Sink;
 use pns_problem::Problem;
 use ranked_tree::{Mark, RankText};
@@ -65,28 +63,23 @@ fn put_networks<K: Sink>(
     Ok(())
 }
 
-// The line of a leaf with this mark.
-fn put_mark<K: Sink>(
+// The line of a leaf that names a network.
+fn put_named<K: Sink>(
     alloc: Global,
-    problem: &Problem,
-    mark: &Mark,
+    network: u32,
+    scaled: &Scaled,
     out: &mut K,
 ) -> Result<(), PrintFault>
-    ensures prints { Prints (end_line problem.now (leaf (marked_leaf (mark_of mark.now))) ∷ [])
-        (K.state out.old) (K.state out.new) result }
+    ensures prints { Prints (named_line network scaled.now.d scaled.now.ys ∷ []) (K.state out.old)
+        (K.state out.new) result }
     ensures later { (K.state out.old).faults ≤ (K.state out.new).faults }
 {
-    match mark {
-        Mark::Named { network, scaled } => {
-            let mut line = String::new(alloc);
-            let made = named_line(&mut line, *network, scaled);
-            put_line(out, &mut line, made)
-        }
-        Mark::Open => print_end(alloc, problem, &End::Open, out),
-    }
+    let mut line = String::new(alloc);
+    let made = named_line(&mut line, network, scaled);
+    put_line(out, &mut line, made)
 }
 
-// The line of an end. If it is an open leaf, the first mark is its mark. A leaf without a mark is
+// The lines of an end, if the first mark is that of the first open leaf. A leaf without a mark is
 // open.
 fn put_end<K: Sink>(
     alloc: Global,
@@ -97,14 +90,14 @@ fn put_end<K: Sink>(
 ) -> Result<(), PrintFault>
     requires known { KnowsEnd problem.now (end_of end.now) }
     ensures prints { Prints
-        (end_line problem.now (marked_end (map mark_of marks.now) (end_of end.now)) ∷ [])
+        (end_with_sets problem.now (marked_end (map mark_of marks.now) (end_of end.now)))
         (K.state out.old) (K.state out.new) result }
     ensures later { (K.state out.old).faults ≤ (K.state out.new).faults }
 {
     match end {
-        End::Open => match marks {
-            [first, ..] => put_mark(alloc, problem, first, out),
-            [] => print_end(alloc, problem, end, out),
+        End::Open(_) => match marks {
+            [Mark::Named { network, scaled }, ..] => put_named(alloc, *network, scaled, out),
+            [Mark::Open, ..] | [] => print_end(alloc, problem, end, out),
         },
         _ => print_end(alloc, problem, end, out),
     }
@@ -131,7 +124,7 @@ fn marks_behind<'a>(end: &End, marks: &'a [Mark]) -> &'a [Mark]
     ensures { map mark_of result.now ≡ marks_behind (map mark_of marks.now) (end_of end.now) }
 {
     match end {
-        End::Open => match marks {
+        End::Open(_) => match marks {
             [_, rest @ ..] => rest,
             [] => marks,
         },

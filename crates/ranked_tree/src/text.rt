@@ -11,7 +11,8 @@ use std::marker::Model;
 /// The number of networks asked for, those that were found, best first, and the tree that is to
 /// prove that no other is better. With the tree are a mark for each of its open leaves in preorder,
 /// and the tail, which says why a search stopped. At least one network was asked for, no more are
-/// there, and networks are named by their numbers from 1 on.
+/// there, and networks are named by their numbers from 1 on. A leaf that names one has no bound of
+/// its own.
 #[derive(Drop)]
 pub struct RankText {
     count: u32,
@@ -38,7 +39,8 @@ impl Model for RankText {
       tail = tail_of t.tail;
     } };
 
-    ghost invariant = { λ t. specs.IsCounted t.count t.networks.items (map mark_of t.marks.items) };
+    ghost invariant = { λ t. specs.IsCounted t.count t.networks.items t.tree
+        (map mark_of t.marks.items) };
 }
 
 impl RankText {
@@ -50,7 +52,7 @@ impl RankText {
         marks: Vec<Mark>,
         tail: Tail,
     ) -> RankText
-        requires { IsCounted count networks.items (map mark_of marks.items) }
+        requires { IsCounted count networks.items tree (map mark_of marks.items) }
         ensures { result
             ≡ record {
               count = count;
@@ -107,7 +109,7 @@ impl RankText {
 
     /// The counts are within their bounds. A call shows this to a proof, and does nothing.
     pub fn is_counted(&self)
-        ensures counted { IsCounted self.now.count self.now.networks self.now.marks }
+        ensures counted { IsCounted self.now.count self.now.networks self.now.tree self.now.marks }
         ensures few { length self.now.networks < 2 ^ 32 }
     {
         let _count = self.count;

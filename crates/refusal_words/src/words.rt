@@ -29,6 +29,7 @@ pub fn why_word(why: Why) -> &'static str
         Why::Clash => "clash",
         Why::Refuted => "refuted",
         Why::Bound => "bound",
+        Why::Cover => "some",
         Why::Sum => "sum",
     }
 }

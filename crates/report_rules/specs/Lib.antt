@@ -1,5 +1,6 @@
 pub mod Aligned
 pub mod Amounts
+pub mod Clash
 pub mod Decimal
 pub mod Drawn
 pub mod Graph

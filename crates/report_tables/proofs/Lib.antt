@@ -1,4 +1,4 @@
 mod Bounds
 mod LeftOut
-mod Pieces
+pub mod Pieces
 mod Walk

@@ -55,7 +55,8 @@ fn push_names(text: &mut String, problem: &Problem, units: UnitSet) -> Result<()
     Ok(())
 }
 
-fn push_names_or_none(
+/// Appends the names of the units, each after a space, or ` none` if there is none.
+pub fn push_names_or_none(
     text: &mut String,
     problem: &Problem,
     units: UnitSet,

@@ -22,7 +22,7 @@ mod tables;
 mod text;
 mod units;
 
-pub use foot::left_out;
+pub use foot::{left_out, push_names_or_none};
 pub use materials::material_limit;
 pub use money::push_total;
 pub use text::report_of;

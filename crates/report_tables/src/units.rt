@@ -89,7 +89,8 @@ fn push_costs(
     ensures { OnOk result
         (row.new ≡ row.old ++ number_cell (amount Fixed problem.now network.now u)
         ∷ number_cell (amount Proportional problem.now network.now u)
-        ∷ number_cell (amount Investment problem.now network.now u) ∷ number_cell (amount Total problem.now network.now u) ∷ []) }
+        ∷ number_cell (amount Investment problem.now network.now u)
+        ∷ number_cell (amount Total problem.now network.now u) ∷ []) }
 {
     let costs = [
         amount(UnitAmount::Fixed, problem, network, u),
@@ -123,7 +124,8 @@ fn push_sums(
     ensures { OnOk result
         (row.new ≡ row.old ++ number_cell (unit_sum Fixed problem.now network.now)
         ∷ number_cell (unit_sum Proportional problem.now network.now)
-        ∷ number_cell (unit_sum Investment problem.now network.now) ∷ number_cell (unit_sum Total problem.now network.now) ∷ []) }
+        ∷ number_cell (unit_sum Investment problem.now network.now)
+        ∷ number_cell (unit_sum Total problem.now network.now) ∷ []) }
 {
     let sums = [
         unit_sum(UnitAmount::Fixed, problem, network),

@@ -1,6 +1,6 @@
 -- The nodes of a lean tree, with the children that an open leaf may have, are few.
 use Rattle.std.proofs.Common.{◌≡◌, ℕ, zero, suc, ◌+◌, ◌*◌, ◌^◌, ◌<◌, ◌≤◌, Bool, false, List, []}
-use Rattle.std.proofs.Common.{◌∷◌, ◌++◌, length, refl, sym, subst, arith, length-append}
+use Rattle.std.proofs.Common.{◌∷◌, ◌++◌, length, Option, refl, sym, subst, arith, length-append}
 use Rattle.std.proofs.lemmas.List.{length-map}
 use Rattle.std.proofs.Math.Nat.{one-le-pow, pow-le-pow_right}
 use Rattle.number_sets.specs.Sets.{listed}
@@ -13,7 +13,7 @@ use Rattle.tree_rules.specs.Ways.{Way, at_material, MayBranch, options_at, child
 use Rattle.tree_rules.specs.Ways.{IsDecision}
 use Rattle.tree_rules.specs.Tree.{End, branch, leaf, TreeNode, after_all, below, Stands, Pass}
 use Rattle.tree_rules.specs.Claim.{Claim, claimed_cost}
-use Rattle.tree_rules.specs.Leaf.{Leaf, untried, IsUntried, LeafPasses}
+use Rattle.tree_rules.specs.Leaf.{Leaf, untried, Scaled, IsUntried, LeafPasses}
 use Rattle.tree_rules.specs.Lean.{IsLean}
 use Rattle.tree_rules.specs.Accepted.{Tree, Proves}
 use Rattle.tree_laws.proofs.CountLemmas.{length-listed, double, free_count}
@@ -152,31 +152,34 @@ module _ (p : Problem) (proper : IsProper (shape_of p)) (partial : Bool) (start 
         omega (arith, small, most)
 
     -- the root is reduced, or it is the leaf at which a material is to decide
-    root_reduced : (k : ℕ) (n : Node) → Stands (shape_of p) (start ∷ []) (t ∷ ts) k n (leaf untried)
+    root_reduced : (k : ℕ) (n : Node) (low : Option Scaled)
+        → Stands (shape_of p) (start ∷ []) (t ∷ ts) k n (leaf (untried low))
         → IsReduced (shape_of p) n → (e : End Leaf) → t.end ≡ e → IsReduced (shape_of p) root
-    root_reduced k n s r (branch w) e = reduced_at w e
-    root_reduced zero n s r (leaf l) e = subst (λ (w : Node). IsReduced (shape_of p) w) (sym s.0) r
-    root_reduced (suc k) n s r (leaf l) e =
+    root_reduced k n low s r (branch w) e = reduced_at w e
+    root_reduced zero n low s r (leaf l) e =
+        subst (λ (w : Node). IsReduced (shape_of p) w) (sym s.0) r
+    root_reduced (suc k) n low s r (leaf l) e =
         absurd (at (below (shape_of p) root t.end ++ []) ts (alone l e) s)
       where
         at : (ns : List Node) (us : List (TreeNode Leaf)) → us ≡ []
-            → Stands (shape_of p) ns us k n (leaf untried) → ⊥
+            → Stands (shape_of p) ns us k n (leaf (untried low)) → ⊥
         at [] us q h = absurd h
         at (m ∷ ms) [] q h = absurd h
         at (m ∷ ms) (u ∷ us) q h = cc
 
-    is_not_spent : (k : ℕ) (n : Node) → Stands (shape_of p) (start ∷ []) (t ∷ ts) k n (leaf untried)
+    is_not_spent : (k : ℕ) (n : Node) (low : Option Scaled)
+        → Stands (shape_of p) (start ∷ []) (t ∷ ts) k n (leaf (untried low))
         → IsReduced (shape_of p) n
         → (w : Way) → MayBranch (shape_of p) n w → IsDecision (shape_of p) n w
         → suc (length ts) + length (options_at (shape_of p) n w)
         < 2 ^ suc (length (listed (shape_of p).units all))
-    is_not_spent k n s r w may d =
+    is_not_spent k n low s r w may d =
         let small : suc (length ts) + 1 + length (options_at (shape_of p) n w)
         ≤ 2 ^ suc (free_count (shape_of p) root) + 0
         = few_with_options (shape_of p) (LeafPasses partial p (claimed_cost claim)) (root ∷ [])
-        (bare t ∷ ts) (tt, proves.passes.1, proves.passes.2) splits k n untried
-        (stands_bare (shape_of p) start t ts k n (leaf untried) s) w may d in
-        let most = at_most root sound (root_reduced k n s r t.end refl) in
+        (bare t ∷ ts) (tt, proves.passes.1, proves.passes.2) splits k n (untried low)
+        (stands_bare (shape_of p) start t ts k n (leaf (untried low)) s) w may d in
+        let most = at_most root sound (root_reduced k n low s r t.end refl) in
         omega (arith, small, most)
 
   pub lean_is_few : (tree : Tree) → Proves partial p start claim tree
@@ -192,25 +195,27 @@ module _ (p : Problem) (proper : IsProper (shape_of p)) (partial : Bool) (start 
       → IsLean p IsUntried (claimed_cost claim) start tree
       → (root : Node) (e : End Leaf) → Stands (shape_of p) (start ∷ []) tree 0 root e
       → IsSound (shape_of p) root
-      → (k : ℕ) (n : Node) → Stands (shape_of p) (start ∷ []) tree k n (leaf untried)
+      → (k : ℕ) (n : Node) (low : Option Scaled)
+      → Stands (shape_of p) (start ∷ []) tree k n (leaf (untried low))
       → IsReduced (shape_of p) n
       → (w : Way) → MayBranch (shape_of p) n w → IsDecision (shape_of p) n w
       → length tree + length (options_at (shape_of p) n w)
       < 2 ^ suc (length (listed (shape_of p).units all))
-  never_spent [] a lean top e s sound k n h r w may d = absurd s
-  never_spent (t ∷ ts) a lean top e s sound k n h r w may d =
-      is_not_spent t ts a lean (subst (λ (o : Node). IsSound (shape_of p) o) (sym s.0) sound) k n h
-      r w may d
+  never_spent [] a lean top e s sound k n low h r w may d = absurd s
+  never_spent (t ∷ ts) a lean top e s sound k n low h r w may d =
+      is_not_spent t ts a lean (subst (λ (o : Node). IsSound (shape_of p) o) (sym s.0) sound) k n
+      low h r w may d
 
   -- the same of a material that is still to decide
   pub spent_is_never : (tree : Tree) → Proves partial p start claim tree
       → IsLean p IsUntried (claimed_cost claim) start tree
       → (root : Node) (e : End Leaf) → Stands (shape_of p) (start ∷ []) tree 0 root e
       → IsSound (shape_of p) root
-      → (k : ℕ) (n : Node) → Stands (shape_of p) (start ∷ []) tree k n (leaf untried)
+      → (k : ℕ) (n : Node) (low : Option Scaled)
+      → Stands (shape_of p) (start ∷ []) tree k n (leaf (untried low))
       → IsReduced (shape_of p) n → (x : ℕ) → IsUndecided (shape_of p) n x
       → length tree + length (options (shape_of p) n x)
       < 2 ^ suc (length (listed (shape_of p).units all))
-  spent_is_never tree a lean root e s sound k n h r x undecided =
-      never_spent tree a lean root e s sound k n h r (at_material x 0) undecided.needed
+  spent_is_never tree a lean root e s sound k n low h r x undecided =
+      never_spent tree a lean root e s sound k n low h r (at_material x 0) undecided.needed
       (decisions_split (shape_of p) n x r undecided)

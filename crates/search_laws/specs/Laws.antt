@@ -1,7 +1,9 @@
 -- Laws of a best-first search of branch trees, each of which a public function of this crate has as
 -- its contract. Each holds for every shape of a valid problem, or for every valid problem.
-use Rattle.std.specs.Prelude.{◌≡◌, ℕ, suc, ◌+◌, ◌<◌, ◌≤◌, ◌^◌, Bool, true, false, List, [], ◌∷◌}
-use Rattle.std.specs.Prelude.{length}
+use Rattle.std.specs.Prelude.{◌≡◌, ℕ, suc, ◌+◌, ◌<◌, ◌≤◌, ◌^◌, Bool, true, false, List}
+use Rattle.std.specs.Prelude.{[]}
+use Rattle.std.specs.Prelude.{◌∷◌}
+use Rattle.std.specs.Prelude.{length, Option}
 use Rattle.std.specs.List.{sum_by}
 use Rattle.number_sets.specs.Sets.{listed, IsWithin, Avoids}
 use Rattle.number_sets.specs.Options.{IsIn}
@@ -9,12 +11,15 @@ use Rattle.problem_rules.specs.Problem.{Problem}
 use Rattle.problem_rules.specs.Validity.{IsValid}
 use Rattle.pns_rules.specs.Shape.{Shape, IsProper, shape_of}
 use Rattle.pns_rules.specs.Structure.{is_needed, IsStructure, IsUnion}
-use Rattle.pns_rules.specs.Nodes.{Node, Step, is_free, base_makers, free_makers, options, child}
-use Rattle.pns_rules.specs.Ends.{IsSound, IsDead, IsUndecided, IsNever, IsReduced, remaining}
-use Rattle.tree_rules.specs.Ways.{Way, either, MayBranch, options_at, child_at, IsDecision}
+use Rattle.pns_rules.specs.Nodes.{Node, Step, is_free, base_makers, free_makers, options}
+use Rattle.pns_rules.specs.Nodes.{child}
+use Rattle.pns_rules.specs.Ends.{IsSound, IsDead, IsUndecided, IsNever, IsReduced}
+use Rattle.pns_rules.specs.Ends.{remaining}
+use Rattle.tree_rules.specs.Ways.{Way, either, MayBranch, options_at, child_at}
+use Rattle.tree_rules.specs.Ways.{IsDecision}
 use Rattle.tree_rules.specs.Tree.{End, leaf, StepsPass, after_all, Stands}
 use Rattle.tree_rules.specs.Claim.{Claim, claimed_cost}
-use Rattle.tree_rules.specs.Leaf.{Leaf, untried, IsUntried}
+use Rattle.tree_rules.specs.Leaf.{Leaf, untried, Scaled, IsUntried}
 use Rattle.tree_rules.specs.Lean.{IsNoDearer, IsLean}
 use Rattle.tree_rules.specs.Accepted.{Tree, Proves}
 use Rattle.tree_laws.specs.Laws.{free_units}
@@ -25,12 +30,14 @@ use Rattle.search_laws.specs.Below.{IsBelow}
 -- each child is below its node, whichever way that is branched
 abbrev pub ChildrenAreBelow : Type 0
 ChildrenAreBelow =
-    (g : Shape) → IsProper g → (n : Node) (w : Way) (t : List ℕ) → Avoids n.inside n.outside
+    (g : Shape) → IsProper g → (n : Node) (w : Way) (t : List ℕ)
+    → Avoids n.inside n.outside
     → MayBranch g n w → IsIn t (options_at g n w) → IsBelow n (child_at g n w t)
 
 -- and so is the node that possible steps leave
 abbrev pub StepsLeadBelow : Type 0
-StepsLeadBelow = (g : Shape) (n : Node) (steps : List Step) → IsProper g → Avoids n.inside n.outside
+StepsLeadBelow = (g : Shape) (n : Node) (steps : List Step) → IsProper g
+    → Avoids n.inside n.outside
     → StepsPass g n steps → IsBelow n (after_all g n steps)
 
 -- for any relaxed flows of a node at which no needed material is dead, each node above it has some
@@ -46,7 +53,8 @@ ChildrenAreDearer =
     → Avoids n.inside n.outside → MayBranch (shape_of p) n w
     → IsIn t (options_at (shape_of p) n w)
     → StepsPass (shape_of p) (child_at (shape_of p) n w t) steps
-    → IsNever (IsDead (shape_of p) (after_all (shape_of p) (child_at (shape_of p) n w t) steps))
+    → IsNever
+    (IsDead (shape_of p) (after_all (shape_of p) (child_at (shape_of p) n w t) steps))
     → IsNoDearer p n (after_all (shape_of p) (child_at (shape_of p) n w t) steps)
 
 -- ---- reduced nodes
@@ -89,7 +97,8 @@ FreeMakersDecide =
 -- if there is something to decide, the children of a sound node are sound
 abbrev pub ChildrenAreSound : Type 0
 ChildrenAreSound =
-    (g : Shape) → IsProper g → (n : Node) (w : Way) (t : List ℕ) → IsSound g n → IsReduced g n
+    (g : Shape) → IsProper g → (n : Node) (w : Way) (t : List ℕ) → IsSound g n
+    → IsReduced g n
     → MayBranch g n w → IsDecision g n w → IsIn t (options_at g n w)
     → IsSound g (child_at g n w t)
 
@@ -116,7 +125,8 @@ SharesAreSmall = (g : Shape) (n : Node) (x : ℕ)
 -- a lean tree has fewer nodes than twice the number of sets of units of the union
 abbrev pub LeanIsFew : Type 0
 LeanIsFew =
-    (partial : Bool) (p : Problem) → IsValid p → (start : Node) (claim : Claim) (tree : Tree)
+    (partial : Bool) (p : Problem) → IsValid p
+    → (start : Node) (claim : Claim) (tree : Tree)
     → Proves partial p start claim tree
     → IsLean p IsUntried (claimed_cost claim) start tree
     → (root : Node) (e : End Leaf) → Stands (shape_of p) (start ∷ []) tree 0 root e
@@ -134,7 +144,8 @@ SpentIsNever =
     → (root : Node) (e : End Leaf) → Stands (shape_of p) (start ∷ []) tree 0 root e
     → IsSound (shape_of p) root
     → (all : ℕ → Bool) → IsUnion (shape_of p) (λ u. false) all
-    → (k : ℕ) (n : Node) → Stands (shape_of p) (start ∷ []) tree k n (leaf untried)
+    → (k : ℕ) (n : Node) (low : Option Scaled)
+    → Stands (shape_of p) (start ∷ []) tree k n (leaf (untried low))
     → IsReduced (shape_of p) n
     → (w : Way) → MayBranch (shape_of p) n w → IsDecision (shape_of p) n w
     → length tree + length (options_at (shape_of p) n w)

@@ -3,7 +3,7 @@ use Rattle.std.proofs.Common.{◌≡◌, ℕ, zero, suc, ◌<◌, false, List, [
 use Rattle.std.proofs.Common.{None, refl, sym, ap, ◌∙◌, subst, arith, true≢false}
 use Rattle.std.specs.Prelude.{slice_index_or}
 use Rattle.tree_rules.specs.Tree.{End, branch, leaf}
-use Rattle.tree_rules.specs.Leaf.{Leaf, dead, clash, refuted, bounded, untried}
+use Rattle.tree_rules.specs.Leaf.{Leaf, dead, clash, refuted, bounded, charged, untried}
 use Rattle.search_tree.specs.declared.shut.Shut.{Shut}
 use Rattle.search_tree.specs.Cells.{Cell, cell_at, times, numbers_below, children_at, AreBehind}
 use Rattle.search_tree.specs.Cells.{IsLinked}
@@ -16,7 +16,8 @@ closed_leaf s (dead x) h = refl
 closed_leaf s (clash k) h = refl
 closed_leaf s (refuted ys) h = refl
 closed_leaf s (bounded d ys) h = refl
-closed_leaf s untried h = absurd (true≢false h)
+closed_leaf s (charged c) h = refl
+closed_leaf s (untried low) h = absurd (true≢false h)
 
 pub closed_stays : (s : Shut) (e : End Leaf) → is_open e ≡ false → shut_end (Some s) e ≡ e
 closed_stays s (branch w) h = refl

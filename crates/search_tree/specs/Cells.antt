@@ -1,6 +1,7 @@
 -- The tree of a search while it grows: a list of cells in the order of adding. The children of a
 -- node are in a row, and come after their parent.
 use Rattle.std.specs.Prelude.{◌≡◌, ℕ, ◌+◌, ◌<◌, ◌≤◌, ◌==◌, cond, List, [], ◌∷◌, length, get_or}
+use Rattle.std.specs.Prelude.{None}
 use Rattle.std.specs.List.{range_with_len}
 use Rattle.pns_rules.specs.Nodes as rules
 use Rattle.pgraph.specs.View.{node_of}
@@ -28,7 +29,7 @@ no_cell =
       node = record { inside = []; outside = [] };
       first = 0;
       end =
-          leaf untried;
+          leaf (untried None);
       key = 0;
     }
 

@@ -1,10 +1,11 @@
 -- How a leaf of a growing tree becomes a branch.
 use Rattle.std.specs.Prelude.{◌≡◌, ℕ, ◌<◌, ◌≤◌, Bool, true, false, List, [], ◌∷◌, ◌++◌, length}
+use Rattle.std.specs.Prelude.{Option}
 use Rattle.link_lists.specs.Lists.{has}
 use Rattle.node_pool.specs.Pooled.{Pooled}
 use Rattle.mixed_numbers.specs.declared.number.Mixed.{Mixed}
 use Rattle.tree_rules.specs.Tree.{End, branch, leaf}
-use Rattle.tree_rules.specs.Leaf.{Leaf, dead, clash, refuted, bounded, untried}
+use Rattle.tree_rules.specs.Leaf.{Leaf, dead, clash, refuted, bounded, charged, untried, Scaled}
 use Rattle.search_tree.specs.declared.growth.Fresh.{Fresh}
 use Rattle.search_tree.specs.Cells.{Cell, cell_at}
 
@@ -14,11 +15,16 @@ is_open_leaf (dead x) = false
 is_open_leaf (clash k) = false
 is_open_leaf (refuted ys) = false
 is_open_leaf (bounded d ys) = false
-is_open_leaf untried = true
+is_open_leaf (charged h) = false
+is_open_leaf (untried low) = true
 
 abbrev pub is_open : End Leaf → Bool
 is_open (branch w) = false
 is_open (leaf l) = is_open_leaf l
+
+-- the end is a leaf that is open
+abbrev pub EndsOpen : End Leaf → Type 0
+EndsOpen e = (low : Option Scaled) × (e ≡ leaf (untried low))
 
 -- the open leaves of the pool after node `at` is branched: those before but this one, and each new
 -- node that ends open

@@ -1,7 +1,7 @@
 -- Open leaves that are shut in a tree.
 use Rattle.std.specs.Prelude.{List, [], ◌∷◌, Option, Some, None}
 use Rattle.tree_rules.specs.Tree.{End, branch, leaf}
-use Rattle.tree_rules.specs.Leaf.{Leaf, dead, clash, refuted, bounded, untried}
+use Rattle.tree_rules.specs.Leaf.{Leaf, dead, clash, refuted, bounded, charged, untried}
 use Rattle.search_tree.specs.declared.shut.Shut.{Shut}
 use Rattle.search_tree.specs.declared.shut.Shut.TheVariants as shuts
 use Rattle.search_tree.specs.Cells.{Cell}
@@ -19,7 +19,8 @@ shut_leaf (Some s) (dead x) = dead x
 shut_leaf (Some s) (clash k) = clash k
 shut_leaf (Some s) (refuted ys) = refuted ys
 shut_leaf (Some s) (bounded d ys) = bounded d ys
-shut_leaf (Some s) untried = shut_as s
+shut_leaf (Some s) (charged h) = charged h
+shut_leaf (Some s) (untried low) = shut_as s
 
 abbrev pub shut_end : Option Shut → End Leaf → End Leaf
 shut_end s (branch w) = branch w

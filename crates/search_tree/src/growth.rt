@@ -40,7 +40,7 @@ impl Cell {
         ensures { result ≡ is_open self.now.end }
     {
         match self.end {
-            End::Open => true,
+            End::Open(_) => true,
             _ => false,
         }
     }

@@ -5,6 +5,7 @@ ghost use Rattle.branch_tree.specs.View.{end_of};
 ghost use Rattle.search_tree.specs.Shut.{shut_as};
 
 use branch_tree::{End, Multipliers, Scaled};
+use covers::Covers;
 use std::alloc::{AllocError, Global};
 
 /// What shuts an open leaf.
@@ -31,6 +32,28 @@ pub fn copy_scaled(alloc: Global, scaled: &Scaled) -> Result<Scaled, AllocError>
 {
     let numbers = scaled.numbers().to_vec(alloc)?;
     Ok(Scaled::from_vec(numbers))
+}
+
+/// A copy of the covers of a charge.
+pub(crate) fn copy_covers(alloc: Global, covers: &Covers) -> Result<Covers, AllocError>
+    ensures { IfOk result (λ c. c ≡ covers.now) }
+{
+    covers.are_kept();
+    let list = covers.covers().to_vec(alloc)?;
+    Ok(Covers::from_vec(list))
+}
+
+/// A copy of what is known of an open leaf.
+pub(crate) fn copy_low(alloc: Global, low: &Option<Scaled>) -> Result<Option<Scaled>, AllocError>
+    ensures { IfOk result (λ c. c ≡ low.now) }
+{
+    match low {
+        None => Ok(None),
+        Some(scaled) => {
+            let copy = copy_scaled(alloc, scaled)?;
+            Ok(Some(copy))
+        }
+    }
 }
 
 /// The end of a leaf that is shut by this.

@@ -9,7 +9,7 @@ ghost use Rattle.search_tree.specs.Shut.{shut_end, shut_cells};
 ghost use Rattle.search_tree.specs.Runs.{to_come};
 
 use crate::cell::Cell;
-use crate::shut::{Shut, copy_multipliers, copy_scaled, end_by};
+use crate::shut::{Shut, copy_covers, copy_low, copy_multipliers, copy_scaled, end_by};
 use branch_tree::{End, Steps, TreeNode};
 use node_pool::Pool;
 use std::alloc::{AllocError, Global};
@@ -50,12 +50,20 @@ fn copy_end(alloc: Global, end: &End) -> Result<End, AllocError>
             let copy = copy_scaled(alloc, scaled)?;
             Ok(End::Bound(copy))
         }
+        End::Charge { scaled, covers } => {
+            let scaled = copy_scaled(alloc, scaled)?;
+            let covers = copy_covers(alloc, covers)?;
+            Ok(End::Charge { scaled, covers })
+        }
         End::Branch { material, children } => Ok(End::Branch {
             material: *material,
             children: *children,
         }),
         End::Either(unit) => Ok(End::Either(*unit)),
-        End::Open => Ok(End::Open),
+        End::Open(low) => {
+            let copy = copy_low(alloc, low)?;
+            Ok(End::Open(copy))
+        }
     }
 }
 

@@ -56,7 +56,7 @@ fn report_of(alloc: Global, site: &Site<'_>, claim: &Claim, tree: &Tree) -> Opti
     let Ok(verdict) = verdict_of(alloc, site, claim, tree) else {
         return None;
     };
-    match verdict_text(alloc, site, claim, verdict) {
+    match verdict_text(alloc, site, claim, tree, verdict) {
         Ok(text) => Some(text),
         Err(_) => None,
     }

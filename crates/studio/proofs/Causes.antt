@@ -37,11 +37,13 @@ use Rattle.studio_rules.specs.declared.status.Status.TheVariants.{BadProblem, Ba
 use Rattle.studio_rules.specs.declared.status.Status.TheVariants.{BadEdit, TooLong, UnknownName}
 use Rattle.studio_rules.specs.declared.status.Status.TheVariants.{NotMigrated, BadNode, BadPlan}
 use Rattle.studio_rules.specs.declared.status.Status.TheVariants.{BadClaim}
-use Rattle.studio_rules.specs.Reading.{AreHeld, FileFault, GivesProblem, OnFile, file_limit}
+use Rattle.studio_rules.specs.Reading.{AreHeld, FileFault, GivesProblem, OnFile, OnText}
+use Rattle.studio_rules.specs.Reading.{file_limit}
 use Rattle.studio_rules.specs.Script.{ScriptFault, GivesScript, HasEditFault, OnScript}
 use Rattle.studio_rules.specs.Plan.{PlanFileFault, GivesPlan, OnPlan}
 use Rattle.studio_rules.specs.TreeFile.{TreeFault, GivesTree, OnTree, tree_limit}
 use Rattle.studio_rules.specs.Max.{MaxWork}
+use Rattle.studio_rules.specs.Lint.{LintWork}
 use Rattle.studio_rules.specs.Axioms.{AxiomsWork, first_stranger}
 use Rattle.studio_rules.specs.Listing.{ListingWork}
 use Rattle.studio_rules.specs.Migrate.{MigrateWork}
@@ -66,13 +68,13 @@ use Rattle.studio_rules.specs.Part.{PartSays, PartWork, ClaimSays, AgainstWork}
 use Rattle.studio_rules.specs.Solve.{SolveWork}
 use Rattle.studio_rules.specs.Show.{ShowWork}
 use Rattle.studio_rules.specs.Stable.{spot_named, NamedWork, StableWork}
-use Rattle.studio_rules.specs.Command.{Command, Max, Axioms, Flows, Listing, Make, Migrate}
-use Rattle.studio_rules.specs.Command.{Editing}
-use Rattle.studio_rules.specs.Command.{Undoing, Checking, RankChecking, Solving, Showing, Ranking}
-use Rattle.studio_rules.specs.Command.{Trial, Telling, Table, Splitting, Expanding, Drawing}
-use Rattle.studio_rules.specs.Command.{DrawingNetwork, Reporting, Json, Ranging, Planning}
-use Rattle.studio_rules.specs.Command.{Parting}
-use Rattle.studio_rules.specs.Command.{PartingAgainst, Merging, command_of}
+use Rattle.studio_rules.specs.Command.{Command, Max, Axioms, Flows, Listing, Linting, Make}
+use Rattle.studio_rules.specs.Command.{Migrate}
+use Rattle.studio_rules.specs.Command.{Editing, Undoing, Checking, RankChecking, Solving, Showing}
+use Rattle.studio_rules.specs.Command.{Ranking, Trial, Telling, Table, Splitting, Expanding}
+use Rattle.studio_rules.specs.Command.{Drawing, DrawingNetwork, Reporting, Json, Ranging}
+use Rattle.studio_rules.specs.Command.{Planning}
+use Rattle.studio_rules.specs.Command.{Parting, PartingAgainst, Merging, command_of}
 use Rattle.studio_rules.specs.Answers.{AnswersTo, CommandAnswers, WordsSay}
 use Rattle.studio_rules.specs.Causes.{caused, FileCause, HasProblemFault, HasScriptFault}
 use Rattle.studio_rules.specs.Causes.{HasPlanFault, HasTreeFault, HasRankFault, HasPartFault}
@@ -80,12 +82,12 @@ use Rattle.studio_rules.specs.Causes.{NoCause, TokenCause, MigrationCause, NameC
 use Rattle.studio_rules.specs.Causes.{InScript, InPlan, InRank, InTree, InParts, AtNode, CauseOf}
 use Rattle.studio_rules.specs.Causes.{AreTold, EndsExactly}
 use Rattle.studio.proofs.Accepted.{no_fault, one_problem}
-use Rattle.studio.proofs.Statuses.{max_status, names_status, flows_status, check_status}
-use Rattle.studio.proofs.Statuses.{rankcheck_status, split_status, table_status, report_status}
-use Rattle.studio.proofs.Statuses.{json_status, network_status, solve_status, show_status}
-use Rattle.studio.proofs.Statuses.{rank_status, search_status, plant_graph_status, graph_status}
-use Rattle.studio.proofs.Statuses.{periods_status, part_status, claim_status, merge_fault_status}
-use Rattle.studio.proofs.Statuses.{spot_status}
+use Rattle.studio.proofs.Statuses.{max_status, lint_status, names_status, flows_status}
+use Rattle.studio.proofs.Statuses.{check_status, rankcheck_status, split_status, table_status}
+use Rattle.studio.proofs.Statuses.{report_status, json_status, network_status, solve_status}
+use Rattle.studio.proofs.Statuses.{show_status, rank_status, search_status, plant_graph_status}
+use Rattle.studio.proofs.Statuses.{graph_status, periods_status, part_status, claim_status}
+use Rattle.studio.proofs.Statuses.{merge_fault_status, spot_status}
 
 -- the same statuses, by cases
 abbrev pub Caused : Status → Type 0
@@ -219,6 +221,18 @@ file_always held name work cause works told =
     judged_always file_limit BadProblem HasProblemFault GivesProblem (FileFault name) work cause
     (problem_cause name) problem_good one_problem
     (λ file p given. works p given.valid) (held name) told
+
+-- a work that goes by the bytes of some file, and what it says on the file
+abbrev OfSome : (List ℕ → Problem → Status → List (List ℕ) → Type 0) → Problem → Status
+    → List (List ℕ) → Type 0
+OfSome work p s lines = (file : List ℕ) × work file p s lines
+
+on_file : (work : List ℕ → Problem → Status → List (List ℕ) → Type 0) (held : List ℕ → Told)
+    (name : List ℕ) (s : Status) (lines : List (List ℕ)) → OnText work held name s lines
+    → OnFile (OfSome work) held name s lines
+on_file work held name s lines (file, is, inl h) = (file, is, inl h)
+on_file work held name s lines (file, is, inr (p, gives, does)) =
+    (file, is, inr (p, gives, (file, does)))
 
 -- ---- SCRIPT, PLAN and RANK; nothing after them is a cause
 
@@ -619,6 +633,9 @@ module _ (p : Problem) (s : Status) (lines : List (List ℕ)) (c : Caused s) whe
   max_plain : MaxWork p s lines → ⊥
   max_plain h = subst Caused (max_status p s lines h) c
 
+  lint_plain : OfSome LintWork p s lines → ⊥
+  lint_plain h = subst Caused (lint_status h.0 p s lines h.1) c
+
   axioms_plain : (units : List (List ℕ)) → AxiomsWork units p s lines → ⊥
   axioms_plain units h =
       elim (names_status units p (first_stranger p units) s lines h)
@@ -658,6 +675,9 @@ module _ (held : List ℕ → Told) where
   pub command_only : (command : Command)
       → Only (CommandAnswers held command) (CauseOf held command)
   command_only (Max file) = file_only held file MaxWork NoCause max_plain
+  command_only (Linting file) = λ s lines c h.
+      file_only held file (OfSome LintWork) NoCause lint_plain s lines c
+      (on_file LintWork held file s lines h)
   command_only (Axioms file units) =
       file_only held file (AxiomsWork units) NoCause
       (λ p s lines c. axioms_plain p s lines c units)
@@ -770,6 +790,9 @@ module _ (held : List ℕ → Told) where
   pub command_always : PartsAreReadOnce → (command : Command) → AreTold held command
       → Always (CommandAnswers held command) (CauseOf held command)
   command_always once (Max file) told = alone file MaxWork (told file refl)
+  command_always once (Linting file) told = λ status s lines why h.
+      alone file (OfSome LintWork) (told file refl) status s lines why
+      (on_file LintWork held file s lines h)
   command_always once (Axioms file units) told = alone file (AxiomsWork units) (told file refl)
   command_always once (Flows file units) told = alone file (FlowsWork units) (told file refl)
   command_always once (Listing file after count) told =

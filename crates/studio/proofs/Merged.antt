@@ -11,7 +11,7 @@ use Rattle.text_laws.proofs.Each.{each-append}
 use Rattle.pns_rules.specs.Shape.{Shape, shape_of}
 use Rattle.pns_rules.specs.Nodes.{Node}
 use Rattle.tree_rules.specs.Tree.{End, branch, leaf, TreeNode, Pass, Stands, after_all, below}
-use Rattle.tree_rules.specs.Leaf.{Leaf, dead, clash, refuted, bounded, untried, LeafPasses}
+use Rattle.tree_rules.specs.Leaf.{Leaf, dead, clash, refuted, bounded, charged, untried, LeafPasses}
 use Rattle.tree_rules.specs.Claim.{Claim, Network, network, infeasible, unknown, claimed_cost}
 use Rattle.tree_rules.specs.Accepted.{Tree, first_node, IsPartial, IsAccepted}
 use Rattle.tree_laws.specs.Laws.{PartialIsAccepted, PassingClaimHasNoFault, PassingTreeHasNoFault}
@@ -166,7 +166,8 @@ none_open g P (n ∷ ns) (t ∷ ts) k pass none has =
         → open_here k (after_all g n t.steps) end
         ++ open_leaves g (below g (after_all g n t.steps) end ++ ns) ts (k + 1) ≡ []
         → (is_open end || has_open ts) ≡ true → ⊥
-    at (leaf untried) rest pass none has = cc
+    at (leaf (untried low)) rest pass none has = cc
+    at (leaf (charged h)) rest pass none has = rest ns pass none has
     at (leaf (dead x)) rest pass none has = rest ns pass none has
     at (leaf (clash x)) rest pass none has = rest ns pass none has
     at (leaf (refuted ys)) rest pass none has = rest ns pass none has
@@ -244,8 +245,9 @@ module _ (spells : SpelledTextsRead) (spelt : ReadTextsAreSpelled)
       decide p first_node both grown partial
       (λ e. none_open (shape_of p) (LeafPasses true p (claimed_cost both)) (first_node ∷ []) grown 0
       partial.passes none (settled p claim tree part ps both grown are e))
-      (λ k n stands. subst (λ (ls : List OpenAt). IsAmong (record { number = k; node = n }) ls) none
-      ((stand (shape_of p) first_node grown (record { number = k; node = n })).1 stands))
+      (λ k n low stands. subst (λ (ls : List OpenAt). IsAmong (record { number = k; node = n }) ls)
+      none
+      ((stand (shape_of p) first_node grown (record { number = k; node = n })).1 (low, stands)))
 
 module _ (spells : SpelledTextsRead) (spelt : ReadTextsAreSpelled)
     (parts_spelt : ReadPartsAreSpelled) (grafts : GraftIsTree) (stand : OpenLeavesStand)

@@ -8,14 +8,17 @@ use Rattle.pns_rules.specs.declared.verdict.Verdict.{Verdict}
 use Rattle.pns_rules.specs.declared.verdict.Verdict.TheVariants.{Meets, Breaks}
 use Rattle.text_rules.specs.Outside.{HasRisen, Told, IsToldAnd}
 use Rattle.io_rules.specs.State.{ShelfState, OutputsState}
-use Rattle.studio_rules.specs.Command.{Command, Max, Axioms, Flows, Listing, Make, Migrate}
-use Rattle.studio_rules.specs.Command.{Editing}
-use Rattle.studio_rules.specs.Command.{Undoing, Checking, RankChecking, Solving, Showing, Ranking}
-use Rattle.studio_rules.specs.Command.{Trial, Telling, command_of, IsFileOf, IsFileWord, Table}
-use Rattle.studio_rules.specs.Command.{Splitting, Expanding, Drawing, DrawingNetwork, Reporting}
-use Rattle.studio_rules.specs.Command.{Json, Ranging, Planning, Parting, PartingAgainst, Merging}
+use Rattle.studio_rules.specs.Command.{Command, Max, Axioms, Flows, Listing, Linting, Make}
+use Rattle.studio_rules.specs.Command.{Migrate}
+use Rattle.studio_rules.specs.Command.{Editing, Undoing, Checking, RankChecking, Solving, Showing}
+use Rattle.studio_rules.specs.Command.{Ranking, Trial, Telling, command_of, IsFileOf, IsFileWord}
+use Rattle.studio_rules.specs.Command.{Table, Splitting, Expanding, Drawing, DrawingNetwork}
+use Rattle.studio_rules.specs.Command.{Reporting, Json, Ranging, Planning, Parting}
+use Rattle.studio_rules.specs.Command.{PartingAgainst}
+use Rattle.studio_rules.specs.Command.{Merging}
 use Rattle.studio_rules.specs.Reading.{AreHeld, FileFault, file_limit}
 use Rattle.studio_rules.specs.Max.{MaxWork}
+use Rattle.studio_rules.specs.Lint.{LintWork}
 use Rattle.studio_rules.specs.Listing.{ListingWork}
 use Rattle.studio_rules.specs.Migrate.{MigrateWork}
 use Rattle.studio_rules.specs.Flows.{FlowNamesSay, UnitsSay, FlowsSay}
@@ -81,6 +84,11 @@ fault_status name file s lines h = absurd h
 pub max_status : (p : Problem) (s : Status) (lines : List (List ℕ)) → MaxWork p s lines → s ≡ Done
 max_status p Done lines h = refl
 max_status p s lines h = absurd h
+
+pub lint_status : (file : List ℕ) (p : Problem) (s : Status) (lines : List (List ℕ))
+    → LintWork file p s lines → s ≡ Done
+lint_status file p Done lines h = refl
+lint_status file p s lines h = absurd h
 
 verdict_status : (p : Problem) (v : Verdict) (s : Status) (lines : List (List ℕ))
     → VerdictSays p v s lines → (s ≡ Done) ⊎ (s ≡ Refused)
@@ -382,6 +390,15 @@ command_status held (Max name) s lines (file, is, inl fault) short =
     ]
 command_status held (Max name) s lines (file, is, inr work) short =
     inl (max_status work.0 s lines work.2)
+command_status held (Linting name) s lines (file, is, inl fault) short =
+    elim (fault_status name file s lines fault) [
+      | inl q ↦ inr (inl q)
+      | inr q
+          ↦ absurd
+          (within_limit (held name) file_limit file (short name file_limit (refl, refl)) is q.1)
+    ]
+command_status held (Linting name) s lines (file, is, inr work) short =
+    inl (lint_status file work.0 s lines work.2)
 command_status held (Axioms name units) s lines (file, is, inl fault) short =
     elim (fault_status name file s lines fault) [
       | inl q ↦ inr (inr (inl q))
@@ -771,6 +788,8 @@ answer_status : (held : List ℕ → Told) (command : Command) (lines : List (Li
     → CommandAnswers held command Usage lines → ⊥
 answer_status held (Max name) lines (file, is, inl fault) = absurd fault
 answer_status held (Max name) lines (file, is, inr work) = absurd work.2
+answer_status held (Linting name) lines (file, is, inl fault) = absurd fault
+answer_status held (Linting name) lines (file, is, inr work) = absurd work.2
 answer_status held (Axioms name units) lines (file, is, inl fault) = absurd fault
 answer_status held (Axioms name units) lines (file, is, inr work) =
     elim (names_status units work.0 (first_stranger work.0 units) Usage lines work.2)
@@ -914,6 +933,7 @@ usage_answers held (Some command) lines h = absurd (answer_status held command l
 
 memory_status : (command : Command) → IsOneOf (statuses_of command) Memory
 memory_status (Max file) = inr (inr (inl refl))
+memory_status (Linting file) = inr (inr (inl refl))
 memory_status (Axioms file units) = inr (inr (inr (inl refl)))
 memory_status (Flows file units) = inr (inr (inr (inr (inl refl))))
 memory_status (Listing file after count) = inr (inr (inr (inl refl)))
@@ -1001,6 +1021,8 @@ missing_says held (Make number units) name s lines first gone h = cc
 missing_says held (Trial number units budget) name s lines first gone h = cc
 missing_says held (Telling text) name s lines first gone h = cc
 missing_says held (Max file) name s lines first gone h = let same : file ≡ name =
+    cc in nothing_held (held file) h.0 (ap held same ∙ gone) h.1
+missing_says held (Linting file) name s lines first gone h = let same : file ≡ name =
     cc in nothing_held (held file) h.0 (ap held same ∙ gone) h.1
 missing_says held (Axioms file units) name s lines first gone h = let same : file ≡ name =
     cc in nothing_held (held file) h.0 (ap held same ∙ gone) h.1

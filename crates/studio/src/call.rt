@@ -23,6 +23,7 @@ use endings::say::{say_memory, say_text, tell};
 use flow_commands::check::{accepted_is_best, check};
 use flow_commands::flows::flows;
 use json_commands::json;
+use lint_commands::lint;
 use messages::usage;
 use network_commands::graph::{graph, plant_graph};
 use network_commands::report::report;
@@ -66,6 +67,7 @@ fn perform<F: Shelf, K: Sink, E: Sink, W: Watch>(
         Command::Axioms(file, units) => axioms(alloc, file, &units, shelf, out),
         Command::Flows(file, units) => flows(alloc, file, &units, shelf, out),
         Command::Listing(file, after, count) => list(alloc, file, after, count, shelf, out),
+        Command::Linting(file) => lint(alloc, file, shelf, out),
         Command::Make(number, units) => make(alloc, number, units, out),
         Command::Migrate(file, years) => migrate(alloc, file, years, shelf, out),
         Command::Editing(file, script) => edit(alloc, file, script, shelf, out),

@@ -4,9 +4,9 @@ use Rattle.std.specs.Prelude.{◌≡◌, ◌≤◌, ◌⊎◌, ℕ, List, [], �
 use Rattle.text_rules.specs.Outside.{HasRisen, Told, IsToldAnd}
 use Rattle.io_rules.specs.State.{ShelfState, OutputsState}
 use Rattle.studio_rules.specs.Command.{Command, command_of, IsFileOf, IsFileWord}
-use Rattle.studio_rules.specs.Command.{Max, Axioms, Flows, Listing, Make, Migrate, Editing, Undoing}
-use Rattle.studio_rules.specs.Command.{Checking, RankChecking, Solving, Showing, Ranking, Trial}
-use Rattle.studio_rules.specs.Command.{Telling}
+use Rattle.studio_rules.specs.Command.{Max, Axioms, Flows, Listing, Linting, Make, Migrate, Editing}
+use Rattle.studio_rules.specs.Command.{Undoing, Checking, RankChecking, Solving, Showing, Ranking}
+use Rattle.studio_rules.specs.Command.{Trial, Telling}
 use Rattle.studio_rules.specs.Command.{Table, Splitting, Expanding, Drawing, DrawingNetwork}
 use Rattle.studio_rules.specs.Command.{Reporting, Json, Ranging, Planning, Parting, PartingAgainst}
 use Rattle.studio_rules.specs.Command.{Merging}
@@ -18,11 +18,12 @@ use Rattle.plan_rules.specs.Plan.{Plan}
 use Rattle.plan_rules.specs.Expanded.{expanded}
 use Rattle.stability_rules.specs.declared.spot.Spot.{Spot}
 use Rattle.stability_rules.specs.declared.spot.SpotKind.{SpotKind}
-use Rattle.studio_rules.specs.Reading.{AreHeld, GivesProblem, OnFile, file_limit}
+use Rattle.studio_rules.specs.Reading.{AreHeld, GivesProblem, OnFile, OnText, file_limit}
 use Rattle.studio_rules.specs.Max.{MaxWork}
 use Rattle.studio_rules.specs.Axioms.{AxiomsWork}
 use Rattle.studio_rules.specs.Flows.{FlowsWork, StaysInRange}
 use Rattle.studio_rules.specs.Listing.{ListingWork}
+use Rattle.studio_rules.specs.Lint.{LintWork}
 use Rattle.studio_rules.specs.Make.{MakeWork}
 use Rattle.studio_rules.specs.Script.{OnScript}
 use Rattle.studio_rules.specs.Plan.{OnPlan, GivesPlan}
@@ -85,6 +86,7 @@ CommandAnswers held (Flows file units) status lines =
     OnFile (FlowsWork units) held file status lines
 CommandAnswers held (Listing file after count) status lines =
     OnFile (ListingWork after count) held file status lines
+CommandAnswers held (Linting file) status lines = OnText LintWork held file status lines
 CommandAnswers held (Make number units) status lines = MakeWork number units status lines
 CommandAnswers held (Migrate file years) status lines =
     OnFile (MigrateWork years) held file status lines
@@ -135,6 +137,7 @@ first_file (Max file) = Some file
 first_file (Axioms file units) = Some file
 first_file (Flows file units) = Some file
 first_file (Listing file after count) = Some file
+first_file (Linting file) = Some file
 first_file (Migrate file years) = Some file
 first_file (Editing file script) = Some file
 first_file (Undoing file script) = Some file
@@ -198,6 +201,7 @@ statuses_of (Max file) = Done ∷ BadProblem ∷ Memory ∷ []
 statuses_of (Axioms file units) = Done ∷ Refused ∷ BadProblem ∷ Memory ∷ []
 statuses_of (Flows file units) = Done ∷ Refused ∷ Past ∷ BadProblem ∷ Memory ∷ []
 statuses_of (Listing file after count) = Done ∷ BadToken ∷ BadProblem ∷ Memory ∷ []
+statuses_of (Linting file) = Done ∷ BadProblem ∷ Memory ∷ []
 statuses_of (Migrate file years) = Done ∷ NotMigrated ∷ BadProblem ∷ Memory ∷ []
 statuses_of (Editing file script) = Done ∷ BadEdit ∷ BadProblem ∷ Memory ∷ []
 statuses_of (Undoing file script) = Done ∷ BadEdit ∷ BadProblem ∷ Memory ∷ []

@@ -27,8 +27,8 @@ use Rattle.studio_rules.specs.PartFile.{GivesPart}
 use Rattle.studio_rules.specs.Start.{IsStart}
 use Rattle.studio_rules.specs.Stable.{spot_named}
 use Rattle.studio_rules.specs.Command.{Command, IsFileOf}
-use Rattle.studio_rules.specs.Command.{Max, Axioms, Flows, Listing, Migrate, Editing, Undoing}
-use Rattle.studio_rules.specs.Command.{Checking, RankChecking, Solving, Showing, Ranking}
+use Rattle.studio_rules.specs.Command.{Max, Axioms, Flows, Listing, Linting, Migrate, Editing}
+use Rattle.studio_rules.specs.Command.{Undoing, Checking, RankChecking, Solving, Showing, Ranking}
 use Rattle.studio_rules.specs.Command.{Table, Splitting, Expanding, Drawing, DrawingNetwork}
 use Rattle.studio_rules.specs.Command.{Reporting, Json, Ranging, Planning, Parting, PartingAgainst}
 use Rattle.studio_rules.specs.Command.{Merging}
@@ -140,6 +140,7 @@ CauseOf held (Max file) status = InFile NoCause held file status
 CauseOf held (Axioms file units) status = InFile NoCause held file status
 CauseOf held (Flows file units) status = InFile NoCause held file status
 CauseOf held (Listing file after count) status = InFile (TokenCause after) held file status
+CauseOf held (Linting file) status = InFile NoCause held file status
 CauseOf held (Migrate file years) status = InFile (MigrationCause years) held file status
 CauseOf held (Editing file script) status = InFile (InScript held script) held file status
 CauseOf held (Undoing file script) status = InFile (InScript held script) held file status

@@ -20,6 +20,7 @@ pub data Command : Type 0 where
   Axioms : List ℕ → List (List ℕ) → Command
   Flows : List ℕ → List (List ℕ) → Command
   Listing : List ℕ → List ℕ → ℕ → Command
+  Linting : List ℕ → Command
   Make : ℕ → ℕ → Command
   Migrate : List ℕ → ℕ → Command
   Editing Undoing : List ℕ → List ℕ → Command
@@ -171,6 +172,7 @@ abbrev pub of_file : List ℕ → List ℕ → Option Command
 of_file word file =
     if bytes_eq word (codes "max") then Some (Max file)
     else if bytes_eq word (codes "graph") then Some (Drawing file)
+    else if bytes_eq word (codes "lint") then Some (Linting file)
     else if bytes_eq word (codes "list") then Some (first_listing file)
     else if bytes_eq word (codes "solve") then Some (Solving file full_budget)
     else if bytes_eq word (codes "show") then Some (Showing file full_budget)
@@ -269,6 +271,7 @@ IsFileOf (Max file) name = name ≡ file
 IsFileOf (Axioms file units) name = name ≡ file
 IsFileOf (Flows file units) name = name ≡ file
 IsFileOf (Listing file after count) name = name ≡ file
+IsFileOf (Linting file) name = name ≡ file
 IsFileOf (Migrate file years) name = name ≡ file
 IsFileOf (Editing file script) name = (name ≡ file) ⊎ (name ≡ script)
 IsFileOf (Undoing file script) name = (name ≡ file) ⊎ (name ≡ script)

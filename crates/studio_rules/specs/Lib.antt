@@ -16,6 +16,7 @@ pub mod Graph
 pub mod Json
 pub mod Keeps
 pub mod Lines
+pub mod Lint
 pub mod Listing
 pub mod Make
 pub mod Max

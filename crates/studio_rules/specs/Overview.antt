@@ -13,7 +13,7 @@ overview =
     codes "pns: which units of a plant to build? Exact answers, with proofs (P-graph)." ∷
     codes "A FILE is a plant. Answers go to standard output, faults to standard error." ∷
     codes "" ∷
-    codes "  max FILE                       the maximal structure" ∷
+    codes "  max FILE, lint FILE            the maximal structure; what looks odd in FILE" ∷
     codes "  axioms FILE UNITS              do these units meet the axioms S1 to S5?" ∷
     codes "  list FILE [AFTER COUNT]        those that do; AFTER is start at first" ∷
     codes "  flows FILE UNITS               the least cost of these units, and their sizes" ∷

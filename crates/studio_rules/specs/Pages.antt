@@ -2,7 +2,7 @@
 use Rattle.std.specs.Prelude.{ℕ, List, Option, Some, None, codes, option_map, if◌then◌else◌}
 use Rattle.std.specs.Str.{bytes_eq}
 use Rattle.studio_rules.specs.PageLines.{text_of}
-use Rattle.studio_rules.specs.StructurePages.{max_page, axioms_page, list_page}
+use Rattle.studio_rules.specs.StructurePages.{max_page, axioms_page, list_page, lint_page}
 use Rattle.studio_rules.specs.FlowPages.{flows_page, check_page}
 use Rattle.studio_rules.specs.ReportPages.{table_page, report_page, json_page, graph_page}
 use Rattle.studio_rules.specs.ReportPages.{stable_page}
@@ -20,6 +20,7 @@ command_page_of topic =
     if bytes_eq topic (codes "max") then Some max_page
     else if bytes_eq topic (codes "axioms") then Some axioms_page
     else if bytes_eq topic (codes "list") then Some list_page
+    else if bytes_eq topic (codes "lint") then Some lint_page
     else if bytes_eq topic (codes "flows") then Some flows_page
     else if bytes_eq topic (codes "solve") then Some solve_page
     else if bytes_eq topic (codes "show") then Some show_page

@@ -114,11 +114,23 @@ OnFile work held name status lines =
     × (FileFault name file status lines
     ⊎ ((p : Problem) × GivesProblem file p × work p status lines))
 
+-- the same of a command whose work also goes by the bytes of the file
+abbrev pub OnText : (List ℕ → Problem → Status → List (List ℕ) → Type 0) → (List ℕ → Told) → List ℕ
+    → Status → List (List ℕ) → Type 0
+OnText work held name status lines =
+    (file : List ℕ) × AreHeld (held name) file
+    × (FileFault name file status lines
+    ⊎ ((p : Problem) × GivesProblem file p × work file p status lines))
+
 -- What a command on the named file may write with a status, over a shelf that is old before it and
 -- new after it.
 abbrev pub FileSays : (Problem → Status → List (List ℕ) → Type 0) → List ℕ → ShelfState → ShelfState
     → Status → List ℕ → Type 0
 FileSays work name old new = Says (OnFile work old.held name) (λ other. other ≡ name) old new
+
+abbrev pub TextSays : (List ℕ → Problem → Status → List (List ℕ) → Type 0) → List ℕ → ShelfState
+    → ShelfState → Status → List ℕ → Type 0
+TextSays work name old new = Says (OnText work old.held name) (λ other. other ≡ name) old new
 
 -- the same of a command that also reads a second file, over what the shelf holds
 abbrev pub TwoFilesSay : ((List ℕ → Told) → List ℕ → Problem → Status → List (List ℕ) → Type 0)

@@ -3,7 +3,7 @@ use Rattle.std.specs.Prelude.{ℕ, List, ◌∷◌, ◌++◌, codes, decimal}
 use Rattle.tree_rules.specs.declared.why.Why.{Why}
 use Rattle.tree_rules.specs.declared.why.Why.TheVariants.{Unknown, Axiom, Exclusion, Flows, Cost}
 use Rattle.tree_rules.specs.declared.why.Why.TheVariants.{Step, Options, Open, Dead, Clash, Refuted}
-use Rattle.tree_rules.specs.declared.why.Why.TheVariants.{Bound, Sum}
+use Rattle.tree_rules.specs.declared.why.Why.TheVariants.{Bound, Cover, Sum}
 
 -- the word for a cause
 abbrev pub why_word : Why → List ℕ
@@ -19,6 +19,7 @@ why_word Dead = codes "dead"
 why_word Clash = codes "clash"
 why_word Refuted = codes "refuted"
 why_word Bound = codes "bound"
+why_word Cover = codes "some"
 why_word Sum = codes "sum"
 
 abbrev pub claim_line : Why → List ℕ

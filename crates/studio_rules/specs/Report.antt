@@ -1,5 +1,5 @@
 -- `report FILE TREE`: what the tree proves of its claim, in a line, and then the network of the
--- claim in tables for people.
+-- claim in tables for people; or, if it proves that no network meets the bounds, those that clash.
 use Rattle.std.specs.Prelude.{◌≡◌, ◌++◌, ℕ, true, List, [], ◌∷◌, codes, decimal}
 use Rattle.problem_rules.specs.Problem.{Problem}
 use Rattle.tree_rules.specs.declared.why.Why.{Why}
@@ -9,6 +9,7 @@ use Rattle.report_rules.specs.declared.verdict.Verdict.{Verdict}
 use Rattle.report_rules.specs.declared.verdict.Verdict.TheVariants.{Proved, Unfinished, Fails}
 use Rattle.report_rules.specs.Verdict.{IsVerdict}
 use Rattle.report_rules.specs.Report.{total_cell, report_lines}
+use Rattle.report_rules.specs.Clash.{clash_lines}
 use Rattle.studio_rules.specs.RefusalWords.{why_word, claim_line}
 use Rattle.studio_rules.specs.declared.status.Status.{Status}
 use Rattle.studio_rules.specs.declared.status.Status.TheVariants.{Done, BadClaim}
@@ -38,19 +39,22 @@ first_line p claim (Fails node why) = failing_line node why
 
 -- ---- all
 
--- only a claim of a network has tables
-abbrev pub tables_of : Problem → Claim → List (List ℕ)
-tables_of p (network w) = report_lines p w
-tables_of p infeasible = []
-tables_of p unknown = []
+-- a network has tables; if it is proved that none meets the bounds, bounds clash
+abbrev pub tables_of : Problem → Claim → Tree → Verdict → List (List ℕ)
+tables_of p (network w) tree verdict = report_lines p w
+tables_of p infeasible tree Proved = clash_lines p tree
+tables_of p infeasible tree Unfinished = []
+tables_of p infeasible tree (Fails node why) = []
+tables_of p unknown tree verdict = []
 
-abbrev pub verdict_lines : Problem → Claim → Verdict → List (List ℕ)
-verdict_lines p claim verdict = first_line p claim verdict ∷ tables_of p claim
+abbrev pub verdict_lines : Problem → Claim → Tree → Verdict → List (List ℕ)
+verdict_lines p claim tree verdict = first_line p claim verdict ∷ tables_of p claim tree verdict
 
 -- the lines say what the tree proves: `PROVED` exactly if `check` accepts it
 abbrev pub ReportSays : Problem → Claim → Tree → List (List ℕ) → Type 0
-ReportSays p claim tree lines = (verdict : Verdict) × IsVerdict p claim tree verdict
-    × (lines ≡ verdict_lines p claim verdict)
+ReportSays p claim tree lines =
+    (verdict : Verdict) × IsVerdict p claim tree verdict
+    × (lines ≡ verdict_lines p claim tree verdict)
 
 -- A claim that fails, though nothing may be claimed, is refused for the first of its lines that
 -- does.

@@ -48,6 +48,8 @@ report_page =
     codes "one of materials and one of sums. Costs are above 0, incomes below; numbers with" ∷
     codes "more than 6 digits show 6. limit names the bound that an amount is at: max, min," ∷
     codes "fixed (both), idle (built, but of size 0), or UNBOUNDED?, at 1000000000." ∷
+    codes "If no network meets the bounds, those that clash follow: what the multipliers of" ∷
+    codes "the first ten refuted leaves use." ∷
     codes "Ends with" ∷
     codes "  0   The whole text was printed. Line 1 says what is proved." ∷
     codes "  1   refused claim WHY: the network of the claim breaks an axiom (axiom) or an" ∷

@@ -32,7 +32,7 @@ show_page =
     codes "  FILE    the plant, PNS_problem_v1" ∷
     codes "  BUDGET  the most nodes, 1 to 1000000; 10k is 10000; 1M if it is left out" ∷
     codes "Prints what pns report prints of the tree of pns solve: a line that begins with" ∷
-    codes "PROVED or NOT FINISHED, and then the network in tables, if there is one." ∷
+    codes "PROVED or NOT FINISHED, and then the network in tables or the bounds that clash." ∷
     codes "Standard error shows how far it is, unless PNS_QUIET is set." ∷
     codes "Ends with" ∷
     codes "  0   PROVED: no network costs less, or no network meets the bounds." ∷

@@ -5,6 +5,7 @@ use Rattle.problem_rules.specs.Problem.{Problem}
 use Rattle.tree_rules.specs.Claim.{Claim}
 use Rattle.tree_rules.specs.Accepted.{Tree}
 use Rattle.tree_text_rules.specs.Read.{Certificate}
+use Rattle.report_rules.specs.declared.verdict.Verdict.TheVariants.{Proved}
 use Rattle.studio_rules.specs.Solve.{Holds, Solves, status_of}
 use Rattle.studio_rules.specs.Report.{ReportSays, proved_line, tables_of}
 use Rattle.studio_rules.specs.declared.status.Status.{Status}
@@ -22,4 +23,4 @@ abbrev pub ShownIsProved : Type 0
 ShownIsProved =
     (budget : ℕ) (p : Problem) (lines : List (List ℕ)) → ShowWork budget p Done lines
     → (claim : Claim) × (tree : Tree) × Solves p claim tree
-    × (lines ≡ proved_line p claim ∷ tables_of p claim)
+    × (lines ≡ proved_line p claim ∷ tables_of p claim tree Proved)

@@ -56,3 +56,31 @@ list_page =
     codes "  00000000000000000000000000000005 U1 U3" ∷
     codes "  more 00000000000000000000000000000005" ∷
     []
+
+unfoldable pub lint_page : List (List ℕ)
+lint_page =
+    codes "pns lint FILE" ∷
+    codes "Warns of what looks odd in a plant and may be a slip. A warning is no fault." ∷
+    codes "  FILE  the plant, PNS_problem_v1" ∷
+    codes "Prints line L KIND NAME for each warning, in the order of the lines L of FILE," ∷
+    codes "and in a line after it what KIND means; or clean. KIND is NoNetwork," ∷
+    codes "UnusedMaterial, NoDemand, DefaultCapacity, Free, FreeRaw, NoLimit, Twins," ∷
+    codes "FineRates or Alone." ∷
+    codes "Ends with" ∷
+    codes "  0   The whole text was printed." ∷
+    codes "  2, 3, 6, 7, 8, 12, 20: see pns help status" ∷
+    codes "Example" ∷
+    codes "  pns lint a.pns" ∷
+    codes "  line 23 UnusedMaterial E" ∷
+    codes "    No unit of the maximal structure uses or makes this material." ∷
+    codes "  line 24 UnusedMaterial F" ∷
+    codes "    No unit of the maximal structure uses or makes this material." ∷
+    codes "  line 31 NoNetwork U4" ∷
+    codes "    No network can have this unit: it is outside the maximal structure." ∷
+    codes "  line 31 Free U4" ∷
+    codes "    All costs of this unit are 0." ∷
+    codes "  line 32 NoNetwork U5" ∷
+    codes "    No network can have this unit: it is outside the maximal structure." ∷
+    codes "  line 32 Free U5" ∷
+    codes "    All costs of this unit are 0." ∷
+    []

@@ -11,16 +11,16 @@ use Rattle.studio_rules.specs.PageLines.{text_of, IsOfLines}
 use Rattle.studio_rules.specs.Overview.{overview, version}
 use Rattle.studio_rules.specs.Pages.{page_text, command_text}
 use Rattle.studio_words.proofs.WholePages.{command_whole, page_whole}
-use Rattle.studio_rules.specs.Command.{Command, Max, Axioms, Flows, Listing, Migrate, Editing}
-use Rattle.studio_rules.specs.Command.{Undoing, Checking, RankChecking, Solving, Showing, Telling}
-use Rattle.studio_rules.specs.Command.{is_help_word, is_version_word, is_page_word, or_else}
-use Rattle.studio_rules.specs.Command.{page_asked, merging_of, form_of, command_of, of_file}
-use Rattle.studio_rules.specs.Command.{on_file, with_file, made_by, tried_by, ranged_by, ranked_by}
-use Rattle.studio_rules.specs.Command.{kind_of, unit_names_of, count_of, seed_of, unit_count_of}
-use Rattle.studio_rules.specs.Command.{years_of, rank_count_of, budget_of, full_budget}
-use Rattle.studio_rules.specs.Command.{is_file_word, are_files, AreWithin, Table, Splitting}
-use Rattle.studio_rules.specs.Command.{Expanding, Drawing, DrawingNetwork, Reporting, Json}
-use Rattle.studio_rules.specs.Command.{Planning, Parting, PartingAgainst, Merging}
+use Rattle.studio_rules.specs.Command.{Command, Max, Axioms, Flows, Listing, Linting, Migrate}
+use Rattle.studio_rules.specs.Command.{Editing, Undoing, Checking, RankChecking, Solving, Showing}
+use Rattle.studio_rules.specs.Command.{Telling, is_help_word, is_version_word, is_page_word}
+use Rattle.studio_rules.specs.Command.{or_else, page_asked, merging_of, form_of, command_of}
+use Rattle.studio_rules.specs.Command.{of_file, on_file, with_file, made_by, tried_by, ranged_by}
+use Rattle.studio_rules.specs.Command.{ranked_by, kind_of, unit_names_of, count_of, seed_of}
+use Rattle.studio_rules.specs.Command.{unit_count_of, years_of, rank_count_of, budget_of}
+use Rattle.studio_rules.specs.Command.{full_budget, is_file_word, are_files, AreWithin, Table}
+use Rattle.studio_rules.specs.Command.{Splitting, Expanding, Drawing, DrawingNetwork, Reporting}
+use Rattle.studio_rules.specs.Command.{Json, Planning, Parting, PartingAgainst, Merging}
 use Rattle.stability_rules.specs.declared.spot.SpotKind.{SpotKind}
 
 numeral_within : (least most : ℕ) (word : List ℕ)
@@ -190,10 +190,11 @@ of_file_within : (word file : List ℕ) → IfSome (of_file word file) AreWithin
 of_file_within word file =
     either_within (bytes_eq word (codes "max")) (Some (Max file)) _ tt
     (either_within (bytes_eq word (codes "graph")) (Some (Drawing file)) _ tt
+    (either_within (bytes_eq word (codes "lint")) (Some (Linting file)) _ tt
     (either_within (bytes_eq word (codes "list")) (Some (Listing file (codes "start") 1000)) _ tt
     (either_within (bytes_eq word (codes "solve")) (Some (Solving file full_budget)) _ full_within
     (either_within (bytes_eq word (codes "show")) (Some (Showing file full_budget)) None full_within
-    tt))))
+    tt)))))
 
 forms_within : (words : List (List ℕ)) → IfSome (form_of words) AreWithin
 forms_within [] = tt

@@ -1,9 +1,9 @@
 -- Words of calls, and the commands that they are, by computation.
 use Rattle.std.proofs.Common.{◌≡◌, [], ◌∷◌, Some, None, codes, option_map, refl}
 use Rattle.studio_rules.specs.Pages.{command_page_of, command_text}
-use Rattle.studio_rules.specs.Command.{command_of, budget_of, Max, Listing, Solving, Ranking}
-use Rattle.studio_rules.specs.Command.{Planning, Parting, PartingAgainst, Ranging, Trial, Checking}
-use Rattle.studio_rules.specs.Command.{Merging, Flows, Telling}
+use Rattle.studio_rules.specs.Command.{command_of, budget_of, Max, Listing, Linting, Solving}
+use Rattle.studio_rules.specs.Command.{Ranking, Planning, Parting, PartingAgainst, Ranging, Trial}
+use Rattle.studio_rules.specs.Command.{Checking, Merging, Flows, Telling}
 use Rattle.stability_rules.specs.declared.spot.SpotKind.TheVariants as kinds
 
 -- budgets
@@ -100,6 +100,9 @@ input_second = refl
 
 input_twice : command_of (codes "check" ∷ codes "-" ∷ codes "-" ∷ []) ≡ None
 input_twice = refl
+
+lint_alone : command_of (codes "lint" ∷ codes "a.pns" ∷ []) ≡ Some (Linting (codes "a.pns"))
+lint_alone = refl
 
 input_alone : command_of (codes "max" ∷ codes "-" ∷ []) ≡ Some (Max (codes "-"))
 input_alone = refl

@@ -3,10 +3,10 @@ use Rattle.std.specs.Prelude.{map, string_bytes}
 use Rattle.studio_rules.specs.Command as rules
 use Rattle.studio_words.specs.declared.command.Command.{Command}
 use Rattle.studio_words.specs.declared.command.Command.TheVariants.{Max, Axioms, Flows, Listing}
-use Rattle.studio_words.specs.declared.command.Command.TheVariants.{Make, Migrate, Editing, Undoing}
-use Rattle.studio_words.specs.declared.command.Command.TheVariants.{Checking, RankChecking, Solving}
-use Rattle.studio_words.specs.declared.command.Command.TheVariants.{Showing, Ranking, Trial}
-use Rattle.studio_words.specs.declared.command.Command.TheVariants.{Telling}
+use Rattle.studio_words.specs.declared.command.Command.TheVariants.{Linting, Make, Migrate, Editing}
+use Rattle.studio_words.specs.declared.command.Command.TheVariants.{Undoing, Checking, RankChecking}
+use Rattle.studio_words.specs.declared.command.Command.TheVariants.{Solving, Showing, Ranking}
+use Rattle.studio_words.specs.declared.command.Command.TheVariants.{Trial, Telling}
 use Rattle.studio_words.specs.declared.command.Command.TheVariants.{Table, Splitting, Expanding}
 use Rattle.studio_words.specs.declared.command.Command.TheVariants.{Drawing, DrawingNetwork}
 use Rattle.studio_words.specs.declared.command.Command.TheVariants.{Reporting, Json, Ranging}
@@ -18,6 +18,7 @@ command_view (Max file) = rules.Max file.now
 command_view (Axioms file units) = rules.Axioms file.now units
 command_view (Flows file units) = rules.Flows file.now units
 command_view (Listing file after count) = rules.Listing file.now after.now count
+command_view (Linting file) = rules.Linting file.now
 command_view (Make number units) = rules.Make number units
 command_view (Migrate file years) = rules.Migrate file.now years
 command_view (Editing file script) = rules.Editing file.now script.now

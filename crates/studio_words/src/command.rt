@@ -24,6 +24,7 @@ pub enum Command<'a> {
     Axioms(&'a str, UnitNames),
     Flows(&'a str, UnitNames),
     Listing(&'a str, &'a str, u64),
+    Linting(&'a str),
     Make(u64, u64),
     Migrate(&'a str, u64),
     Editing(&'a str, &'a str),
@@ -153,6 +154,7 @@ fn of_file<'a>(word: &str, file: &'a str) -> Option<Command<'a>>
     match word {
         "max" => Some(Command::Max(file)),
         "graph" => Some(Command::Drawing(file)),
+        "lint" => Some(Command::Linting(file)),
         "list" => Some(Command::Listing(file, "start", FIRST_COUNT)),
         "solve" => Some(Command::Solving(file, MOST_NODES)),
         "show" => Some(Command::Showing(file, MOST_NODES)),

@@ -1,6 +1,6 @@
 -- The laws of trees that pass, for the trees of a problem.
 use Rattle.std.proofs.Common.{◌≡◌, ◌⊎◌, ℕ, zero, suc, ◌+◌, ◌^◌, ◌<◌, ◌≤◌, Bool, true, false, List}
-use Rattle.std.proofs.Common.{[], ◌∷◌, length, subst, inl, inr, arith}
+use Rattle.std.proofs.Common.{[], ◌∷◌, length, Option, subst, inl, inr, arith}
 use Rattle.number_sets.specs.Sets.{Avoids}
 use Rattle.problem_rules.specs.Problem.{Problem}
 use Rattle.problem_rules.specs.Validity.{IsValid}
@@ -10,7 +10,7 @@ use Rattle.pns_rules.specs.Nodes.{Node, is_free}
 use Rattle.pns_rules.proofs.ProperLemmas.{proper_if_valid}
 use Rattle.tree_rules.specs.Tree.{End, branch, leaf, TreeNode, after_all, Stands}
 use Rattle.tree_rules.specs.Claim.{Claim, claimed_cost}
-use Rattle.tree_rules.specs.Leaf.{Leaf, untried, LeafPasses}
+use Rattle.tree_rules.specs.Leaf.{Leaf, untried, Scaled, LeafPasses}
 use Rattle.tree_rules.specs.Accepted.{Tree, first_node, Proves}
 use Rattle.tree_rules.specs.Costs.{CostsEnough}
 use Rattle.tree_laws.specs.Laws.{AcceptedIsLeast, AcceptedIsOptimal, IsAtLeaf, LeavesCover}
@@ -42,10 +42,11 @@ leaves_cover partial p valid start claim tree a s f =
     }
 
 -- what the leaf of a structure says of it
-at_leaf : (partial : Bool) (p : Problem) → IsValid p → (start : Node) (claim : Claim) (tree : Tree)
-    → Proves partial p start claim tree
+pub at_leaf : (partial : Bool) (p : Problem) → IsValid p
+    → (start : Node) (claim : Claim) (tree : Tree) → Proves partial p start claim tree
     → (s : ℕ → Bool) (l : IsAtLeaf partial p start claim tree s)
-    → ((l.what ≡ untried) × (partial ≡ true)) ⊎ CostsEnough p (claimed_cost claim) s
+    → (((low : Option Scaled) × (l.what ≡ untried low)) × (partial ≡ true))
+    ⊎ CostsEnough p (claimed_cost claim) s
 at_leaf partial p valid start claim tree a s l =
     leaf_holds p valid partial (claimed_cost claim) (scale_of partial p claim a.claimed) l.node
     l.what l.passes s l.in_family
@@ -55,11 +56,11 @@ accepted_is_least p valid start claim tree a s f =
     elim
     (at_leaf false p valid start claim tree a s
     (leaves_cover false p valid start claim tree a s f)) [
-      | inl e ↦ absurd cc
+      | inl e ↦ absurd (let no : false ≡ true = e.1 in cc)
       | inr h ↦ h
     ]
 
-in_first : (p : Problem) (s : ℕ → Bool) → IsStructure (shape_of p) s → IsAllowed (shape_of p) s
+pub in_first : (p : Problem) (s : ℕ → Bool) → IsStructure (shape_of p) s → IsAllowed (shape_of p) s
     → InFamily (shape_of p) first_node.inside first_node.outside s
 in_first p s meets allowed = record {
   between = record { meets = meets; contains = λ u e. absurd cc; avoids = λ u e o. absurd cc };
@@ -77,9 +78,10 @@ partial_is_least p valid start claim tree a s f =
       | inl e ↦ inl (record {
         place = l.place;
         node = l.node;
+        low = e.0.0;
         stands =
-            subst (λ (w : Leaf). Stands (shape_of p) (start ∷ []) tree l.place l.node (leaf w)) e.0
-            l.stands;
+            subst (λ (w : Leaf). Stands (shape_of p) (start ∷ []) tree l.place l.node (leaf w))
+            e.0.1 l.stands;
         in_family = l.in_family;
       })
       | inr h ↦ inr h
@@ -120,7 +122,7 @@ partial_is_accepted p start claim tree a apart closed = record {
       passes_too (shape_of p) (LeafPasses true p (claimed_cost claim))
       (LeafPasses false p (claimed_cost claim)) (start ∷ []) tree
       (λ k n l w h. leaf_partial_whole p (claimed_cost claim) n l
-      (λ e. closed k n
+      (λ low e. closed k n low
       (subst (λ (v : Leaf). Stands (shape_of p) (start ∷ []) tree k n (leaf v)) e w)) h)
       a.passes;
 }

@@ -4,14 +4,17 @@ use Rattle.std.proofs.Common.{refl, sym, ap, ◌∙◌, inl, inr}
 use Rattle.problem_rules.specs.Problem.{Problem}
 use Rattle.pns_rules.specs.Shape.{Shape}
 use Rattle.pns_rules.specs.Nodes.{Node}
+use Rattle.flow_rules.specs.Net.{net_of}
+use Rattle.charge_rules.specs.Facts.{own_facts}
+use Rattle.charge_rules.proofs.LeafLemmas.{passing_has_no_cause, cause_is_one}
 use Rattle.tree_rules.specs.declared.why.Why.{Why}
 use Rattle.tree_rules.specs.Tree.{End, branch, leaf, TreeNode, StepsPass, after_all, below}
 use Rattle.tree_rules.specs.Tree.{EndPasses, Pass}
 use Rattle.tree_rules.specs.Fault.{Fails, AreLeafRules, EndFails, NodeFails, IsFirstFault}
-use Rattle.tree_rules.specs.Claim.{network, Claim, infeasible, unknown, CostOver, ClaimPasses}
-use Rattle.tree_rules.specs.Claim.{ClaimFails}
-use Rattle.tree_rules.specs.Leaf.{Leaf, dead, clash, refuted, bounded, untried, IsClaimed}
-use Rattle.tree_rules.specs.Leaf.{IsBounded, LeafPasses, LeafFails}
+use Rattle.tree_rules.specs.Claim.{network, Claim, infeasible, unknown, CostOver, IsAtLeast}
+use Rattle.tree_rules.specs.Claim.{ClaimPasses, ClaimFails}
+use Rattle.tree_rules.specs.Leaf.{Leaf, dead, clash, refuted, bounded, charged, untried, Scaled}
+use Rattle.tree_rules.specs.Leaf.{IsClaimed, IsBounded, why_of, LowFails, LeafPasses, LeafFails}
 
 -- a line that holds, with no fault below it
 pub holds : (Line : Type 0) (cause : Why) (Below : Type 0) (why : Why) → Line → (Below → ⊥)
@@ -76,7 +79,19 @@ leaf_passes partial p claimed n (refuted ys) why c f =
 leaf_passes partial p claimed n (bounded d ys) why c f =
     holds _ _ _ why (is_claimed p claimed n d ys c, c.positive, c.each_row)
     (holds _ _ _ why c.formed (holds _ _ _ why c.reaches none)) f
-leaf_passes partial p claimed n untried why c f = holds _ _ _ why c none f
+leaf_passes partial p claimed n (charged h) why c f =
+    passing_has_no_cause p (IsClaimed claimed) (IsAtLeast claimed) n (own_facts (net_of p)) h c f.0
+    f.2
+leaf_passes partial p claimed n (untried None) why c f = holds _ _ _ why c.0 none f
+leaf_passes partial p claimed n (untried (Some low)) why c f =
+    holds _ _ _ why c.0
+    (holds _ _ _ why (c.1.positive, c.1.each_row) (holds _ _ _ why c.1.formed none)) f
+
+low_one : (p : Problem) (n : Node) (low : Option Scaled) (why other : Why) → LowFails p n low why
+    → LowFails p n low other → why ≡ other
+low_one p n None why other = neither why other
+low_one p n (Some low) why other =
+    one_of _ _ _ _ why other (one_of _ _ _ _ why other (neither why other))
 
 pub leaf_one : (partial : Bool) (p : Problem) (claimed : Option CostOver) (n : Node) (l : Leaf)
     (why other : Why) → LeafFails partial p claimed n l why → LeafFails partial p claimed n l other
@@ -89,7 +104,14 @@ leaf_one partial p claimed n (refuted ys) why other =
 leaf_one partial p claimed n (bounded d ys) why other =
     one_of _ _ _ _ why other
     (one_of _ _ _ _ why other (one_of _ _ _ _ why other (neither why other)))
-leaf_one partial p claimed n untried why other = one_of _ _ _ _ why other (neither why other)
+leaf_one partial p claimed n (charged h) why other = λ f e.
+    f.1
+    ∙ ap why_of
+    (cause_is_one p (IsClaimed claimed) (IsAtLeast claimed) n (own_facts (net_of p)) h f.0 e.0 f.2
+    e.2)
+    ∙ sym e.1
+leaf_one partial p claimed n (untried low) why other =
+    one_of _ _ _ _ why other (low_one p n low why other)
 
 pub leaf_rules : (partial : Bool) (p : Problem) (claimed : Option CostOver)
     → AreLeafRules (LeafPasses partial p claimed) (LeafFails partial p claimed)

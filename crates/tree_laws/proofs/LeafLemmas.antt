@@ -1,28 +1,36 @@
 -- What a leaf says of each structure of its node.
-use Rattle.std.proofs.Common.{◌≡◌, ◌⊎◌, ℕ, ℤ, pos, ◌*ℤ◌, ◌≤ℤ◌, ◌<ℤ◌, Bool, true, List, Option, Some}
-use Rattle.std.proofs.Common.{None, refl, inl, inr, arith}
+use Rattle.std.proofs.Common.{◌≡◌, ◌⊎◌, ℕ, ℤ, pos, ◌*ℤ◌, ◌≤ℤ◌, ◌<ℤ◌, Bool, true, List, [], ◌∷◌}
+use Rattle.std.proofs.Common.{Option, Some, None, refl, subst, inl, inr, arith}
 use Rattle.std.proofs.lemmas.Int.{ints}
 use Rattle.integer_laws.proofs.Ring.{ring_z}
 use Rattle.integer_laws.proofs.Order.{mul-le_left, cancel_le}
 use Rattle.problem_rules.specs.Problem.{Problem}
 use Rattle.problem_rules.specs.Validity.{IsValid}
-use Rattle.pns_rules.specs.Shape.{shape_of}
+use Rattle.pns_rules.specs.Shape.{Shape, shape_of}
 use Rattle.pns_rules.specs.Structure.{InFamily}
 use Rattle.pns_rules.specs.Nodes.{Node}
 use Rattle.pns_rules.proofs.ProperLemmas.{proper_if_valid}
 use Rattle.pns_rules.proofs.StepLemmas.{dead_are_empty, clashes_are_empty}
 use Rattle.flow_rules.specs.Net.{net_of}
-use Rattle.flow_rules.specs.Flows.{cost}
+use Rattle.flow_rules.specs.Flows.{IsFlows, cost}
 use Rattle.flow_rules.specs.Relaxed.{bound}
 use Rattle.flow_rules.proofs.DualityLemmas.{weak_duality_holds, refutation_holds}
-use Rattle.tree_rules.specs.Claim.{network, Claim, infeasible, unknown, CostOver, claimed_cost}
-use Rattle.tree_rules.specs.Claim.{ClaimPasses}
-use Rattle.tree_rules.specs.Leaf.{Leaf, dead, clash, refuted, bounded, untried, multiplier}
-use Rattle.tree_rules.specs.Leaf.{IsBounded, LeafPasses}
+use Rattle.charge_rules.specs.Facts.{own_facts}
+use Rattle.charge_rules.specs.Cover.{Cover}
+use Rattle.charge_rules.specs.Leaf.{Handed, IsScale, CoversPass, charge_of, ChargeReaches}
+use Rattle.charge_rules.specs.Leaf as charges
+use Rattle.charge_rules.specs.Laws.{AreCovers}
+use Rattle.charge_rules.proofs.DualityLemmas.{charge_duality, charge_refutes, own_facts_hold}
+use Rattle.charge_rules.proofs.DualityLemmas.{flows_fit}
+use Rattle.tree_rules.specs.Claim.{network, Claim, infeasible, unknown, CostOver, IsAtLeast}
+use Rattle.tree_rules.specs.Claim.{claimed_cost, ClaimPasses}
+use Rattle.tree_rules.specs.Leaf.{Leaf, dead, clash, refuted, bounded, charged, untried, Scaled}
+use Rattle.tree_rules.specs.Leaf.{multiplier, IsBounded, IsCharged, IsLow, LeafPasses}
 use Rattle.tree_rules.specs.Costs.{CostsEnough}
+use Rattle.tree_rules.specs.Lower.{bound_over}
 
 -- n / e is at most b / d, and b / d at most c / z
-chain : (n e d b z c : ℤ) → pos 1 ≤ℤ d → pos 1 ≤ℤ z → pos 0 ≤ℤ e → (n *ℤ d) ≤ℤ (b *ℤ e)
+pub chain : (n e d b z c : ℤ) → pos 1 ≤ℤ d → pos 1 ≤ℤ z → pos 0 ≤ℤ e → (n *ℤ d) ≤ℤ (b *ℤ e)
     → (z *ℤ b) ≤ℤ (d *ℤ c) → (n *ℤ z) ≤ℤ (c *ℤ e)
 chain n e d b z c hd hz he h k =
     let p : (z *ℤ (n *ℤ d)) ≤ℤ (z *ℤ (b *ℤ e)) =
@@ -45,6 +53,22 @@ scale_of partial p (network w) c = let h : pos 1 ≤ℤ w.d = c.flows.positive i
 scale_of partial p infeasible c = tt
 scale_of partial p unknown c = tt
 
+are_covers : (g : Shape) (n : Node) (covers : List Cover) → CoversPass g n covers
+    → AreCovers g n covers
+are_covers g n [] h = tt
+are_covers g n (c ∷ cs) h = ((h.0.weight, h.0.covers), are_covers g n cs h.1)
+
+not_negative : {C : Type 0} {d : ℤ} → IsScale C d → pos 0 ≤ℤ d
+not_negative (inl e) = omega (arith, ints)
+not_negative (inr h) = let some = h.0 in omega (arith, ints)
+
+-- b / d is at most c / z
+over : (b d z c : ℤ) → (z *ℤ b) ≤ℤ (d *ℤ c) → (b *ℤ z) ≤ℤ (c *ℤ d)
+over b d z c h =
+    let one : b *ℤ z ≡ z *ℤ b = omega (arith, ring_z) in
+    let two : c *ℤ d ≡ d *ℤ c = omega (arith, ring_z) in
+    omega (arith, ints)
+
 module _ (p : Problem) (valid : IsValid p) where
   bounded_holds : (claimed : Option CostOver) → HasScale claimed → (n : Node) (d : ℤ) (ys : List ℤ)
       → IsBounded p claimed n d ys → (s : ℕ → Bool) → InFamily (shape_of p) n.inside n.outside s
@@ -58,11 +82,56 @@ module _ (p : Problem) (valid : IsValid p) where
       chain claimed.cost claimed.d d (bound (net_of p) n d (multiplier p n ys)) e
       (cost (net_of p) s z e) one flows.positive scale b.reaches weak
 
+  -- a charge is a bound of the flows of each structure, which fit the problem's own numbers
+  module _ (n : Node) (h : Handed) (covered : CoversPass (shape_of p) n h.covers) (s : ℕ → Bool)
+      (f : InFamily (shape_of p) n.inside n.outside s) (z : ℕ → ℤ) (e : ℤ)
+      (flows : IsFlows (net_of p) s z e) where
+    above : pos 0 ≤ℤ h.d → (e *ℤ charge_of p n (own_facts (net_of p)) h)
+        ≤ℤ (h.d *ℤ cost (net_of p) s z e)
+    above some =
+        charge_duality p valid n s f.between (own_facts (net_of p)) (own_facts_hold p valid) z e
+        flows (flows_fit p s z e flows) h.covers
+        (are_covers (shape_of p) n h.covers covered) h.d some (charges.multiplier p n h)
+
+    none_left : h.d ≡ pos 0 → pos 0 <ℤ charge_of p n (own_facts (net_of p)) h → ⊥
+    none_left no_cost more =
+        charge_refutes p valid n s f.between (own_facts (net_of p)) (own_facts_hold p valid)
+        h.covers
+        (are_covers (shape_of p) n h.covers covered) (charges.multiplier p n h)
+        (subst
+        (λ (x : ℤ). pos 0 <ℤ charge_of p n (own_facts (net_of p))
+        (record { d = x; ys = h.ys; covers = h.covers })) no_cost more)
+        z e flows (flows_fit p s z e flows)
+
+  charged_holds : (claimed : Option CostOver) → HasScale claimed → (n : Node) (h : Handed)
+      → IsCharged p claimed n h → (s : ℕ → Bool) → InFamily (shape_of p) n.inside n.outside s
+      → CostsEnough p claimed s
+  charged_holds claimed scale n h c s f z e flows = at claimed scale c.reaches
+    where
+      at : (k : Option CostOver) → HasScale k
+          → ChargeReaches (IsAtLeast k) (charge_of p n (own_facts (net_of p)) h) h.d
+          → IsAtLeast k (cost (net_of p) s z e) e
+      at None sc (inl r) = r.1
+      at (Some k) sc (inl r) =
+          chain k.cost k.d h.d (charge_of p n (own_facts (net_of p)) h) e (cost (net_of p) s z e)
+          r.0 flows.positive sc r.1
+          (above n h c.covered s f z e flows (not_negative c.scale))
+      at k sc (inr r) = absurd (none_left n h c.covered s f z e flows r.0 r.1)
+
+  -- no structure of an open leaf costs less than its bound
+  pub low_holds : (n : Node) (low : Scaled) → IsLow p n low → (s : ℕ → Bool)
+      → InFamily (shape_of p) n.inside n.outside s → CostsEnough p (Some (bound_over p n low)) s
+  low_holds n low h s f z e flows =
+      let some : pos 1 ≤ℤ low.d = h.positive in
+      over (bound (net_of p) n low.d (multiplier p n low.ys)) low.d e (cost (net_of p) s z e)
+      (weak_duality_holds p valid n s f.between z e flows low.d (omega (arith, ints))
+      (multiplier p n low.ys))
+
   -- a leaf that passes is open, or each structure of its node costs enough
   pub leaf_holds : (partial : Bool) (claimed : Option CostOver) → HasScale claimed
       → (n : Node) (l : Leaf) → LeafPasses partial p claimed n l → (s : ℕ → Bool)
-      → InFamily (shape_of p) n.inside n.outside s → ((l ≡ untried) × (partial ≡ true))
-      ⊎ CostsEnough p claimed s
+      → InFamily (shape_of p) n.inside n.outside s
+      → (((low : Option Scaled) × (l ≡ untried low)) × (partial ≡ true)) ⊎ CostsEnough p claimed s
   leaf_holds partial claimed scale n (dead x) h s f =
       inr (λ z d flows. absurd (dead_are_empty (shape_of p) n x s (proper_if_valid p valid) h f))
   leaf_holds partial claimed scale n (clash k) h s f =
@@ -72,4 +141,5 @@ module _ (p : Problem) (valid : IsValid p) where
       (refutation_holds p valid n (multiplier p n ys) h.refutes s f.between z d flows))
   leaf_holds partial claimed scale n (bounded d ys) h s f =
       inr (bounded_holds claimed scale n d ys h s f)
-  leaf_holds partial claimed scale n untried h s f = inl (refl, h)
+  leaf_holds partial claimed scale n (charged c) h s f = inr (charged_holds claimed scale n c h s f)
+  leaf_holds partial claimed scale n (untried low) h s f = inl ((low, refl), h.0)

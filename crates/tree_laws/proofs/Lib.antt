@@ -6,6 +6,7 @@ mod ExampleLeaf
 pub mod FaultLemmas
 pub mod FewLemmas
 pub mod LeafLemmas
+pub mod LowerLemmas
 pub mod OneLemmas
 pub mod OpenLemmas
 pub mod SidesLemmas

@@ -6,7 +6,8 @@ use Rattle.pns_rules.specs.Nodes.{Node}
 use Rattle.tree_rules.specs.Tree.{End, branch, leaf, TreeNode, after_all, below, Stands, EndPasses}
 use Rattle.tree_rules.specs.Tree.{Pass}
 use Rattle.tree_rules.specs.Claim.{network, Claim, infeasible, unknown, CostOver, ClaimPasses}
-use Rattle.tree_rules.specs.Leaf.{Leaf, dead, clash, refuted, bounded, untried, LeafPasses}
+use Rattle.tree_rules.specs.Leaf.{Leaf, dead, clash, refuted, bounded, charged, untried, Scaled}
+use Rattle.tree_rules.specs.Leaf.{LeafPasses}
 
 -- a tree that passes by P passes by Q, if each of its leaves does
 module _ {L : Type 0} (g : Shape) (P Q : Node → L → Type 0) where
@@ -36,7 +37,8 @@ leaf_whole_partial p claimed n (dead x) h = h
 leaf_whole_partial p claimed n (clash k) h = h
 leaf_whole_partial p claimed n (refuted ys) h = h
 leaf_whole_partial p claimed n (bounded d ys) h = h
-leaf_whole_partial p claimed n untried h = refl
+leaf_whole_partial p claimed n (charged c) h = h
+leaf_whole_partial p claimed n (untried low) h = (refl, h.1)
 
 pub claim_whole_partial : (p : Problem) (claim : Claim) → ClaimPasses false p claim
     → ClaimPasses true p claim
@@ -45,12 +47,14 @@ claim_whole_partial p infeasible h = h
 claim_whole_partial p unknown h = refl
 
 pub leaf_partial_whole : (p : Problem) (claimed : Option CostOver) (n : Node) (l : Leaf)
-    → (l ≡ untried → ⊥) → LeafPasses true p claimed n l → LeafPasses false p claimed n l
+    → ((low : Option Scaled) → l ≡ untried low → ⊥) → LeafPasses true p claimed n l
+    → LeafPasses false p claimed n l
 leaf_partial_whole p claimed n (dead x) apart h = h
 leaf_partial_whole p claimed n (clash k) apart h = h
 leaf_partial_whole p claimed n (refuted ys) apart h = h
 leaf_partial_whole p claimed n (bounded d ys) apart h = h
-leaf_partial_whole p claimed n untried apart h = absurd (apart refl)
+leaf_partial_whole p claimed n (charged c) apart h = h
+leaf_partial_whole p claimed n (untried low) apart h = absurd (apart low refl)
 
 pub claim_partial_whole : (p : Problem) (claim : Claim) → (claim ≡ unknown → ⊥)
     → ClaimPasses true p claim → ClaimPasses false p claim

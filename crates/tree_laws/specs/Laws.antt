@@ -1,6 +1,7 @@
 -- Laws of branch trees, each the contract of a public function of this crate.
-use Rattle.std.specs.Prelude.{◌≡◌, ◌⊎◌, ℕ, suc, ◌<◌, ◌≤◌, ◌^◌, Bool, ◌||◌, ◌==◌, List, [], ◌∷◌}
-use Rattle.std.specs.Prelude.{length, Option}
+use Rattle.std.specs.Prelude.{◌≡◌, ◌⊎◌, ℕ, suc, ◌<◌, ◌≤◌, ◌^◌, Bool, ◌||◌, ◌==◌, List, []}
+use Rattle.std.specs.Prelude.{◌∷◌}
+use Rattle.std.specs.Prelude.{length, Option, Some}
 use Rattle.number_sets.specs.Sets.{listed, Avoids}
 use Rattle.number_sets.specs.Options.{IsIn}
 use Rattle.problem_rules.specs.Problem.{Problem}
@@ -9,16 +10,20 @@ use Rattle.pns_rules.specs.Shape.{Shape, IsProper, shape_of}
 use Rattle.pns_rules.specs.Structure.{IsStructure, IsAllowed, InFamily}
 use Rattle.pns_rules.specs.Nodes.{Node, is_free}
 use Rattle.tree_rules.specs.declared.why.Why.{Why}
-use Rattle.tree_rules.specs.Ways.{Way, either, MayBranch, options_at, child_at, children_at}
+use Rattle.tree_rules.specs.Ways.{Way, either, MayBranch, options_at, child_at}
+use Rattle.tree_rules.specs.Ways.{children_at}
 use Rattle.tree_rules.specs.Ways.{IsDecision}
 use Rattle.tree_rules.specs.Tree.{End, leaf, Stands}
-use Rattle.tree_rules.specs.Claim.{Network, network, Claim, unknown, CostOver, claimed_cost}
+use Rattle.tree_rules.specs.Claim.{Network, network, Claim, unknown, CostOver}
+use Rattle.tree_rules.specs.Claim.{claimed_cost}
 use Rattle.tree_rules.specs.Claim.{IsFeasible, ClaimPasses, ClaimFails}
 use Rattle.tree_rules.specs.Fault.{AreLeafRules}
-use Rattle.tree_rules.specs.Leaf.{Leaf, untried, IsUntried, LeafPasses, LeafFails}
+use Rattle.tree_rules.specs.Leaf.{Leaf, untried, Scaled, IsUntried, LeafPasses, LeafFails}
 use Rattle.tree_rules.specs.Lean.{IsLean}
-use Rattle.tree_rules.specs.Accepted.{Tree, first_node, Proves, IsAccepted, IsPartial, NodeIsFault}
+use Rattle.tree_rules.specs.Accepted.{Tree, first_node, Proves, IsAccepted, IsPartial}
+use Rattle.tree_rules.specs.Accepted.{NodeIsFault}
 use Rattle.tree_rules.specs.Costs.{CostsEnough}
+use Rattle.tree_rules.specs.Lower.{lower_bound}
 
 -- ---- ways to branch
 
@@ -73,7 +78,8 @@ AcceptedIsLeast =
 -- if nothing is decided at the start, so does each clash-free solution structure of the problem
 abbrev pub AcceptedIsOptimal : Type 0
 AcceptedIsOptimal =
-    (p : Problem) → IsValid p → (claim : Claim) (tree : Tree) → IsAccepted p first_node claim tree
+    (p : Problem) → IsValid p → (claim : Claim) (tree : Tree)
+    → IsAccepted p first_node claim tree
     → (s : ℕ → Bool) → IsStructure (shape_of p) s → IsAllowed (shape_of p) s
     → CostsEnough p (claimed_cost claim) s
 
@@ -85,7 +91,8 @@ AcceptedHasFlows = (p : Problem) (start : Node) (w : Network) (tree : Tree)
 -- ---- leaves
 
 -- the structure s is in the family of a leaf, which passes at its node
-pub record IsAtLeaf (partial : Bool) (p : Problem) (start : Node) (claim : Claim) (tree : Tree)
+pub record IsAtLeaf (partial : Bool) (p : Problem) (start : Node) (claim : Claim)
+    (tree : Tree)
     (s : ℕ → Bool) : Type 0 where
   pub place : ℕ
   pub node : Node
@@ -97,16 +104,19 @@ pub record IsAtLeaf (partial : Bool) (p : Problem) (start : Node) (claim : Claim
 -- the families of the leaves cover that of the start
 abbrev pub LeavesCover : Type 0
 LeavesCover =
-    (partial : Bool) (p : Problem) → IsValid p → (start : Node) (claim : Claim) (tree : Tree)
+    (partial : Bool) (p : Problem) → IsValid p
+    → (start : Node) (claim : Claim) (tree : Tree)
     → Proves partial p start claim tree
     → (s : ℕ → Bool) → InFamily (shape_of p) start.inside start.outside s
     → IsAtLeaf partial p start claim tree s
 
 -- the structure s is in the family of an open leaf
-pub record IsStillOpen (p : Problem) (start : Node) (tree : Tree) (s : ℕ → Bool) : Type 0 where
+pub record IsStillOpen (p : Problem) (start : Node) (tree : Tree) (s : ℕ → Bool) : Type
+    0 where
   pub place : ℕ
   pub node : Node
-  pub stands : Stands (shape_of p) (start ∷ []) tree place node (leaf untried)
+  pub low : Option Scaled
+  pub stands : Stands (shape_of p) (start ∷ []) tree place node (leaf (untried low))
   pub in_family : InFamily (shape_of p) node.inside node.outside s
 
 -- so each clash-free solution structure of the start that is in no family of an open leaf costs at
@@ -118,10 +128,30 @@ PartialIsLeast =
     → (s : ℕ → Bool) → InFamily (shape_of p) start.inside start.outside s
     → IsStillOpen p start tree s ⊎ CostsEnough p (claimed_cost claim) s
 
+-- and if a partial tree has a lower bound, each clash-free solution structure of the start costs at
+-- least as much, open leaves or not; if there is no cost in it, it has no flows
+abbrev pub LowerBoundHolds : Type 0
+LowerBoundHolds =
+    (p : Problem) → IsValid p → (start : Node) (claim : Claim) (tree : Tree)
+    → IsPartial p start claim tree
+    → (low : Option CostOver) → lower_bound p start claim tree ≡ Some low
+    → (s : ℕ → Bool) → InFamily (shape_of p) start.inside start.outside s
+    → CostsEnough p low s
+
+-- if nothing is decided at the start, so does each clash-free solution structure of the problem
+abbrev pub LowerBoundOfAll : Type 0
+LowerBoundOfAll =
+    (p : Problem) → IsValid p → (claim : Claim) (tree : Tree)
+    → IsPartial p first_node claim tree
+    → (low : Option CostOver) → lower_bound p first_node claim tree ≡ Some low
+    → (s : ℕ → Bool) → IsStructure (shape_of p) s → IsAllowed (shape_of p) s
+    → CostsEnough p low s
+
 -- no solution structure is in the families of two leaves
 abbrev pub LeavesAreApart : Type 0
 LeavesAreApart =
-    (partial : Bool) (p : Problem) → IsValid p → (start : Node) (claim : Claim) (tree : Tree)
+    (partial : Bool) (p : Problem) → IsValid p
+    → (start : Node) (claim : Claim) (tree : Tree)
     → Proves partial p start claim tree
     → (s : ℕ → Bool) (j k : ℕ) (m n : Node) (a b : Leaf)
     → Stands (shape_of p) (start ∷ []) tree j m (leaf a)
@@ -132,7 +162,8 @@ LeavesAreApart =
 -- if no unit is both taken in and left out at the start, no two leaves are at one node
 abbrev pub LeavesAreDifferent : Type 0
 LeavesAreDifferent =
-    (partial : Bool) (p : Problem) → IsValid p → (start : Node) (claim : Claim) (tree : Tree)
+    (partial : Bool) (p : Problem) → IsValid p
+    → (start : Node) (claim : Claim) (tree : Tree)
     → Avoids start.inside start.outside
     → Proves partial p start claim tree → (j k : ℕ) (n : Node) (a b : Leaf)
     → Stands (shape_of p) (start ∷ []) tree j n (leaf a)
@@ -164,9 +195,11 @@ AcceptedIsPartial = (p : Problem) (start : Node) (claim : Claim) (tree : Tree)
 -- a partial tree that claims something and has no open leaf is accepted
 abbrev pub PartialIsAccepted : Type 0
 PartialIsAccepted =
-    (p : Problem) (start : Node) (claim : Claim) (tree : Tree) → IsPartial p start claim tree
+    (p : Problem) (start : Node) (claim : Claim) (tree : Tree)
+    → IsPartial p start claim tree
     → (claim ≡ unknown → ⊥)
-    → ((k : ℕ) (n : Node) → Stands (shape_of p) (start ∷ []) tree k n (leaf untried) → ⊥)
+    → ((k : ℕ) (n : Node) (low : Option Scaled)
+    → Stands (shape_of p) (start ∷ []) tree k n (leaf (untried low)) → ⊥)
     → IsAccepted p start claim tree
 
 -- ---- faults
@@ -188,12 +221,14 @@ ClaimHasOneFault = (partial : Bool) (p : Problem) (claim : Claim) (why other : W
 -- a tree that passes has no first fault, and the others have one
 abbrev pub PassingTreeHasNoFault : Type 0
 PassingTreeHasNoFault =
-    (partial : Bool) (p : Problem) (start : Node) (claim : Claim) (tree : Tree) (k : ℕ) (why : Why)
+    (partial : Bool) (p : Problem) (start : Node) (claim : Claim) (tree : Tree) (k : ℕ)
+    (why : Why)
     → Proves partial p start claim tree → NodeIsFault partial p start claim tree k why → ⊥
 
 abbrev pub TreeHasOneFault : Type 0
 TreeHasOneFault =
     (partial : Bool) (p : Problem) (start : Node) (claim : Claim) (tree : Tree) (j k : ℕ)
     (why other : Why)
-    → NodeIsFault partial p start claim tree j why → NodeIsFault partial p start claim tree k other
+    → NodeIsFault partial p start claim tree j why
+    → NodeIsFault partial p start claim tree k other
     → (j ≡ k) × (why ≡ other)

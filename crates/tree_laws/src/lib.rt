@@ -20,5 +20,5 @@ mod ways;
 pub use accepted::{accepted_has_flows, accepted_is_least, accepted_is_optimal};
 pub use faults::{claim_has_one_fault, leaf_has_one_fault, tree_has_one_fault};
 pub use lean::lean_is_small;
-pub use leaves::{leaves_cover, open_leaves_decide, partial_is_least};
+pub use leaves::{leaves_cover, lower_bound_holds, open_leaves_decide, partial_is_least};
 pub use ways::{children_are_many, children_at_a_unit, children_part_families};

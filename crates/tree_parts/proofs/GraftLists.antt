@@ -4,10 +4,11 @@ use Rattle.std.proofs.Common.{take, drop, get_or, ap, ◌∙◌, arith, add-one,
 use Rattle.std.proofs.lemmas.List.{length-drop, take_all}
 use Rattle.pns_rules.specs.Shape.{Shape}
 use Rattle.pns_rules.specs.Nodes.{Node}
-use Rattle.tree_rules.specs.Tree.{leaf, TreeNode, after_all, below, IsTree, Stands}
-use Rattle.tree_rules.specs.Leaf.{Leaf, untried}
+use Rattle.tree_rules.specs.Tree.{TreeNode, after_all, below, IsTree}
+use Rattle.tree_rules.specs.Leaf.{Leaf}
 use Rattle.tree_rules.specs.Accepted.{Tree}
 use Rattle.part_rules.specs.Graft.{grafted, graft_at}
+use Rattle.part_rules.specs.OpenLeaves.{StandsOpen}
 
 pub graft_pieces : (k : ℕ) (ts : Tree) (r : TreeNode Leaf) (rs : Tree) (t : TreeNode Leaf)
     → k < length ts → t ≡ get_or ts k t
@@ -19,9 +20,9 @@ graft_pieces (suc k) (x ∷ xs) r rs t h e =
 
 -- the place of a node in a tree is below the tree's length
 pub stands_below : (g : Shape) (ns : List Node) (ts : Tree) (k : ℕ) (n : Node)
-    → Stands g ns ts k n (leaf untried) → k < length ts
-stands_below g [] ts k n s = absurd s
-stands_below g (m ∷ ms) [] k n s = absurd s
+    → StandsOpen g ns ts k n → k < length ts
+stands_below g [] ts k n s = absurd s.1
+stands_below g (m ∷ ms) [] k n s = absurd s.1
 stands_below g (m ∷ ms) (t ∷ ts) zero n s = omega arith
 stands_below g (m ∷ ms) (t ∷ ts) (suc k) n s =
     let less = stands_below g (below g (after_all g m t.steps) t.end ++ ms) ts k n s in

@@ -4,11 +4,10 @@ use Rattle.std.proofs.Common.{refl, sym, ap, ◌∙◌, subst, arith, length-app
 use Rattle.std.proofs.Common.{IfOk, IfErr}
 use Rattle.problem_rules.specs.Problem.{Problem}
 use Rattle.pns_rules.specs.Shape.{shape_of}
-use Rattle.tree_rules.specs.Tree.{leaf, IsTree, Stands}
+use Rattle.tree_rules.specs.Tree.{IsTree}
 use Rattle.tree_rules.specs.Claim.{Claim, claimed_cost}
-use Rattle.tree_rules.specs.Leaf.{untried}
 use Rattle.tree_rules.specs.Accepted.{Tree, first_node, IsPartial}
-use Rattle.part_rules.specs.OpenLeaves.{open_leaves, IsAmong}
+use Rattle.part_rules.specs.OpenLeaves.{open_leaves, IsAmong, StandsOpen}
 use Rattle.part_rules.specs.Graft.{claim_of_both}
 use Rattle.part_laws.specs.Laws.{OpenLeavesStand, GraftIsTree, GraftIsPartial}
 use Rattle.part_laws.specs.Splices.{Splice, spliced, AreRising, IsPut, ArePut, settled, cheapest}
@@ -203,8 +202,7 @@ module _ (p : Problem) where
         → i < length ps → part ≡ get_or ps i part → IsGrowing claim tree ps (i + 1) new next
     one_waits claim tree ps i old new running next part g o is_tree is_partial next_is within here =
         let s : Splice = record { place = o.place; part = part.tree } in
-        let stands : Stands (shape_of p) (first_node ∷ []) tree o.place (start_of part)
-        (leaf untried) =
+        let stands : StandsOpen (shape_of p) (first_node ∷ []) tree o.place (start_of part) =
         (stand (shape_of p) first_node tree
         (record { number = o.place; node = start_of part })).0 o.leaf_is in
         let is_put : IsPut p first_node tree s =

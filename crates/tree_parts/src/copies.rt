@@ -4,6 +4,7 @@ ghost use Rattle.branch_tree.specs.View.{end_of};
 ghost use Rattle.part_rules.specs.Graft.{grafted};
 
 use branch_tree::{End, Multipliers, Network, Scaled, Steps, TreeNode};
+use covers::Covers;
 use std::alloc::{AllocError, Global};
 
 /// A copy of a network.
@@ -22,13 +23,14 @@ fn copied_end(alloc: Global, end: &End) -> Result<End, AllocError>
         End::Dead(material) => Ok(End::Dead(*material)),
         End::Clash(exclusion) => Ok(End::Clash(*exclusion)),
         End::Refuted(ys) => copied_refutation(alloc, ys),
-        End::Bound(scaled) => copied_bound(alloc, scaled),
+        End::Bound(scaled) => Ok(End::Bound(copied_scaled(alloc, scaled)?)),
+        End::Charge { scaled, covers } => copied_charge(alloc, scaled, covers),
         End::Branch { material, children } => Ok(End::Branch {
             material: *material,
             children: *children,
         }),
         End::Either(unit) => Ok(End::Either(*unit)),
-        End::Open => Ok(End::Open),
+        End::Open(low) => copied_open(alloc, low),
     }
 }
 
@@ -40,11 +42,32 @@ fn copied_refutation(alloc: Global, ys: &Multipliers) -> Result<End, AllocError>
     Ok(End::Refuted(Multipliers::from_vec(numbers)))
 }
 
-fn copied_bound(alloc: Global, scaled: &Scaled) -> Result<End, AllocError>
-    ensures { IfOk result (λ e. end_of e ≡ end_of (End.Bound scaled.now)) }
+fn copied_scaled(alloc: Global, scaled: &Scaled) -> Result<Scaled, AllocError>
+    ensures { IfOk result (λ s. s ≡ scaled.now) }
 {
     let numbers = scaled.numbers().to_vec(alloc)?;
-    Ok(End::Bound(Scaled::from_vec(numbers)))
+    Ok(Scaled::from_vec(numbers))
+}
+
+fn copied_charge(alloc: Global, scaled: &Scaled, covers: &Covers) -> Result<End, AllocError>
+    ensures { IfOk result (λ e. end_of e ≡ end_of (End.Charge scaled.now covers.now)) }
+{
+    let scaled = copied_scaled(alloc, scaled)?;
+    covers.are_kept();
+    let list = covers.covers().to_vec(alloc)?;
+    Ok(End::Charge {
+        scaled,
+        covers: Covers::from_vec(list),
+    })
+}
+
+fn copied_open(alloc: Global, low: &Option<Scaled>) -> Result<End, AllocError>
+    ensures { IfOk result (λ e. end_of e ≡ end_of (End.Open low.now)) }
+{
+    match low {
+        None => Ok(End::Open(None)),
+        Some(scaled) => Ok(End::Open(Some(copied_scaled(alloc, scaled)?))),
+    }
 }
 
 fn copied(alloc: Global, node: &TreeNode) -> Result<TreeNode, AllocError>

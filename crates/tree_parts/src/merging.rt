@@ -83,7 +83,7 @@ fn cheaper(alloc: Global, own: &Network, other: &Network) -> Result<Network, All
 fn is_open(end: &End) -> bool
     ensures { result ≡ grafts.is_open (end_of end.now) }
 {
-    matches!(end, End::Open)
+    matches!(end, End::Open(_))
 }
 
 pub(crate) fn has_open(nodes: &[TreeNode]) -> bool

@@ -5,6 +5,7 @@ pub mod Failing
 pub mod FirstLines
 pub mod Joining
 pub mod Naming
+pub mod NamedSets
 pub mod NodeByNode
 pub mod RisingUnits
 pub mod Scales

@@ -1,7 +1,7 @@
 -- A tree that is read node by node.
-use Rattle.std.proofs.Common.{◌≡◌, ◌+◌, ◌-◌, ◌<◌, ℕ, suc, List, [], ◌∷◌, ◌++◌, Option, Some, None}
-use Rattle.std.proofs.Common.{Result, Ok, Err, refl, sym, ap, ◌∙◌, subst, arith, append_assoc}
-use Rattle.std.proofs.Common.{append-nil}
+use Rattle.std.proofs.Common.{◌≡◌, ◌+◌, ◌-◌, ◌<◌, ℕ, zero, suc, List, [], ◌∷◌, ◌++◌, Option, Some}
+use Rattle.std.proofs.Common.{None, Result, Ok, Err, refl, sym, ap, ◌∙◌, subst, arith, append_assoc}
+use Rattle.std.proofs.Common.{append-nil, zero-add}
 use Rattle.problem_rules.specs.Each.{Each}
 use Rattle.problem_rules.specs.Problem.{Problem}
 use Rattle.pns_rules.specs.Nodes.{Step}
@@ -9,9 +9,13 @@ use Rattle.tree_rules.specs.Tree as trees
 use Rattle.tree_rules.specs.Leaf.{Leaf}
 use Rattle.tree_rules.specs.Accepted.{Tree}
 use Rattle.tree_text_rules.specs.Line.{Line}
-use Rattle.tree_text_rules.specs.LineRead.{step_read, end_line_read, option_read}
-use Rattle.tree_text_rules.specs.Read.{Fault, Taken, Head, with_step, with_end, with_node, on_line}
-use Rattle.tree_text_rules.specs.Read.{first_line, then_read, steps_taken, end_taken, nodes_taken}
+use Rattle.charge_rules.specs.Cover.{Cover}
+use Rattle.charge_rules.specs.Leaf.{Handed}
+use Rattle.tree_text_rules.specs.LineRead.{step_read, end_line_read, next_cover, option_read}
+use Rattle.tree_text_rules.specs.Read.{Fault, Taken, Head, with_step, with_end, with_covers}
+use Rattle.tree_text_rules.specs.Read.{charge_end, charge_of, with_node, between, at_steps}
+use Rattle.tree_text_rules.specs.Read.{at_covers, on_line, first_line, then_read, steps_taken}
+use Rattle.tree_text_rules.specs.Read.{covers_taken, end_behind, end_taken, nodes_taken}
 use Rattle.tree_text_rules.specs.declared.TreeKind.{TreeKind}
 use Rattle.tree_reading.specs.Gives.{begun, IsNode}
 use Rattle.tree_reading.specs.Place.{lines_at}
@@ -30,34 +34,136 @@ Reading = Result (Taken Tree) Fault
 
 -- ---- one node
 
+-- what follows a node's end
+abbrev behind_end : Problem → ℕ → Head → trees.End Leaf → ℕ → List Line → Reading
+behind_end p count head end number lines =
+    with_node (with_end head end) (nodes_taken p between (trees.children end + count) number lines)
+
 -- the end of a node after its steps, and then what follows the node
 abbrev pub after_steps : Problem → ℕ → Head → ℕ → List Line → Reading
 after_steps p count head number lines =
-    first_line (end_line_read p) number lines
-    (λ end lines. with_node (with_end head end)
-    (nodes_taken p None (trees.children end + count) (suc number) lines))
+    then_read (end_taken p number lines) (behind_end p count head)
+
+-- ---- the sets of a charge
+
+abbrev covers_on : Problem → Head → Handed → ℕ → ℕ → List Line → Reading
+covers_on p head h count number lines =
+    then_read (covers_taken p h.covers number lines)
+    (λ covers number lines. behind_end p count head (charge_end (with_covers h covers)) number
+    lines)
+
+at_cover : (p : Problem) (head : Head) (h : Handed) (count number : ℕ) (line : Line)
+    (lines : List Line) (r : Option (Result Cover TreeKind)) (close : Reading)
+    → close ≡ behind_end p count head (charge_end h) number (line ∷ lines)
+    → ((h' : Handed) → nodes_taken p (at_covers head h') count (suc number) lines
+    ≡ covers_on p head h' count (suc number) lines)
+    → elim r [
+      | Some read
+          ↦ on_line number read
+          (λ cover. nodes_taken p (at_covers head (with_covers h (h.covers ++ cover ∷ []))) count
+          (suc number) lines)
+      | None ↦ close
+    ]
+    ≡ then_read (elim r [
+      | None ↦ Ok (record { what = h.covers; number = number; behind = line ∷ lines })
+      | Some read
+          ↦ on_line number read
+          (λ cover. covers_taken p (h.covers ++ cover ∷ []) (suc number) lines)
+    ]) (λ covers number lines. behind_end p count head (charge_end (with_covers h covers)) number
+    lines)
+at_cover p head h count number line lines None close closed later = closed
+at_cover p head h count number line lines (Some (Ok cover)) close closed later =
+    later (with_covers h (h.covers ++ cover ∷ []))
+at_cover p head h count number line lines (Some (Err kind)) close closed later = refl
+
+-- a charge has no children
+closed : (p : Problem) (head : Head) (h : Handed) (count number : ℕ) (lines : List Line)
+    → with_node (with_end head (charge_end h)) (nodes_taken p between count number lines)
+    ≡ behind_end p count head (charge_end h) number lines
+closed p head h count number lines =
+    ap
+    (λ (n : ℕ). with_node (with_end head (charge_end h)) (nodes_taken p between n number lines))
+    (sym (zero-add count))
+
+nodes_by_covers : (p : Problem) (head : Head) (h : Handed) (count number : ℕ) (lines : List Line)
+    → nodes_taken p (at_covers head h) count number lines ≡ covers_on p head h count number lines
+unfolding nodes_taken
+nodes_by_covers p head h zero number [] = closed p head h zero number []
+nodes_by_covers p head h (suc count) number [] = closed p head h (suc count) number []
+nodes_by_covers p head h zero number (line ∷ lines) =
+    at_cover p head h zero number line lines (next_cover p h.covers line)
+    (with_node (with_end head (charge_end h)) (nodes_taken p between zero number (line ∷ lines)))
+    (closed p head h zero number (line ∷ lines))
+    (λ h'. nodes_by_covers p head h' zero (suc number) lines)
+nodes_by_covers p head h (suc count) number (line ∷ lines) =
+    at_cover p head h (suc count) number line lines (next_cover p h.covers line)
+    (with_node (with_end head (charge_end h))
+    (nodes_taken p between (suc count) number (line ∷ lines)))
+    (closed p head h (suc count) number (line ∷ lines))
+    (λ h'. nodes_by_covers p head h' (suc count) (suc number) lines)
+
+-- ---- ends
+
+abbrev on_end : Problem → ℕ → Head → trees.End Leaf → Option Handed → ℕ → List Line → Reading
+on_end p count head end o number lines = elim o [
+  | Some h ↦ nodes_taken p (at_covers head h) count number lines
+  | None ↦ behind_end p count head end number lines
+]
+
+then_then : (r : Result (Taken (List Cover)) Fault) (h : Handed)
+    (next : trees.End Leaf → ℕ → List Line → Reading)
+    → then_read r (λ covers number lines. next (charge_end (with_covers h covers)) number lines)
+    ≡ then_read
+    (then_read r
+    (λ covers number lines. Ok
+    (record { what = charge_end (with_covers h covers); number = number; behind = lines })))
+    next
+then_then (Ok taken) h next = refl
+then_then (Err fault) h next = refl
+
+end_by_behind : (p : Problem) (count : ℕ) (head : Head) (end : trees.End Leaf) (o : Option Handed)
+    (number : ℕ) (lines : List Line)
+    → on_end p count head end o number lines
+    ≡ then_read (end_behind p end o number lines) (behind_end p count head)
+end_by_behind p count head end None number lines = refl
+end_by_behind p count head end (Some h) number lines =
+    nodes_by_covers p head h count number lines
+    ∙ then_then (covers_taken p h.covers number lines) h (behind_end p count head)
+
+at_end : (p : Problem) (count : ℕ) (head : Head) (number : ℕ) (lines : List Line)
+    (r : Result (trees.End Leaf) TreeKind)
+    → on_line number r (λ end. on_end p count head end (charge_of end) (suc number) lines)
+    ≡ then_read (on_line number r (λ end. end_behind p end (charge_of end) (suc number) lines))
+    (behind_end p count head)
+at_end p count head number lines (Ok end) =
+    end_by_behind p count head end (charge_of end) (suc number) lines
+at_end p count head number lines (Err kind) = refl
+
+-- ---- steps
 
 at_line : (p : Problem) (head : Head) (count number : ℕ) (line : Line) (lines : List Line)
     (r : Option (Result Step TreeKind))
-    → ((head' : Head) → nodes_taken p (Some head') count (suc number) lines
+    → ((head' : Head) → nodes_taken p (at_steps head') count (suc number) lines
     ≡ then_read (steps_taken p head' (suc number) lines) (after_steps p count))
     → elim r [
       | Some read
           ↦ on_line number read
-          (λ step. nodes_taken p (Some (with_step head step)) count (suc number) lines)
-      | None ↦ after_steps p count head number (line ∷ lines)
+          (λ step. nodes_taken p (at_steps (with_step head step)) count (suc number) lines)
+      | None ↦ on_line number (end_line_read p line)
+          (λ end. on_end p count head end (charge_of end) (suc number) lines)
     ]
     ≡ then_read (elim r [
       | None ↦ Ok (record { what = head; number = number; behind = line ∷ lines })
       | Some read
           ↦ on_line number read (λ step. steps_taken p (with_step head step) (suc number) lines)
     ]) (after_steps p count)
-at_line p head count number line lines None later = refl
+at_line p head count number line lines None later =
+    at_end p count head number lines (end_line_read p line)
 at_line p head count number line lines (Some (Ok step)) later = later (with_step head step)
 at_line p head count number line lines (Some (Err kind)) later = refl
 
 nodes_by_steps : (p : Problem) (head : Head) (count number : ℕ) (lines : List Line)
-    → nodes_taken p (Some head) count number lines
+    → nodes_taken p (at_steps head) count number lines
     ≡ then_read (steps_taken p head number lines) (after_steps p count)
 unfolding nodes_taken
 nodes_by_steps p head count number [] = refl
@@ -77,21 +183,17 @@ module _ (p : Problem) (option : List ℕ) (number : ℕ) (lines : List Line) (h
       → end_taken p number' lines' ≡ Ok (record { what = end; number = number''; behind = lines'' })
       → begun p option count number lines
       ≡ with_node (with_end head end)
-      (nodes_taken p None (trees.children end + count) number'' lines'')
+      (nodes_taken p between (trees.children end + count) number'' lines'')
   node_read end number'' lines'' e =
       behind_steps
-      ∙ first_next (end_line_read p) number' lines'
-      (λ end number lines. with_node (with_end head end)
-      (nodes_taken p None (trees.children end + count) number lines))
-      (record { what = end; number = number''; behind = lines'' }) e
+      ∙ ap
+      (λ (r : Result (Taken (trees.End Leaf)) Fault). then_read r (behind_end p count head)) e
 
   pub end_told : (fault : TextFault TreeKind) → Tells (end_taken p number' lines') fault
       → Tells (begun p option count number lines) fault
   end_told fault h =
       subst (λ (r : Reading). Tells r fault) (sym behind_steps)
-      (first_tells (end_line_read p) number' lines'
-      (λ end lines. with_node (with_end head end)
-      (nodes_taken p None (trees.children end + count) (suc number') lines)) fault h)
+      (then_tells (end_taken p number' lines') (behind_end p count head) fault h)
 
 pub steps_told : (p : Problem) (option : List ℕ) (number : ℕ) (lines : List Line) (count : ℕ)
     (fault : TextFault TreeKind)
@@ -132,7 +234,7 @@ pub record IsBegun (p : Problem) (whole : Reading) (front : Tree) (option : List
 -- After these nodes `count` subtrees are left.
 pub record IsOpen (p : Problem) (whole : Reading) (front : Tree) (count number : ℕ)
     (lines : List Line) : Type 0 where
-  pub leads : with_front front (nodes_taken p None count number lines) ≡ whole
+  pub leads : with_front front (nodes_taken p between count number lines) ≡ whole
   pub shape : (ts : Tree) → trees.IsForest count ts → trees.IsTree (front ++ ts)
 
 pub nothing_before : (p : Problem) (front : Tree) (option : List ℕ) (number : ℕ) (lines : List Line)
@@ -166,7 +268,8 @@ node_on {p} {whole} {front} {nodes} {option} {bytes} {count} {more} {cut} {found
     let lines : List Line = lines_at bytes found.1 in
     subst (λ (c : Tree × ℕ). IsOpen p whole c.0 c.1 number lines) (λ i. (sym q i, sym q' i))
     (record {
-      leads = sym (regroup front t (nodes_taken p None (trees.children t.end + count) number lines))
+      leads =
+          sym (regroup front t (nodes_taken p between (trees.children t.end + count) number lines))
           ∙ ap (with_front front) (sym (node.reads count)) ∙ is.leads;
       shape =
           λ ts forest. subst (λ (us : Tree). trees.IsTree us) (sym (append_assoc front (t ∷ []) ts))
@@ -178,7 +281,7 @@ module _ {p : Problem} {whole : Reading} {front : Tree} {count number : ℕ} {li
   pub nodes_done : count ≡ 0 → whole ≡ Ok (record { what = front; number = number; behind = lines })
   unfolding nodes_taken
   nodes_done e =
-      sym is.leads ∙ ap (λ (n : ℕ). with_front front (nodes_taken p None n number lines)) e
+      sym is.leads ∙ ap (λ (n : ℕ). with_front front (nodes_taken p between n number lines)) e
       ∙ ap (λ (ts : Tree). Ok (record { what = ts; number = number; behind = lines }))
       (append-nil front)
 
@@ -192,7 +295,7 @@ module _ {p : Problem} {whole : Reading} {front : Tree} {count number : ℕ} {li
     one_more = omega arith
 
     by_option : (lines : List Line)
-        → nodes_taken p None (suc (count - 1)) number lines
+        → nodes_taken p between (suc (count - 1)) number lines
         ≡ first_line (option_read p) number lines
         (λ option lines. begun p option (count - 1) (suc number) lines)
     unfolding nodes_taken
@@ -204,7 +307,7 @@ module _ {p : Problem} {whole : Reading} {front : Tree} {count number : ℕ} {li
         (λ option lines. begun p option (count - 1) (suc number) lines)) ≡ whole
     at_option =
         ap (with_front front) (sym (by_option lines)
-        ∙ ap (λ (n : ℕ). nodes_taken p None n number lines) one_more) ∙ is.leads
+        ∙ ap (λ (n : ℕ). nodes_taken p between n number lines) one_more) ∙ is.leads
 
     pub option_told : (fault : TextFault TreeKind)
         → Tells (line_taken (option_read p) number lines) fault → Tells whole fault

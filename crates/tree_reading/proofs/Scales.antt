@@ -1,6 +1,6 @@
 -- A scale and multipliers, which are read in one list.
 use Rattle.std.proofs.Common.{◌≡◌, ◌<◌, ℕ, ℤ, true, List, [], ◌∷◌, length, Option, Some, None}
-use Rattle.std.proofs.Common.{Result, Ok, Err, refl, subst, arith}
+use Rattle.std.proofs.Common.{Result, Ok, Err, refl, ap, subst, arith}
 use Rattle.std.specs.Borrow.{Bor}
 use Rattle.std.specs.Option.{is_some}
 use Rattle.text_lines.specs.Tells.{TellsLine}
@@ -8,7 +8,9 @@ use Rattle.text_lines.specs.declared.fault.LineFault.{LineFault}
 use Rattle.text_lines.specs.declared.fault.LineFault.TheVariants as line
 use Rattle.branch_tree.specs.Scaled.{scaled_of}
 use Rattle.tree_text_rules.specs.Line.{Token}
-use Rattle.tree_text_rules.specs.LineRead.{one_and_more}
+use Rattle.tree_rules.specs.Leaf.{Leaf, untried}
+use Rattle.tree_rules.specs.Tree.{End, leaf}
+use Rattle.tree_text_rules.specs.LineRead.{one_and_more, open_of}
 use Rattle.tree_text_rules.specs.Token.{both, mapped, each, number_of}
 use Rattle.tree_text_rules.specs.declared.TreeKind.{TreeKind}
 use Rattle.tree_reading.specs.View.{tokens_in}
@@ -49,3 +51,14 @@ scaled_told tokens line.Memory some told = tt
 scaled_told [] (line.Kind kind) some told = absurd (omega arith)
 scaled_told (token ∷ tokens) (line.Kind kind) some told =
     fails_first (both (number_of token) (each number_of tokens)) kind told
+
+pub open_told : (tokens : List Token) (fault : LineFault TreeKind) → 0 < length tokens
+    → TellsLine (one_and_more number_of number_of tokens) fault
+    → TellsLine (mapped {A = Leaf} {B = End Leaf} (λ l. leaf l) (open_of tokens)) fault
+open_told tokens line.Memory some told = tt
+open_told [] (line.Kind kind) some told = absurd (omega arith)
+open_told (token ∷ tokens) (line.Kind kind) some told =
+    ap
+    (λ (r : Result (ℤ × List ℤ) TreeKind). mapped {A = Leaf} {B = End Leaf} (λ l. leaf l)
+    (mapped {B = Leaf} (λ found. untried (Some (record { d = found.0; ys = found.1 }))) r))
+    told

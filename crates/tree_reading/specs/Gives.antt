@@ -1,14 +1,14 @@
 -- What a reader answers, by what the grammar reads: the value that the lines stand for, with what
 -- is known of it, or their first fault. A view says which value of the rules a value of the code
 -- is.
-use Rattle.std.specs.Prelude.{◌≡◌, ◌+◌, ℕ, List, [], Some, None, Result, Ok, Err}
+use Rattle.std.specs.Prelude.{◌≡◌, ◌+◌, ℕ, List, Result, Ok, Err}
 use Rattle.problem_rules.specs.Problem.{Problem}
 use Rattle.tree_rules.specs.Tree as trees
 use Rattle.tree_rules.specs.Leaf.{Leaf}
 use Rattle.tree_rules.specs.Known.{KnowsNode}
 use Rattle.tree_rules.specs.Accepted.{Tree}
 use Rattle.tree_text_rules.specs.Line.{Line}
-use Rattle.tree_text_rules.specs.Read.{Fault, Taken, with_node, nodes_taken}
+use Rattle.tree_text_rules.specs.Read.{Fault, Taken, with_node, between, at_option, nodes_taken}
 use Rattle.tree_text_rules.specs.declared.TreeKind.{TreeKind}
 use Rattle.text_lines.specs.declared.fault.TextFault.{TextFault}
 use Rattle.text_lines.specs.Tells.{Tells}
@@ -39,8 +39,7 @@ GivesAt view Known read bytes cut (Err fault) = Tells (read cut.line (lines_at b
 -- what is read of a tree after the line of a node with this option, with `count` subtrees after the
 -- node
 abbrev pub begun : Problem → List ℕ → ℕ → ℕ → List Line → Result (Taken Tree) Fault
-begun p option count number lines =
-    nodes_taken p (Some (record { option = option; steps = [] })) count number lines
+begun p option count number lines = nodes_taken p (at_option option) count number lines
 
 -- The node is the first in what is read; its children and the subtrees after it follow. The problem
 -- knows the node.
@@ -48,7 +47,7 @@ pub record IsNode (p : Problem) (option bytes : List ℕ) (cut : Cut)
     (found : trees.TreeNode Leaf × Cut) : Type 0 where
   pub reads : (count : ℕ) → begun p option count cut.line (lines_at bytes cut)
       ≡ with_node found.0
-      (nodes_taken p None (trees.children found.0.end + count) found.1.line
+      (nodes_taken p between (trees.children found.0.end + count) found.1.line
       (lines_at bytes found.1))
   pub behind : IsBehind bytes cut found.1
   pub option_is : found.0.option ≡ option

@@ -1,7 +1,10 @@
 //! The lines of ends.
-ghost use Rattle.std.specs.Prelude.{◌≡◌, Some, Ok, IfOk, IfErr};
+ghost use Rattle.std.specs.Prelude.{◌≡◌, [], Some, Ok, IfOk, IfErr, IfSome};
+ghost use Rattle.tree_text_rules.specs.Read.{charge_of};
 ghost use Rattle.branch_tree.specs.View.{end_of};
 ghost use Rattle.tree_rules.specs.Known.{KnowsEnd};
+ghost use Rattle.problem_rules.specs.Problem.{Problem};
+ghost use Rattle.tree_rules.specs.Tree as trees;
 ghost use Rattle.tree_rules.specs.Tree.{HasChildren};
 ghost use Rattle.tree_text_rules.specs.LineRead as reads;
 ghost use Rattle.tree_text_rules.specs.Token as rules;
@@ -9,13 +12,14 @@ ghost use Rattle.tree_reading.specs.Apart.{formed_by};
 ghost use Rattle.text_lines.specs.Tells.{TellsLine};
 ghost use Rattle.tree_reading.specs.View.{tokens_in};
 
-use crate::apart::{LineParts, alone, only, pair};
+use crate::apart::{LineParts, only, pair};
 use crate::fault_order::both;
 use crate::line_fault::LineFault;
 use crate::list::numbers_of;
 use crate::name::{exclusion_of, material_of, one_material, one_unit};
 use crate::number::children_of;
 use branch_tree::{End, Multipliers, Scaled};
+use covers::Covers;
 use pns_problem::Problem;
 use std::alloc::Global;
 use tree_text_rules::{TreeKind, Word};
@@ -25,10 +29,14 @@ use tree_text_rules::{TreeKind, Word};
 fn short_end(problem: &Problem, word: Option<Word>, fields: Option<&[u8]>) -> Result<End, TreeKind>
     requires refuted { word ≡ Some Word.Refuted → ⊥ }
     requires bound { word ≡ Some Word.Bound → ⊥ }
+    requires charge { word ≡ Some Word.Charge → ⊥ }
+    requires open { word ≡ Some Word.Open → ⊥ }
     ensures ok { IfOk result
         (λ end. reads.end_by problem.now word (tokens_in fields.entry) ≡ Ok (end_of end)) }
     ensures known { IfOk result (λ end. KnowsEnd problem.now (end_of end)) }
     ensures whole { IfOk result (λ end. HasChildren (end_of end)) }
+    ensures bare { IfOk result
+        (λ end. IfSome (charge_of (end_of end)) (λ h. h.covers ≡ [])) }
     ensures fault { IfErr result
         (λ kind. reads.end_by problem.now word (tokens_in fields.entry) ≡ Err kind) }
 {
@@ -41,7 +49,6 @@ fn short_end(problem: &Problem, word: Option<Word>, fields: Option<&[u8]>) -> Re
             Ok(End::Branch { material, children })
         }
         Some(Word::Either) => Ok(End::Either(one_unit(problem, fields)?)),
-        Some(Word::Open) => alone(End::Open, fields),
         _ => Err(TreeKind::BadLine),
     }
 }
@@ -61,7 +68,28 @@ fn scaled_in(alloc: Global, fields: Option<&[u8]>) -> Result<Scaled, LineFault>
     Ok(Scaled::from_vec(numbers_of(alloc, fields)?))
 }
 
-/// The end that a line says.
+// An open leaf, with a bound if one follows the word.
+fn open_end(alloc: Global, fields: Option<&[u8]>) -> Result<End, LineFault>
+    ensures ok { IfOk result
+        (λ end. rules.mapped (λ l. trees.leaf l) (reads.open_of (tokens_in fields.entry))
+        ≡ Ok (end_of end)) }
+    ensures known { IfOk result (λ end. (p : Problem) → KnowsEnd p (end_of end)) }
+    ensures whole { IfOk result (λ end. HasChildren (end_of end)) }
+    ensures bare { IfOk result
+        (λ end. IfSome (charge_of (end_of end)) (λ h. h.covers ≡ [])) }
+    ensures fault { IfErr result
+        (TellsLine
+        (rules.mapped (λ l. trees.leaf l) (reads.open_of (tokens_in fields.entry)))) }
+{
+    if fields.is_none() {
+        return Ok(End::Open(None));
+    }
+    let scaled = scaled_in(alloc, fields)?;
+    scaled.are_in_range();
+    Ok(End::Open(Some(scaled)))
+}
+
+/// The end that a line says. A charge has no set in it yet.
 pub fn end_line(alloc: Global, problem: &Problem, line: &LineParts) -> Result<End, LineFault>
     ensures ok { IfOk result
         (λ end. formed_by line.now.formed
@@ -69,6 +97,8 @@ pub fn end_line(alloc: Global, problem: &Problem, line: &LineParts) -> Result<En
         ≡ Ok (end_of end)) }
     ensures known { IfOk result (λ end. KnowsEnd problem.now (end_of end)) }
     ensures whole { IfOk result (λ end. HasChildren (end_of end)) }
+    ensures bare { IfOk result
+        (λ end. IfSome (charge_of (end_of end)) (λ h. h.covers ≡ [])) }
     ensures fault { IfErr result
         (TellsLine
         (formed_by line.now.formed
@@ -87,6 +117,14 @@ pub fn end_line(alloc: Global, problem: &Problem, line: &LineParts) -> Result<En
             scaled.are_in_range();
             Ok(End::Bound(scaled))
         }
+        Some(Word::Charge) => {
+            let scaled = scaled_in(alloc, line.fields)?;
+            scaled.are_in_range();
+            let covers = Covers::from_vec(Vec::new(alloc));
+            covers.are_kept();
+            Ok(End::Charge { scaled, covers })
+        }
+        Some(Word::Open) => open_end(alloc, line.fields),
         word => short_end(problem, word, line.fields).map_err(LineFault::Kind),
     }
 }

@@ -8,9 +8,9 @@
 //!
 //! Modules of one line: `line`, `apart` (its parts), `word`, `number`, `name`, `column` (one
 //! token), `list`, `unit_list`, `column_list` (all that are left), `place`, and the lines:
-//! `claim_line`, `node_line`, `steps`, `ends`, `tail_line`. `fault_order` gives the least of
-//! several faults. Modules of a text: `cut`, `fault`, `claim`, `head`, `node`, `nodes` (the tree),
-//! `tail`, `text`.
+//! `claim_line`, `node_line`, `steps`, `ends`, `sets`, `tail_line`. `fault_order` gives the
+//! least of several faults. Modules of a text: `cut`, `fault`, `claim`, `head`, `node`, `nodes`
+//! (the tree), `tail`, `text`.
 #![tactic(auto)]
 
 mod apart;
@@ -33,6 +33,7 @@ mod nodes;
 mod number;
 mod opening;
 mod place;
+mod sets;
 mod steps;
 mod tail;
 mod tail_line;

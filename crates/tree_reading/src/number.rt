@@ -33,6 +33,18 @@ pub fn number_of(token: &[u8]) -> Result<i128, TreeKind>
     whole_number(token).ok_or(TreeKind::BadNumber)
 }
 
+/// The weight of a set, at least 0.
+pub fn weight_of(token: &[u8]) -> Result<i128, TreeKind>
+    ensures value { result ≡ rules.weight_of token.now }
+    ensures range { IfOk result InRange }
+    ensures not_negative { IfOk result (λ weight. pos 0 ≤ℤ weight) }
+{
+    match number_of(token)? {
+        number if 0 <= number => Ok(number),
+        _ => Err(TreeKind::BadNumber),
+    }
+}
+
 /// The divisor of sizes and cost, at least 1.
 pub fn denominator_of(token: &[u8]) -> Result<i128, TreeKind>
     ensures value { result ≡ rules.denominator_of token.now }

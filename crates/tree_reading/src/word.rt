@@ -5,7 +5,7 @@ ghost use Rattle.tree_text_rules.specs.Line.{word_named};
 use text_lines::words::looked_up;
 use tree_text_rules::Word;
 
-const WORDS: [(&[u8], Word); 23] = [
+const WORDS: [(&[u8], Word); 26] = [
     (b"network", Word::Network),
     (b"sizes", Word::Sizes),
     (b"cost", Word::Cost),
@@ -21,6 +21,9 @@ const WORDS: [(&[u8], Word); 23] = [
     (b"clash", Word::Clash),
     (b"refuted", Word::Refuted),
     (b"bound", Word::Bound),
+    (b"charge", Word::Charge),
+    (b"some", Word::SomeOf),
+    (b"with", Word::With),
     (b"branch", Word::Branch),
     (b"either", Word::Either),
     (b"open", Word::Open),

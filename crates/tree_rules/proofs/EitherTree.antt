@@ -26,13 +26,13 @@ use Rattle.tree_rules.proofs.EitherProblem.{example, example_is_valid}
 use Rattle.tree_rules.proofs.Worked.{in_range, at_most, not_at_most, EachBelow, each_below, no_case}
 use Rattle.tree_rules.proofs.Worked.{no_other}
 
-abbrev g : Shape
+abbrev pub g : Shape
 g = shape_of example
 
-abbrev net : Net
+abbrev pub net : Net
 net = net_of example
 
-abbrev claim : Network
+abbrev pub claim : Network
 claim =
     record {
       units = 2 ∷ 3 ∷ [];
@@ -44,16 +44,16 @@ claim =
 
 -- ---- the tree
 
-abbrev first_steps : List Step
+abbrev pub first_steps : List Step
 first_steps = sole 3 3 ∷ []
 
-abbrev root_by : Way → TreeNode Leaf
+abbrev pub root_by : Way → TreeNode Leaf
 root_by w = record { option = []; steps = first_steps; end = branch w }
 
 abbrev split_by : List ℕ → Way → TreeNode Leaf
 split_by t w = record { option = t; steps = []; end = branch w }
 
-abbrev bound_by : List ℕ → List ℤ → TreeNode Leaf
+abbrev pub bound_by : List ℕ → List ℤ → TreeNode Leaf
 bound_by t ys = record { option = t; steps = []; end = leaf (bounded (pos 1) ys) }
 
 -- the multipliers with U3 in, with U1 and U2 out, and with U3 out
@@ -63,7 +63,7 @@ two_each = pos 0 ∷ pos 0 ∷ pos 2000000 ∷ pos 2000000 ∷ []
 abbrev two_last : List ℤ
 two_last = pos 0 ∷ pos 2000000 ∷ pos 2000000 ∷ []
 
-abbrev three_each : List ℤ
+abbrev pub three_each : List ℤ
 three_each = pos 0 ∷ pos 0 ∷ pos 3100000 ∷ pos 3100000 ∷ []
 
 -- the subtree with U3 in, with its option
@@ -84,7 +84,7 @@ is_tree = (refl, (omega arith, (omega arith, (tt, (omega arith, (tt, (tt, (tt, t
 
 -- ---- the claim
 
-proper : IsProper g
+pub proper : IsProper g
 proper = proper_if_valid example example_is_valid
 
 known : (u : ℕ) → has (2 ∷ 3 ∷ []) u ≡ true → u < 4
@@ -120,7 +120,7 @@ its_flows = record {
   high = each_below 4 _ high_ends;
 }
 
-is_feasible : IsFeasible example claim
+pub is_feasible : IsFeasible example claim
 unfolding listed
 is_feasible = record {
   structure = structure_if g proper (has (2 ∷ 3 ∷ [])) known refl;
@@ -133,14 +133,14 @@ is_feasible = record {
 
 -- ---- the nodes
 
-abbrev start : Node
+abbrev pub start : Node
 start = after g first_node (sole 3 3)
 
--- the nodes with U3 in or out; then with U1 in or out; then with U2 in or out
-abbrev three_in : Node
+-- at first U3 is in or out, then U1, then U2
+abbrev pub three_in : Node
 three_in = child_at g start (either 2) (2 ∷ [])
 
-abbrev three_out : Node
+abbrev pub three_out : Node
 three_out = child_at g start (either 2) []
 
 abbrev one_in : Node
@@ -158,11 +158,11 @@ two_out = child_at g one_out (either 1) []
 one_maker : EachBelow 4 (λ v. g.makes v 3 ≡ true → first_node.outside v ≡ false → v ≡ 3)
 one_maker = ((((tt, λ e. no_case e), λ e. no_case e), λ e. no_case e), λ e f. refl)
 
-its_steps : StepsPass g first_node first_steps
+pub its_steps : StepsPass g first_node first_steps
 its_steps = ((refl, omega arith, refl, refl, refl, each_below 4 _ one_maker), tt)
 
--- each unit may be decided at its node, and decides something
-three_may : MayBranch g start (either 2)
+-- each unit may be decided at its place, and decides something
+pub three_may : MayBranch g start (either 2)
 three_may = (omega arith, refl)
 
 one_may : MayBranch g three_in (either 0)
@@ -219,7 +219,7 @@ last_bound =
       reaches = at_most _ _ tt;
     }
 
-out_bound : Bounds three_out three_each
+pub out_bound : Bounds three_out three_each
 unfolding listed
 out_bound =
     record {

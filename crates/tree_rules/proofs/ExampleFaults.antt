@@ -1,5 +1,6 @@
 -- Changes of the example's tree and of its claim, and the first fault of each.
 use Rattle.std.proofs.Common.{◌≡◌, ℕ, ℤ, pos, ◌≤ℤ◌, false, List, [], ◌∷◌, refl, subst, inl, inr}
+use Rattle.std.proofs.Common.{None}
 use Rattle.number_sets.specs.Sets.{has, listed}
 use Rattle.pns_rules.specs.Nodes.{starve, loose, sole, child}
 use Rattle.pns_rules.proofs.DecideLemmas.{structure_if, allowed_if}
@@ -63,7 +64,7 @@ abbrev too_low : Tree
 too_low = root_with 3 ∷ first_with (pos 2999999) ∷ second ∷ last ∷ []
 
 abbrev still_open : Tree
-still_open = record { option = []; steps = []; end = leaf untried } ∷ []
+still_open = record { option = []; steps = []; end = leaf (untried None) } ∷ []
 
 -- ---- nodes
 

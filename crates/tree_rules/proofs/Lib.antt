@@ -1,6 +1,8 @@
+mod ChargeTree
 mod EitherProblem
 mod EitherTree
 mod ExampleFaults
 mod ExampleProblem
 mod ExampleTree
+mod OpenTree
 mod Worked

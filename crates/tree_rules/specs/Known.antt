@@ -1,6 +1,8 @@
 -- Values whose numbers a problem knows: each unit, material and exclusion is below the problem's
--- count, and each set of units is a rising list. Whole numbers are in range.
-use Rattle.std.specs.Prelude.{ℕ, ◌<◌, List, length, Option, Some, None}
+-- count, and each set of units rises. Whole numbers are in range. A charge has a million sets at
+-- most, each with units and a weight that is not below 0.
+use Rattle.std.specs.Prelude.{◌≡◌, ℕ, ◌<◌, ◌≤◌, pos, ◌≤ℤ◌, List, [], length, Option, Some, None}
+use Rattle.std.specs.Prelude.{IfSome}
 use Rattle.number_sets.specs.Sets.{IsSet}
 use Rattle.integer_laws.specs.Range.{InRange, AllInRange}
 use Rattle.problem_rules.specs.Each.{Each}
@@ -10,6 +12,8 @@ use Rattle.flow_rules.specs.declared.place.Column.{Column}
 use Rattle.flow_rules.specs.declared.place.Column.TheVariants.{X, S, T, W, Right, Scale}
 use Rattle.flow_rules.specs.declared.place.Place.{Place}
 use Rattle.flow_rules.specs.declared.place.Place.TheVariants as places
+use Rattle.charge_rules.specs.Cover.{Cover}
+use Rattle.charge_rules.specs.Leaf.{Handed}
 use Rattle.tree_rules.specs.Ways as ways
 use Rattle.tree_rules.specs.Tree as trees
 use Rattle.tree_rules.specs.Leaf as leaves
@@ -37,12 +41,29 @@ KnowsStep p (nodes.starve x) = IsMaterial p x
 KnowsStep p (nodes.loose us) = AreUnits p us
 KnowsStep p (nodes.sole x u) = IsMaterial p x × IsUnit p u
 
+pub record KnowsCover (p : Problem) (c : Cover) : Type 0 where
+  pub weight : InRange c.weight
+  pub not_negative : pos 0 ≤ℤ c.weight
+  pub beside : IfSome c.beside (IsUnit p)
+  pub units : AreUnits p c.units
+  pub some : c.units ≡ [] → ⊥
+
+pub record KnowsCharge (p : Problem) (h : Handed) : Type 0 where
+  pub scale : InRange h.d
+  pub multipliers : AllInRange h.ys
+  pub few : length h.covers ≤ 1000000
+  pub covers : Each (KnowsCover p) h.covers
+
+abbrev pub KnowsLow : leaves.Scaled → Type 0
+KnowsLow low = InRange low.d × AllInRange low.ys
+
 abbrev pub KnowsLeaf : Problem → leaves.Leaf → Type 0
 KnowsLeaf p (leaves.dead x) = IsMaterial p x
 KnowsLeaf p (leaves.clash k) = IsExclusion p k
 KnowsLeaf p (leaves.refuted ys) = AllInRange ys
 KnowsLeaf p (leaves.bounded d ys) = InRange d × AllInRange ys
-KnowsLeaf p leaves.untried = Unit {0}
+KnowsLeaf p (leaves.charged h) = KnowsCharge p h
+KnowsLeaf p (leaves.untried low) = IfSome low KnowsLow
 
 abbrev pub KnowsWay : Problem → ways.Way → Type 0
 KnowsWay p (ways.at_material x c) = IsMaterial p x

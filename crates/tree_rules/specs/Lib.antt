@@ -6,6 +6,7 @@ pub mod Known
 pub mod Leaf
 pub mod Lean
 pub mod LeastFlows
+pub mod Lower
 pub mod Past
 pub mod Proved
 pub mod Refusals

@@ -6,10 +6,10 @@
 //!
 //! In `specs/`: `Ways` to branch at a node; `Tree`, trees and when one passes; `Fault`, its first
 //! fault; `Claim`, `Costs` and `Leaf`; `Accepted`, whole and partial trees; `Refusals`, what a
-//! refusal says; `Lean`, `Stops` and `Proved`, what a search promises of its trees and when it
-//! stops; `Tail`, at which node a search stopped; `Past`, when a number of a node overflows;
-//! `Known`, when the numbers of a value are below the counts of a problem; `LeastFlows`, what can
-//! be said of the flows of one solution structure.
+//! refusal says; `Lower`, below which cost no structure is; `Lean`, `Stops` and `Proved`, what a
+//! search promises of its trees and when it stops; `Tail`, at which node a search stopped; `Past`,
+//! when a number of a node overflows; `Known`, when the numbers of a value are below the counts of
+//! a problem; `LeastFlows`, what can be said of the flows of one solution structure.
 #![tactic(auto)]
 
 mod refusal;

@@ -26,8 +26,12 @@ pub enum Why {
     /// The multipliers are not one for each row, or do not refute the node.
     Refuted,
     /// No network is claimed, the scale is below 1, the multipliers are not one for each row, or
-    /// the bound is below the claimed cost.
+    /// the bound is below the claimed cost. A charge may also have the scale 0, and fails if it is
+    /// not above 0 then.
     Bound,
+    /// A set of units is not one of free units of which each structure of the node has one, or its
+    /// weight is below 0.
+    Cover,
     /// A number that is formed for a sum is out of range.
     Sum,
 }

@@ -2,17 +2,21 @@
 ghost use Rattle.std.specs.Prelude.{◌≡◌, ◌∷◌, [], map};
 ghost use Rattle.problem_rules.specs.Each.{Each};
 ghost use Rattle.pgraph.specs.View.{step_of};
-ghost use Rattle.tree_rules.specs.Known.{AreUnits, KnowsStep, KnowsEnd, KnowsNode, KnowsTree};
-ghost use Rattle.tree_rules.specs.Known.{KnowsClaim, KnowsColumn, KnowsPlace, KnowsTail};
+ghost use Rattle.tree_rules.specs.Known.{AreUnits, KnowsStep, KnowsCover, KnowsEnd, KnowsNode};
+ghost use Rattle.tree_rules.specs.Known.{KnowsTree, KnowsClaim, KnowsColumn, KnowsPlace, KnowsTail};
+ghost use Rattle.tree_rules.specs.Tree as trees;
+ghost use Rattle.tree_rules.specs.Leaf as leaves;
+ghost use Rattle.covers.specs.View.{cover_of, covers_of};
 ghost use Rattle.branch_tree.specs.View.{end_of, claim_of, tail_of};
-ghost use Rattle.tree_text_rules.specs.Spelling.{step_line, end_line, head_lines, node_lines};
-ghost use Rattle.tree_text_rules.specs.Spelling.{tree_lines, network_lines, claim_lines};
-ghost use Rattle.tree_text_rules.specs.Spelling.{place_lines, tail_lines, rest_lines};
+ghost use Rattle.tree_text_rules.specs.Spelling.{step_line, cover_line, end_with_sets, head_lines};
+ghost use Rattle.tree_text_rules.specs.Spelling.{node_lines, tree_lines, network_lines};
+ghost use Rattle.tree_text_rules.specs.Spelling.{claim_lines, place_lines, tail_lines, rest_lines};
 ghost use Rattle.tree_text.specs.Prints.{Puts};
 
 use crate::fault::PrintFault;
 use crate::line::{Field, put};
-use branch_tree::{Claim, End, Network, Tail, Tree, TreeNode};
+use branch_tree::{Claim, End, Network, Scaled, Tail, Tree, TreeNode};
+use covers::{Cover, Covers};
 use flow_rules::{Column, Place};
 use pns_io::Sink;
 use pns_problem::Problem;
@@ -59,6 +63,69 @@ pub(crate) fn put_head<K: Sink>(
     Ok(())
 }
 
+// The line of a set of a charge.
+fn put_cover<K: Sink>(
+    line: &mut String,
+    problem: &Problem,
+    cover: &Cover,
+    out: &mut K,
+) -> Result<(), PrintFault>
+    requires { KnowsCover problem.now (cover_of cover.now) }
+    ensures { Puts (cover_line problem.now (cover_of cover.now) ∷ []) (K.state out.old)
+        (K.state out.new) result }
+{
+    match cover.beside {
+        None => {
+            let fields = [Field::Number(cover.weight), Field::Units(cover.units)];
+            put(line, problem, "some", &fields, out)
+        }
+        Some(unit) => {
+            let fields = [
+                Field::Number(cover.weight),
+                Field::Unit(unit),
+                Field::Units(cover.units),
+            ];
+            put(line, problem, "with", &fields, out)
+        }
+    }
+}
+
+fn put_covers<K: Sink>(
+    line: &mut String,
+    problem: &Problem,
+    covers: &[Cover],
+    out: &mut K,
+) -> Result<(), PrintFault>
+    requires { Each (KnowsCover problem.now) (covers_of covers.now) }
+    ensures { Puts (map (cover_line problem.now) (covers_of covers.now)) (K.state out.old)
+        (K.state out.new) result }
+{
+    'printing: for cover in covers {
+        put_cover(line, problem, cover, out)?;
+    }
+    Ok(())
+}
+
+// The line of a charge, and those of its sets.
+fn put_charge<K: Sink>(
+    line: &mut String,
+    problem: &Problem,
+    scaled: &Scaled,
+    covers: &Covers,
+    out: &mut K,
+) -> Result<(), PrintFault>
+    requires { Each (KnowsCover problem.now) covers.now }
+    ensures { Puts
+        (end_with_sets problem.now
+        (trees.leaf
+        (leaves.charged (record { d = scaled.now.d; ys = scaled.now.ys; covers = covers.now }))))
+        (K.state out.old) (K.state out.new) result }
+{
+    let fields = [Field::Number(scaled.d()), Field::Numbers(scaled.ys())];
+    put(line, problem, "charge", &fields, out)?;
+    put_covers(line, problem, covers.covers(), out)
+}
+
 pub(crate) fn put_end<K: Sink>(
     line: &mut String,
     problem: &Problem,
@@ -66,7 +133,7 @@ pub(crate) fn put_end<K: Sink>(
     out: &mut K,
 ) -> Result<(), PrintFault>
     requires { KnowsEnd problem.now (end_of end.now) }
-    ensures { Puts (end_line problem.now (end_of end.now) ∷ []) (K.state out.old) (K.state out.new)
+    ensures { Puts (end_with_sets problem.now (end_of end.now)) (K.state out.old) (K.state out.new)
         result }
 {
     match end {
@@ -80,12 +147,17 @@ pub(crate) fn put_end<K: Sink>(
             let fields = [Field::Number(scaled.d()), Field::Numbers(scaled.ys())];
             put(line, problem, "bound", &fields, out)
         }
+        End::Charge { scaled, covers } => put_charge(line, problem, scaled, covers, out),
         End::Branch { material, children } => {
             let fields = [Field::Material(*material), Field::Count(*children)];
             put(line, problem, "branch", &fields, out)
         }
         End::Either(unit) => put(line, problem, "either", &[Field::Unit(*unit)], out),
-        End::Open => put(line, problem, "open", &[], out),
+        End::Open(None) => put(line, problem, "open", &[], out),
+        End::Open(Some(scaled)) => {
+            let fields = [Field::Number(scaled.d()), Field::Numbers(scaled.ys())];
+            put(line, problem, "open", &fields, out)
+        }
     }
 }
 

@@ -5,8 +5,9 @@ ghost use Rattle.pgraph.specs.View.{step_of};
 ghost use Rattle.tree_rules.specs.Known.{AreUnits, KnowsStep, KnowsEnd, KnowsTree, KnowsClaim};
 ghost use Rattle.tree_rules.specs.Known.{KnowsColumn, KnowsPlace, KnowsTail};
 ghost use Rattle.branch_tree.specs.View.{end_of, claim_of, tail_of};
-ghost use Rattle.tree_text_rules.specs.Spelling.{end_line, head_lines, network_lines, place_lines};
-ghost use Rattle.tree_text_rules.specs.Spelling.{tail_lines, rest_lines, tree_text_lines};
+ghost use Rattle.tree_text_rules.specs.Spelling.{end_with_sets, head_lines, network_lines};
+ghost use Rattle.tree_text_rules.specs.Spelling.{place_lines, tail_lines, rest_lines};
+ghost use Rattle.tree_text_rules.specs.Spelling.{tree_text_lines};
 ghost use Rattle.tree_text.specs.Prints.{Prints};
 
 use crate::fault::PrintFault;
@@ -98,7 +99,7 @@ pub fn print_head<K: Sink>(
     put_head(&mut line, problem, option, steps, out)
 }
 
-/// Prints the line of an end.
+/// Prints the line of an end, and after it those of its sets.
 pub fn print_end<K: Sink>(
     alloc: Global,
     problem: &Problem,
@@ -106,7 +107,7 @@ pub fn print_end<K: Sink>(
     out: &mut K,
 ) -> Result<(), PrintFault>
     requires known { KnowsEnd problem.now (end_of end.now) }
-    ensures prints { Prints (end_line problem.now (end_of end.now) ∷ []) (K.state out.old)
+    ensures prints { Prints (end_with_sets problem.now (end_of end.now)) (K.state out.old)
         (K.state out.new) result }
     ensures later { (K.state out.old).faults ≤ (K.state out.new).faults }
 {

@@ -17,11 +17,13 @@ use Rattle.text_laws.proofs.Digits.{decimal_printed, decimal_whole}
 use Rattle.script_rules.specs.Fault.{is_whole, whole_within}
 use Rattle.tree_text_rules.specs.Line.{Token}
 use Rattle.tree_text_rules.specs.Token.{told, greatest, negative_of, whole_number}
-use Rattle.tree_text_rules.specs.Token.{number_of as whole_of, is_positive, denominator_of}
-use Rattle.tree_text_rules.specs.Token.{count_of, children_of, options_of}
+use Rattle.tree_text_rules.specs.Token.{number_of as whole_of, is_not_negative, weight_of}
+use Rattle.tree_text_rules.specs.Token.{is_positive, denominator_of, count_of, children_of}
+use Rattle.tree_text_rules.specs.Token.{options_of}
 use Rattle.tree_text_rules.specs.declared.TreeKind.{TreeKind}
 use Rattle.tree_text_rules.specs.declared.TreeKind.TheVariants.{BadNumber}
-use Rattle.tree_text_laws.specs.LineFits.{IsCount, IsSomeCount, IsOptionCount, IsDenominator}
+use Rattle.tree_text_laws.specs.LineFits.{IsCount, IsSomeCount, IsOptionCount, IsWeight}
+use Rattle.tree_text_laws.specs.LineFits.{IsDenominator}
 use Rattle.tree_text_laws.specs.Codes.{IsToken, IsCode}
 use Rattle.tree_text_laws.proofs.Codes.{told_ok, told_again, judged_ok, judged_again}
 
@@ -278,6 +280,26 @@ denominator_code = record {
   again =
       λ z fits. judged_again is_positive BadNumber (whole_of (signed_decimal z)) z
       (number_code.again z fits.0) (positive_again z fits.1);
+  token = λ z fits. number_token z fits.0;
+}
+
+-- ---- what must not be below 0
+
+not_negative_back : (z : ℤ) → is_not_negative z ≡ true → pos 0 ≤ℤ z
+not_negative_back (pos n) is = record { le = le→leb 0 n (omega arith) }
+not_negative_back (negsuc n) is = absurd (true≢false (sym is))
+
+not_negative_again : (z : ℤ) → pos 0 ≤ℤ z → is_not_negative z ≡ true
+not_negative_again (pos n) le = refl
+not_negative_again (negsuc n) le = absurd le.le
+
+pub weight_code : IsCode weight_of signed_decimal IsWeight
+weight_code = record {
+  back = λ token z e. let j = judged_ok is_not_negative BadNumber (whole_of token) z e in let b =
+      number_code.back token z j.0 in (b.0, (b.1, not_negative_back z j.1));
+  again =
+      λ z fits. judged_again is_not_negative BadNumber (whole_of (signed_decimal z)) z
+      (number_code.again z fits.0) (not_negative_again z fits.1);
   token = λ z fits. number_token z fits.0;
 }
 

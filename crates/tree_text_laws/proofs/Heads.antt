@@ -1,4 +1,4 @@
--- A node's line and its steps, and the line of an end, both ways.
+-- A node's line and its steps, both ways.
 use Rattle.std.proofs.Common.{◌≡◌, ◌+◌, ℕ, suc, List, [], ◌∷◌, ◌++◌, length, map, Option, Some}
 use Rattle.std.proofs.Common.{None, Result, Ok, refl, sym, ◌∙◌, ap, ap₂, subst, append_assoc}
 use Rattle.std.proofs.Common.{append-nil, arith}
@@ -7,21 +7,18 @@ use Rattle.problem_rules.specs.Each.{Each}
 use Rattle.problem_rules.specs.Problem.{Problem}
 use Rattle.problem_rules.specs.WellFormed.{IsWellFormed}
 use Rattle.pns_rules.specs.Nodes as nodes
-use Rattle.tree_rules.specs.Tree as trees
-use Rattle.tree_rules.specs.Leaf as leaves
 use Rattle.tree_rules.specs.Known.{AreUnits, KnowsStep}
 use Rattle.tree_text_rules.specs.Line.{Line}
-use Rattle.tree_text_rules.specs.LineRead.{step_read, option_read, end_line_read}
+use Rattle.tree_text_rules.specs.LineRead.{step_read, option_read}
 use Rattle.tree_text_rules.specs.Read.{Fault, Taken, Head, with_step, on_line, steps_taken}
-use Rattle.tree_text_rules.specs.Read.{head_taken, end_taken}
-use Rattle.tree_text_rules.specs.Spelling.{step_line, option_line, end_line, head_lines}
+use Rattle.tree_text_rules.specs.Read.{head_taken}
+use Rattle.tree_text_rules.specs.Spelling.{step_line, option_line, head_lines}
 use Rattle.tree_text_rules.specs.declared.TreeKind.{TreeKind}
-use Rattle.tree_text_laws.specs.LineFits.{FitsEnd}
 use Rattle.tree_text_laws.specs.Fits.{FitsHead}
 use Rattle.tree_text_laws.specs.Laws.{IsHeadOf}
 use Rattle.tree_text_laws.specs.Codes.{line_of}
 use Rattle.tree_text_laws.specs.Lines.{lines_said, BeginsNoStep}
-use Rattle.tree_text_laws.proofs.NodeLines.{step_back, step_again, end_lines, option_lines}
+use Rattle.tree_text_laws.proofs.NodeLines.{step_back, step_again, option_lines}
 use Rattle.tree_text_laws.proofs.Parts.{good, good_is, on_line_ok, first_back, first_again}
 
 module _ (p : Problem) (formed : IsWellFormed p) where
@@ -186,28 +183,3 @@ module _ (p : Problem) (formed : IsWellFormed p) where
       ∙ ap
       (λ (n : ℕ). good (let t : Taken Head =
       record { what = head; number = n; behind = behind } in t)) count
-
-  -- ---- ends
-
-  abbrev end_then : ℕ → trees.End leaves.Leaf → List Line
-      → Result (Taken (trees.End leaves.Leaf)) Fault
-  end_then number end lines = Ok (record { what = end; number = suc number; behind = lines })
-
-  pub end_back : (number : ℕ) (lines : List Line) (taken : Taken (trees.End leaves.Leaf))
-      → end_taken p number lines ≡ Ok taken
-      → (lines ≡ line_of (end_line p taken.what) ∷ taken.behind) × FitsEnd p taken.what
-  end_back number lines taken e =
-      let a =
-      first_back (end_line_read p) (end_line p) (FitsEnd p) (end_lines p formed) number lines _
-      taken e in
-      let t : Taken (trees.End leaves.Leaf) =
-      record { what = a.what; number = suc number; behind = a.rest } in
-      subst (λ (x : Taken (trees.End leaves.Leaf)). (lines ≡ line_of (end_line p x.what) ∷ x.behind)
-      × FitsEnd p x.what) (good_is t taken a.reads) (a.lines_are, a.fits)
-
-  pub end_again : (end : trees.End leaves.Leaf) (number : ℕ) (behind : List Line) → FitsEnd p end
-      → end_taken p number (line_of (end_line p end) ∷ behind)
-      ≡ Ok (record { what = end; number = suc number; behind = behind })
-  end_again end number behind fits =
-      first_again (end_line_read p) (end_line p) (FitsEnd p) (end_lines p formed) number end behind
-      (end_then number) fits

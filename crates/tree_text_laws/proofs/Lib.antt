@@ -1,4 +1,5 @@
 pub mod Claims
+mod Ends
 mod Heads
 pub mod Nodes
 pub mod Parts

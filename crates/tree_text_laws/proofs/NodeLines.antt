@@ -1,6 +1,7 @@
 -- The lines of a node, both ways.
 use Rattle.std.proofs.Common.{◌≡◌, ◌<◌, Bool, true, ℕ, ℤ, List, [], ◌∷◌, map, decimal, arith}
-use Rattle.std.proofs.Common.{Option, Some, None, Result, Ok, refl, sym, ◌∙◌, ap, ap₂, subst}
+use Rattle.std.proofs.Common.{Option, Some, None, IfSome, Result, Ok, refl, sym, ◌∙◌, ap, ap₂}
+use Rattle.std.proofs.Common.{subst}
 use Rattle.std.specs.Fmt.{signed_decimal}
 use Rattle.std.proofs.lemmas.List.Elements.{All-cons, All-nil, All-head, All-tail}
 use Rattle.integer_laws.specs.Range.{InRange, AllInRange}
@@ -8,26 +9,29 @@ use Rattle.problem_rules.specs.Each.{Each}
 use Rattle.problem_rules.specs.Problem.{Problem}
 use Rattle.problem_rules.specs.WellFormed.{IsWellFormed}
 use Rattle.pns_rules.specs.Nodes as nodes
+use Rattle.charge_rules.specs.Cover.{Cover}
 use Rattle.tree_rules.specs.Ways as ways
 use Rattle.tree_rules.specs.Tree as trees
 use Rattle.tree_rules.specs.Leaf as leaves
-use Rattle.tree_rules.specs.Known.{IsUnit, IsMaterial, IsExclusion, AreUnits, KnowsStep}
+use Rattle.tree_rules.specs.Known.{IsUnit, IsMaterial, IsExclusion, AreUnits, KnowsStep, KnowsCover}
 use Rattle.tree_text_rules.specs.Line.{Token, Line, is_formed, word_text, word_of, fields_of}
 use Rattle.tree_text_rules.specs.LineRead.{formed, one, two, one_and_more, step_by, formed_step}
-use Rattle.tree_text_rules.specs.LineRead.{step_read, end_by, end_line_read, option_by, option_read}
-use Rattle.tree_text_rules.specs.LineRead.{root_by, root_read}
+use Rattle.tree_text_rules.specs.LineRead.{step_read, open_of, end_by, end_line_read, some_units}
+use Rattle.tree_text_rules.specs.LineRead.{set_of, set_beside, cover_by, formed_cover, cover_read}
+use Rattle.tree_text_rules.specs.LineRead.{option_by, option_read, root_by, root_read}
+use Rattle.tree_text_rules.specs.Read.{with_covers, charge_end}
 use Rattle.tree_text_rules.specs.Spelling.{unit_name, material_name, exclusion_name, step_line}
-use Rattle.tree_text_rules.specs.Spelling.{end_line, option_line}
-use Rattle.tree_text_rules.specs.Token.{mapped, each, unit_of, material_of, exclusion_of, units_of}
-use Rattle.tree_text_rules.specs.Token.{number_of, children_of}
+use Rattle.tree_text_rules.specs.Spelling.{end_line, set_line, cover_line, option_line}
+use Rattle.tree_text_rules.specs.Token.{both, mapped, each, weight_of, unit_of, material_of}
+use Rattle.tree_text_rules.specs.Token.{exclusion_of, units_of, number_of, children_of}
 use Rattle.tree_text_rules.specs.declared.TreeKind.{TreeKind}
 use Rattle.tree_text_rules.specs.declared.Word.{Word}
 use Rattle.tree_text_rules.specs.declared.Word.TheVariants as words
-use Rattle.tree_text_laws.specs.LineFits.{IsSomeCount, FitsEnd}
-use Rattle.tree_text_laws.proofs.Codes.{done, mapped_ok, formed_ok, formed_again, alone_ok}
-use Rattle.tree_text_laws.proofs.Codes.{AreFields, one_fields, two_fields, each_fields, more_fields}
-use Rattle.tree_text_laws.proofs.Codes.{line_by, line_is}
-use Rattle.tree_text_laws.proofs.Decimals.{number_code, children}
+use Rattle.tree_text_laws.specs.LineFits.{IsSomeCount, IsWeight, FitsEnd, FitsEndLine}
+use Rattle.tree_text_laws.proofs.Codes.{done, done_is, mapped_ok, both_ok, formed_ok, formed_again}
+use Rattle.tree_text_laws.proofs.Codes.{alone_ok, AreFields, one_fields, two_fields, each_fields}
+use Rattle.tree_text_laws.proofs.Codes.{more_fields, line_by, line_is}
+use Rattle.tree_text_laws.proofs.Decimals.{number_code, weight_code, children}
 use Rattle.tree_text_laws.proofs.Names.{unit_code, material_code, exclusion_code, units_fields}
 use Rattle.tree_text_laws.specs.Codes.{line_of, IsToken, IsLineCode}
 use Rattle.tree_text_laws.proofs.Said.{says_word, word_is_token}
@@ -206,7 +210,8 @@ module _ (p : Problem) (good : IsWellFormed p) where
   end_word (trees.leaf (leaves.clash k)) = words.Clash
   end_word (trees.leaf (leaves.refuted ys)) = words.Refuted
   end_word (trees.leaf (leaves.bounded d ys)) = words.Bound
-  end_word (trees.leaf leaves.untried) = words.Open
+  end_word (trees.leaf (leaves.charged h)) = words.Charge
+  end_word (trees.leaf (leaves.untried low)) = words.Open
   end_word (trees.branch (ways.at_material x c)) = words.Branch
   end_word (trees.branch (ways.either u)) = words.Either
 
@@ -215,7 +220,10 @@ module _ (p : Problem) (good : IsWellFormed p) where
   end_fields (trees.leaf (leaves.clash k)) = exclusion_name p k ∷ []
   end_fields (trees.leaf (leaves.refuted ys)) = map signed_decimal ys
   end_fields (trees.leaf (leaves.bounded d ys)) = signed_decimal d ∷ map signed_decimal ys
-  end_fields (trees.leaf leaves.untried) = []
+  end_fields (trees.leaf (leaves.charged h)) = signed_decimal h.d ∷ map signed_decimal h.ys
+  end_fields (trees.leaf (leaves.untried None)) = []
+  end_fields (trees.leaf (leaves.untried (Some low))) =
+      signed_decimal low.d ∷ map signed_decimal low.ys
   end_fields (trees.branch (ways.at_material x c)) = material_name p x ∷ decimal c ∷ []
   end_fields (trees.branch (ways.either u)) = unit_name p u ∷ []
 
@@ -224,7 +232,9 @@ module _ (p : Problem) (good : IsWellFormed p) where
   end_is (trees.leaf (leaves.clash k)) = refl
   end_is (trees.leaf (leaves.refuted ys)) = refl
   end_is (trees.leaf (leaves.bounded d ys)) = refl
-  end_is (trees.leaf leaves.untried) = refl
+  end_is (trees.leaf (leaves.charged h)) = refl
+  end_is (trees.leaf (leaves.untried None)) = refl
+  end_is (trees.leaf (leaves.untried (Some low))) = refl
   end_is (trees.branch (ways.at_material x c)) = refl
   end_is (trees.branch (ways.either u)) = refl
 
@@ -234,34 +244,74 @@ module _ (p : Problem) (good : IsWellFormed p) where
   end_tokens (trees.leaf (leaves.refuted ys)) fits = numbers_fields.tokens ys fits.known
   end_tokens (trees.leaf (leaves.bounded d ys)) fits =
       bounding.tokens (d, ys) (fits.known.0, all_each ys fits.known.1)
-  end_tokens (trees.leaf leaves.untried) fits = tt
+  end_tokens (trees.leaf (leaves.charged h)) fits =
+      bounding.tokens (h.d, h.ys) (fits.known.scale, all_each h.ys fits.known.multipliers)
+  end_tokens (trees.leaf (leaves.untried None)) fits = tt
+  end_tokens (trees.leaf (leaves.untried (Some low))) fits =
+      bounding.tokens (low.d, low.ys) (fits.known.0, all_each low.ys fits.known.1)
   end_tokens (trees.branch (ways.at_material x c)) fits =
       branching.tokens (x, c) (fits.known, (fits.some, fits.counted))
   end_tokens (trees.branch (ways.either u)) fits = one_unit.tokens u fits.known
 
-  end_again : (e : trees.End leaves.Leaf) → FitsEnd p e
+  -- of a charge without the sets after its line
+  end_again : (e : trees.End leaves.Leaf) → FitsEndLine p e
       → end_by p (Some (end_word e)) (end_fields e) ≡ Ok e
-  end_again (trees.leaf (leaves.dead x)) fits =
-      ap (mapped (λ x. trees.leaf (leaves.dead x))) (one_material.again x fits.known)
-  end_again (trees.leaf (leaves.clash k)) fits =
-      ap (mapped (λ k. trees.leaf (leaves.clash k))) (one_exclusion.again k fits.known)
-  end_again (trees.leaf (leaves.refuted ys)) fits =
-      ap (mapped (λ ys. trees.leaf (leaves.refuted ys))) (numbers_fields.again ys fits.known)
-  end_again (trees.leaf (leaves.bounded d ys)) fits =
+  end_again (trees.leaf (leaves.dead x)) f =
+      ap (mapped (λ x. trees.leaf (leaves.dead x))) (one_material.again x f.fits.known)
+  end_again (trees.leaf (leaves.clash k)) f =
+      ap (mapped (λ k. trees.leaf (leaves.clash k))) (one_exclusion.again k f.fits.known)
+  end_again (trees.leaf (leaves.refuted ys)) f =
+      ap (mapped (λ ys. trees.leaf (leaves.refuted ys))) (numbers_fields.again ys f.fits.known)
+  end_again (trees.leaf (leaves.bounded d ys)) f =
       ap (mapped (λ found. trees.leaf (leaves.bounded found.0 found.1)))
-      (bounding.again (d, ys) (fits.known.0, all_each ys fits.known.1))
-  end_again (trees.leaf leaves.untried) fits = refl
-  end_again (trees.branch (ways.at_material x c)) fits =
+      (bounding.again (d, ys) (f.fits.known.0, all_each ys f.fits.known.1))
+  end_again (trees.leaf (leaves.charged h)) f =
+      ap (mapped
+      (λ found. trees.leaf
+      (leaves.charged (record { d = found.0; ys = found.1; covers = [] }))))
+      (bounding.again (h.d, h.ys) (f.fits.known.scale, all_each h.ys f.fits.known.multipliers))
+      ∙ ap (λ (cs : List Cover). done (charge_end (with_covers h cs))) (sym f.bare)
+  end_again (trees.leaf (leaves.untried None)) f = refl
+  end_again (trees.leaf (leaves.untried (Some low))) f =
+      ap (λ (r : Result (ℤ × List ℤ) TreeKind). mapped (λ l. trees.leaf l)
+      (mapped (λ found. leaves.untried (Some (record { d = found.0; ys = found.1 }))) r))
+      (bounding.again (low.d, low.ys) (f.fits.known.0, all_each low.ys f.fits.known.1))
+  end_again (trees.branch (ways.at_material x c)) f =
       ap (mapped (λ found. trees.branch (ways.at_material found.0 found.1)))
-      (branching.again (x, c) (fits.known, (fits.some, fits.counted)))
-  end_again (trees.branch (ways.either u)) fits =
-      ap (mapped (λ u. trees.branch (ways.either u))) (one_unit.again u fits.known)
+      (branching.again (x, c) (f.fits.known, (f.fits.some, f.fits.counted)))
+  end_again (trees.branch (ways.either u)) f =
+      ap (mapped (λ u. trees.branch (ways.either u))) (one_unit.again u f.fits.known)
 
   two_children : 0 < 2
   two_children = omega arith
 
   abbrev SpellsEnd : Option Word → List Token → trees.End leaves.Leaf → Type 0
-  SpellsEnd word tokens e = (word ≡ Some (end_word e)) × (tokens ≡ end_fields e) × FitsEnd p e
+  SpellsEnd word tokens e = (word ≡ Some (end_word e)) × (tokens ≡ end_fields e) × FitsEndLine p e
+
+  open_back : (tokens : List Token) (e : trees.End leaves.Leaf)
+      → mapped (λ l. trees.leaf l) (open_of tokens) ≡ Ok e → SpellsEnd (Some words.Open) tokens e
+  open_back [] e f =
+      subst (λ (x : trees.End leaves.Leaf). SpellsEnd (Some words.Open) [] x)
+      (done_is (trees.leaf (leaves.untried None)) e f)
+      (refl, refl, record { fits = record { known = tt; some = tt; counted = tt }; bare = refl })
+  open_back (token ∷ tokens) e f =
+      let m = mapped_ok (λ (l : leaves.Leaf). trees.leaf l) (open_of (token ∷ tokens)) e f in
+      subst (λ (x : trees.End leaves.Leaf). SpellsEnd (Some words.Open) (token ∷ tokens) x) m.2
+      (mapped_back (λ found. leaves.untried (Some (record { d = found.0; ys = found.1 })))
+      (one_and_more number_of number_of) (λ c. signed_decimal c.0 ∷ map signed_decimal c.1)
+      (λ c. InRange c.0 × Each InRange c.1) bounding
+      (λ (l : leaves.Leaf). SpellsEnd (Some words.Open) (token ∷ tokens) (trees.leaf l))
+      (token ∷ tokens)
+      (λ c is known. (
+        refl,
+        is,
+        record {
+          fits =
+              record { known = (known.0, each_all c.1 known.1); some = tt; counted = tt };
+          bare =
+              refl;
+        },
+      )) m.0 m.1)
 
   end_back : (word : Option Word) (tokens : List Token) (e : trees.End leaves.Leaf)
       → end_by p word tokens ≡ Ok e → SpellsEnd word tokens e
@@ -269,49 +319,105 @@ module _ (p : Problem) (good : IsWellFormed p) where
       mapped_back (λ x. trees.leaf (leaves.dead x)) (one (material_of p))
       (λ x. material_name p x ∷ []) (IsMaterial p) one_material
       (SpellsEnd (Some words.Dead) tokens) tokens
-      (λ x is known. (refl, is, record { known = known; some = tt; counted = tt })) e f
+      (λ x is known. (
+        refl,
+        is,
+        record { fits = record { known = known; some = tt; counted = tt }; bare = refl },
+      )) e f
   end_back (Some words.Clash) tokens e f =
       mapped_back (λ k. trees.leaf (leaves.clash k)) (one (exclusion_of p))
       (λ k. exclusion_name p k ∷ []) (IsExclusion p) one_exclusion
       (SpellsEnd (Some words.Clash) tokens) tokens
-      (λ k is known. (refl, is, record { known = known; some = tt; counted = tt })) e f
+      (λ k is known. (
+        refl,
+        is,
+        record { fits = record { known = known; some = tt; counted = tt }; bare = refl },
+      )) e f
   end_back (Some words.Refuted) tokens e f =
       mapped_back (λ ys. trees.leaf (leaves.refuted ys)) (each number_of) (map signed_decimal)
       AllInRange numbers_fields (SpellsEnd (Some words.Refuted) tokens) tokens
-      (λ ys is known. (refl, is, record { known = known; some = tt; counted = tt })) e f
+      (λ ys is known. (
+        refl,
+        is,
+        record { fits = record { known = known; some = tt; counted = tt }; bare = refl },
+      )) e f
   end_back (Some words.Bound) tokens e f =
       mapped_back (λ found. trees.leaf (leaves.bounded found.0 found.1))
       (one_and_more number_of number_of) (λ c. signed_decimal c.0 ∷ map signed_decimal c.1)
       (λ c. InRange c.0 × Each InRange c.1) bounding (SpellsEnd (Some words.Bound) tokens)
       tokens
-      (λ c is known.
-      (refl, is, record { known = (known.0, each_all c.1 known.1); some = tt; counted = tt })) e
-      f
+      (λ c is known. (
+        refl,
+        is,
+        record {
+          fits =
+              record { known = (known.0, each_all c.1 known.1); some = tt; counted = tt };
+          bare =
+              refl;
+        },
+      )) e f
   end_back (Some words.Branch) tokens e f =
       mapped_back (λ found. trees.branch (ways.at_material found.0 found.1))
       (two (material_of p) children_of) (λ c. material_name p c.0 ∷ decimal c.1 ∷ [])
       (λ c. IsMaterial p c.0 × IsSomeCount c.1) branching (SpellsEnd (Some words.Branch) tokens)
       tokens
-      (λ c is known. (refl, is, record { known = known.0; some = known.1.0; counted = known.1.1 }))
-      e f
+      (λ c is known. (
+        refl,
+        is,
+        record {
+          fits = record { known = known.0; some = known.1.0; counted = known.1.1 };
+          bare =
+              refl;
+        },
+      )) e f
   end_back (Some words.Either) tokens e f =
       mapped_back (λ u. trees.branch (ways.either u)) (one (unit_of p)) (λ u. unit_name p u ∷ [])
       (IsUnit p) one_unit (SpellsEnd (Some words.Either) tokens) tokens
-      (λ u is known. (refl, is, record { known = known; some = two_children; counted = tt })) e
-      f
-  end_back (Some words.Open) tokens e f =
-      let a = alone_ok (trees.leaf leaves.untried) e tokens f in
-      subst (λ (x : trees.End leaves.Leaf). SpellsEnd (Some words.Open) tokens x) a.1
-      (refl, a.0, record { known = tt; some = tt; counted = tt })
+      (λ u is known. (
+        refl,
+        is,
+        record {
+          fits = record { known = known; some = two_children; counted = tt };
+          bare =
+              refl;
+        },
+      )) e f
+  end_back (Some words.Charge) tokens e f =
+      mapped_back
+      (λ found. trees.leaf (leaves.charged (record { d = found.0; ys = found.1; covers = [] })))
+      (one_and_more number_of number_of) (λ c. signed_decimal c.0 ∷ map signed_decimal c.1)
+      (λ c. InRange c.0 × Each InRange c.1) bounding (SpellsEnd (Some words.Charge) tokens)
+      tokens
+      (λ c is known. (
+        refl,
+        is,
+        record {
+          fits =
+              record {
+                known =
+                    record {
+                      scale = known.0;
+                      multipliers = each_all c.1 known.1;
+                      few = omega arith;
+                      covers =
+                          tt;
+                    };
+                some = tt;
+                counted = tt;
+              };
+          bare = refl;
+        },
+      )) e f
+  end_back (Some words.Open) tokens e f = open_back tokens e f
   end_back word tokens e f = absurd cc
 
   end_lines_by : IsLineCode (end_line_read p) (λ e. word_text (end_word e) ∷ end_fields e)
-      (FitsEnd p)
+      (FitsEndLine p)
   end_lines_by =
-      line_by (end_by p) end_word end_fields (FitsEnd p)
-      (record { back = end_back; again = end_again; tokens = end_tokens })
+      line_by (end_by p) end_word end_fields (FitsEndLine p)
+      (record { back = end_back; again = end_again; tokens = λ e f. end_tokens e f.fits })
 
-  pub end_lines : IsLineCode (end_line_read p) (end_line p) (FitsEnd p)
+  pub end_lines : IsLineCode (end_line_read p) (end_line p) (FitsEndLine p)
   end_lines = record {
     back = λ line e f. let b = end_lines_by.back line e f in (b.0 ∙ ap line_of (end_is e), b.1);
     again = λ e fits. ap (λ (ts : List Token). end_line_read p (line_of ts)) (sym (end_is e))
@@ -321,13 +427,19 @@ module _ (p : Problem) (good : IsWellFormed p) where
         (end_lines_by.tokens e fits);
   }
 
+  pub end_line_tokens : (e : trees.End leaves.Leaf) → FitsEnd p e → Each IsToken (end_line p e)
+  end_line_tokens e fits =
+      subst (λ (ts : List Token). Each IsToken ts) (end_is e)
+      (word_is_token (end_word e), end_tokens e fits)
+
   no_step : (e : trees.End leaves.Leaf) (tokens : List Token)
       → step_by p (Some (end_word e)) tokens ≡ None
   no_step (trees.leaf (leaves.dead x)) tokens = refl
   no_step (trees.leaf (leaves.clash k)) tokens = refl
   no_step (trees.leaf (leaves.refuted ys)) tokens = refl
   no_step (trees.leaf (leaves.bounded d ys)) tokens = refl
-  no_step (trees.leaf leaves.untried) tokens = refl
+  no_step (trees.leaf (leaves.charged h)) tokens = refl
+  no_step (trees.leaf (leaves.untried low)) tokens = refl
   no_step (trees.branch (ways.at_material x c)) tokens = refl
   no_step (trees.branch (ways.either u)) tokens = refl
 
@@ -340,6 +452,168 @@ module _ (p : Problem) (good : IsWellFormed p) where
       ap (λ (ts : List Token). step_read p (line_of ts)) (sym (end_is e))
       ∙ ap (λ (w : Option Word). formed_step line (step_by p w (fields_of line))) says.word_is
       ∙ ap (formed_step line) (no_step e (fields_of line))
+
+  -- ---- sets of a charge
+
+  some_back : (tokens : List Token) (us : List ℕ) → some_units p tokens ≡ Ok us
+      → (tokens ≡ map (unit_name p) us) × (AreUnits p us × (us ≡ [] → ⊥))
+  some_back [] us e = absurd cc
+  some_back (token ∷ tokens) us e =
+      let b = (units_fields p good).back (token ∷ tokens) us e in
+      (b.0, (b.1, λ none. let no : token ∷ tokens ≡ [] = b.0 ∙ ap (map (unit_name p)) none in cc))
+
+  some_again : (us : List ℕ) → AreUnits p us → (us ≡ [] → ⊥)
+      → some_units p (map (unit_name p) us) ≡ Ok us
+  some_again [] set some = absurd (some refl)
+  some_again (u ∷ us) set some = (units_fields p good).again (u ∷ us) set
+
+  abbrev set_word : Option ℕ → Word
+  set_word None = words.SomeOf
+  set_word (Some u) = words.With
+
+  abbrev set_fields : ℤ → Option ℕ → List ℕ → List Token
+  set_fields weight None us = signed_decimal weight ∷ map (unit_name p) us
+  set_fields weight (Some u) us = signed_decimal weight ∷ unit_name p u ∷ map (unit_name p) us
+
+  set_is : (weight : ℤ) (b : Option ℕ) (us : List ℕ)
+      → word_text (set_word b) ∷ set_fields weight b us ≡ set_line p weight b us
+  set_is weight None us = refl
+  set_is weight (Some u) us = refl
+
+  set_tokens : (weight : ℤ) (b : Option ℕ) (us : List ℕ) → IsWeight weight → IfSome b (IsUnit p)
+      → AreUnits p us → Each IsToken (set_fields weight b us)
+  set_tokens weight None us w u set =
+      (weight_code.token weight w, (units_fields p good).tokens us set)
+  set_tokens weight (Some u) us w known set = (
+    weight_code.token weight w,
+    ((unit_code p good).token u known, (units_fields p good).tokens us set),
+  )
+
+  -- the word and the tokens after it are those of the set
+  abbrev SpellsSet : Option Word → List Token → Cover → Type 0
+  SpellsSet word tokens c = (word ≡ Some (set_word c.beside))
+      × (tokens ≡ set_fields c.weight c.beside c.units) × KnowsCover p c
+
+  set_of_back : (tokens : List Token) (c : Cover) → set_of p tokens ≡ Ok c
+      → SpellsSet (Some words.SomeOf) tokens c
+  set_of_back [] c e = absurd cc
+  set_of_back (token ∷ tokens) c e =
+      let m =
+      mapped_ok (λ (found : ℤ × List ℕ). let d : Cover =
+      record { weight = found.0; beside = None; units = found.1 } in d)
+      (both (weight_of token) (some_units p tokens)) c e in
+      let b = both_ok (weight_of token) (some_units p tokens) m.0 m.1 in
+      let w = weight_code.back token m.0.0 b.0 in
+      let u = some_back tokens m.0.1 b.1 in
+      subst (λ (d : Cover). SpellsSet (Some words.SomeOf) (token ∷ tokens) d) m.2 (
+        refl,
+        ap₂ (λ (t : Token) (ts : List Token). t ∷ ts) w.0 u.0,
+        record { weight = w.1.0; not_negative = w.1.1; beside = tt; units = u.1.0; some = u.1.1 },
+      )
+
+  set_beside_back : (tokens : List Token) (c : Cover) → set_beside p tokens ≡ Ok c
+      → SpellsSet (Some words.With) tokens c
+  set_beside_back [] c e = absurd cc
+  set_beside_back (token ∷ []) c e = absurd cc
+  set_beside_back (token ∷ name ∷ tokens) c e =
+      let named : Result (ℕ × List ℕ) TreeKind = both (unit_of p name) (some_units p tokens) in
+      let m =
+      mapped_ok (λ (found : ℤ × (ℕ × List ℕ)). let d : Cover =
+      record { weight = found.0; beside = Some found.1.0; units = found.1.1 } in d)
+      (both (weight_of token) named) c e in
+      let b = both_ok (weight_of token) named m.0 m.1 in
+      let n = both_ok (unit_of p name) (some_units p tokens) m.0.1 b.1 in
+      let w = weight_code.back token m.0.0 b.0 in
+      let v = (unit_code p good).back name m.0.1.0 n.0 in
+      let u = some_back tokens m.0.1.1 n.1 in
+      subst (λ (d : Cover). SpellsSet (Some words.With) (token ∷ name ∷ tokens) d) m.2 (
+        refl,
+        ap₂ (λ (t : Token) (ts : List Token). t ∷ ts) w.0
+            (ap₂ (λ (t : Token) (ts : List Token). t ∷ ts) v.0 u.0),
+        record { weight = w.1.0; not_negative = w.1.1; beside = v.1; units = u.1.0; some = u.1.1 },
+      )
+
+  cover_by_back : (word : Option Word) (tokens : List Token) (r : Result Cover TreeKind)
+      → cover_by p word tokens ≡ Some r → (c : Cover) → r ≡ Ok c → SpellsSet word tokens c
+  cover_by_back (Some words.SomeOf) tokens r e c f =
+      set_of_back tokens c (some_is (set_of p tokens) r e ∙ f)
+  cover_by_back (Some words.With) tokens r e c f =
+      set_beside_back tokens c (some_is (set_beside p tokens) r e ∙ f)
+  cover_by_back word tokens r e c f = absurd cc
+
+  at_cover : (line : Line) (o : Option (Result Cover TreeKind)) (c : Cover)
+      → cover_by p (word_of line) (fields_of line) ≡ o → formed_cover line o ≡ Some (Ok c)
+      → (line ≡ line_of (cover_line p c)) × KnowsCover p c
+  at_cover line None c e f = absurd cc
+  at_cover line (Some r) c e f =
+      let g = formed_ok line r c (some_is (formed line r) (done c) f) in
+      let b = cover_by_back (word_of line) (fields_of line) r e c g.1 in (
+        line_is line (set_word c.beside) (set_fields c.weight c.beside c.units) g.0 b.0 b.1
+            ∙ ap line_of (set_is c.weight c.beside c.units),
+        b.2,
+      )
+
+  pub set_back : (line : Line) (c : Cover) → cover_read p line ≡ Some (Ok c)
+      → (line ≡ line_of (cover_line p c)) × KnowsCover p c
+  set_back line c e = at_cover line (cover_by p (word_of line) (fields_of line)) c refl e
+
+  cover_by_again : (weight : ℤ) (b : Option ℕ) (us : List ℕ) → IsWeight weight → IfSome b (IsUnit p)
+      → AreUnits p us → (us ≡ [] → ⊥)
+      → cover_by p (Some (set_word b)) (set_fields weight b us)
+      ≡ Some (Ok (record { weight = weight; beside = b; units = us }))
+  cover_by_again weight None us w u set some =
+      ap₂ (λ (r : Result ℤ TreeKind) (s : Result (List ℕ) TreeKind). Some
+      (mapped (λ (found : ℤ × List ℕ). let d : Cover =
+      record { weight = found.0; beside = None; units = found.1 } in d) (both r s)))
+      (weight_code.again weight w) (some_again us set some)
+  cover_by_again weight (Some u) us w known set some =
+      ap₂ (λ (r : Result ℤ TreeKind) (s : Result (ℕ × List ℕ) TreeKind). Some
+      (mapped (λ (found : ℤ × (ℕ × List ℕ)). let d : Cover =
+      record { weight = found.0; beside = Some found.1.0; units = found.1.1 } in d) (both r s)))
+      (weight_code.again weight w)
+      (ap₂ (λ (r : Result ℕ TreeKind) (s : Result (List ℕ) TreeKind). both r s)
+      ((unit_code p good).again u known) (some_again us set some))
+
+  pub set_line_tokens : (c : Cover) → KnowsCover p c → Each IsToken (cover_line p c)
+  set_line_tokens c known =
+      subst (λ (ts : List Token). Each IsToken ts) (set_is c.weight c.beside c.units) (
+        word_is_token (set_word c.beside),
+        set_tokens c.weight c.beside c.units (known.weight, known.not_negative) known.beside
+            known.units,
+      )
+
+  pub set_again : (c : Cover) → KnowsCover p c
+      → cover_read p (line_of (cover_line p c)) ≡ Some (Ok c)
+  set_again c known =
+      let fields : List Token = set_fields c.weight c.beside c.units in
+      let line : Line = line_of (word_text (set_word c.beside) ∷ fields) in
+      let says =
+      says_word (set_word c.beside) fields
+      (set_tokens c.weight c.beside c.units (known.weight, known.not_negative) known.beside
+      known.units) in
+      ap (λ (ts : List Token). cover_read p (line_of ts)) (sym (set_is c.weight c.beside c.units))
+      ∙ ap₂ (λ (w : Option Word) (ts : List Token). formed_cover line (cover_by p w ts))
+      says.word_is says.fields_are
+      ∙ ap (formed_cover line)
+      (cover_by_again c.weight c.beside c.units (known.weight, known.not_negative) known.beside
+      known.units known.some)
+      ∙ ap (λ (r : Result Cover TreeKind). Some r) (formed_again line (done c) says.formed)
+
+  -- a line that says another word is no set
+  pub no_set : (word : Word) (fields : List Token) → Each IsToken fields
+      → ((tokens : List Token) → cover_by p (Some word) tokens ≡ None)
+      → cover_read p (line_of (word_text word ∷ fields)) ≡ None
+  no_set word fields each none =
+      let line : Line = line_of (word_text word ∷ fields) in
+      let says = says_word word fields each in
+      ap (λ (w : Option Word). formed_cover line (cover_by p w (fields_of line))) says.word_is
+      ∙ ap (formed_cover line) (none (fields_of line))
+
+  pub option_no_set : (us : List ℕ) → AreUnits p us
+      → cover_read p (line_of (option_line p us)) ≡ None
+  option_no_set us set =
+      no_set words.Node (map (unit_name p) us) ((units_fields p good).tokens us set)
+      (λ tokens. refl)
 
   -- ---- options and the root
 

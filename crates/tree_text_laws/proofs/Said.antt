@@ -63,6 +63,9 @@ word_is_token words.Dead = record { some = refl; space = refl; feed = refl }
 word_is_token words.Clash = record { some = refl; space = refl; feed = refl }
 word_is_token words.Refuted = record { some = refl; space = refl; feed = refl }
 word_is_token words.Bound = record { some = refl; space = refl; feed = refl }
+word_is_token words.Charge = record { some = refl; space = refl; feed = refl }
+word_is_token words.SomeOf = record { some = refl; space = refl; feed = refl }
+word_is_token words.With = record { some = refl; space = refl; feed = refl }
 word_is_token words.Branch = record { some = refl; space = refl; feed = refl }
 word_is_token words.Either = record { some = refl; space = refl; feed = refl }
 word_is_token words.Open = record { some = refl; space = refl; feed = refl }
@@ -89,6 +92,9 @@ word_again words.Dead = refl
 word_again words.Clash = refl
 word_again words.Refuted = refl
 word_again words.Bound = refl
+word_again words.Charge = refl
+word_again words.SomeOf = refl
+word_again words.With = refl
 word_again words.Branch = refl
 word_again words.Either = refl
 word_again words.Open = refl
@@ -146,12 +152,13 @@ word_back token word =
     (step token words.Loose word _ (step token words.Sole word _ (step token words.Dead word _
     (step token words.Clash word _
     (step token words.Refuted word _
-    (step token words.Bound word _ (step token words.Branch word _
+    (step token words.Bound word _ (step token words.Charge word _
+    (step token words.SomeOf word _ (step token words.With word _ (step token words.Branch word _
     (step token words.Either word _
     (step token words.Open word _ (step token words.Spent word _ (step token words.Past word _
     (step token words.Nonbasic word _
     (step token words.Place word _
-    (step token words.End word None (none_named token word)))))))))))))))))))))))
+    (step token words.End word None (none_named token word))))))))))))))))))))))))))
 
 first_back : (tokens : List Token) (word : Word) → first_word tokens ≡ Some word
     → tokens ≡ word_text word ∷ behind_first tokens

@@ -1,5 +1,5 @@
 -- The lines of a tail, to the end of a text, both ways.
-use Rattle.std.proofs.Common.{◌≡◌, ℕ, suc, List, [], ◌∷◌, map, Ok, refl, ◌∙◌, ap, subst}
+use Rattle.std.proofs.Common.{◌≡◌, ℕ, suc, List, [], ◌∷◌, map, decimal, Ok, refl, ◌∙◌, ap, subst}
 use Rattle.problem_rules.specs.Each.{Each}
 use Rattle.problem_rules.specs.Problem.{Problem}
 use Rattle.problem_rules.specs.WellFormed.{IsWellFormed}
@@ -18,6 +18,8 @@ use Rattle.tree_text_laws.specs.LineFits.{FitsPlace}
 use Rattle.tree_text_laws.specs.Fits.{FitsTail}
 use Rattle.tree_text_laws.proofs.Parts.{good_is, first_back, first_again}
 use Rattle.tree_text_laws.specs.Codes.{line_of, IsToken}
+use Rattle.tree_text_laws.specs.Lines.{BeginsNoSet}
+use Rattle.tree_text_laws.proofs.NodeLines.{no_set}
 use Rattle.tree_text_laws.proofs.TailLines.{tail_line, FitsTailOpening, tail_lines_of, close_line}
 use Rattle.tree_text_laws.proofs.TailLines.{nonbasic_line, place_line}
 
@@ -156,6 +158,17 @@ module _ (p : Problem) (formed : IsWellFormed p) where
       fits.counted.0
       ∙ past_again node nonbasic place (suc number) fits.known.0
       (record { known = fits.known.1; counted = fits.counted.1 })
+
+  -- a tail begins with no set of a charge
+  pub tail_no_set : (tail : tails.Tail) → FitsTail p tail
+      → BeginsNoSet p (map line_of (tail_lines p tail))
+  tail_no_set tails.whole fits = no_set p formed words.End [] tt (λ tokens. refl)
+  tail_no_set (tails.spent next options) fits =
+      no_set p formed words.Spent (decimal next ∷ decimal options ∷ [])
+      (tail_lines_of.tokens (spent next options) fits.counted).1 (λ tokens. refl)
+  tail_no_set (tails.past node nonbasic place) fits =
+      no_set p formed words.Past (decimal node ∷ [])
+      (tail_lines_of.tokens (past node) fits.counted.0).1 (λ tokens. refl)
 
   pub tail_tokens : (tail : tails.Tail) → FitsTail p tail → Each (Each IsToken) (tail_lines p tail)
   tail_tokens tails.whole fits = (close_line.tokens tt tt, tt)

@@ -5,21 +5,23 @@ use Rattle.std.proofs.lemmas.List.{length-map}
 use Rattle.problem_rules.specs.Problem.{Problem}
 use Rattle.problem_rules.specs.WellFormed.{IsWellFormed}
 use Rattle.pns_rules.specs.Nodes as nodes
+use Rattle.charge_rules.specs.Cover.{Cover}
 use Rattle.tree_rules.specs.Claim as claims
 use Rattle.tree_rules.specs.Accepted.{Tree}
 use Rattle.tree_text_rules.specs.Line.{Token, Line}
 use Rattle.tree_text_rules.specs.Read.{Fault, Taken, network_taken, claim_taken, end_taken}
 use Rattle.tree_text_rules.specs.Read.{tree_taken, tail_taken, rest_taken}
-use Rattle.tree_text_rules.specs.Spelling.{step_line, end_line, node_lines, network_lines}
-use Rattle.tree_text_rules.specs.Spelling.{claim_lines, tree_lines, tail_lines, rest_lines}
+use Rattle.tree_text_rules.specs.Spelling.{step_line, cover_line, covers_in, end_with_sets}
+use Rattle.tree_text_rules.specs.Spelling.{node_lines, network_lines, claim_lines, tree_lines}
+use Rattle.tree_text_rules.specs.Spelling.{tail_lines, rest_lines}
 use Rattle.tree_text_laws.specs.LineFits.{FitsEnd}
 use Rattle.tree_text_laws.specs.Fits.{FitsNetwork, FitsClaim, FitsTree, FitsTail, Fits}
-use Rattle.tree_text_laws.specs.Lines.{lines_said, TakesJust, ReadsJust}
+use Rattle.tree_text_laws.specs.Lines.{lines_said, TakesJust, TakesBefore, ReadsJust, BeginsNoSet}
 use Rattle.tree_text_laws.proofs.Claims.{network_back, network_again, claim_back, claim_again}
 use Rattle.tree_text_laws.proofs.Claims.{behind_claim}
-use Rattle.tree_text_laws.proofs.Heads.{end_back, end_again}
-use Rattle.tree_text_laws.proofs.Nodes.{tree_back, tree_again, behind_tree, behind_nodes}
-use Rattle.tree_text_laws.proofs.Nodes.{behind_steps}
+use Rattle.tree_text_laws.proofs.Ends.{end_back, end_again}
+use Rattle.tree_text_laws.proofs.Nodes.{counted_so, tree_back, tree_again, behind_tree}
+use Rattle.tree_text_laws.proofs.Nodes.{behind_nodes, behind_steps, behind_sets}
 use Rattle.tree_text_laws.proofs.Parts.{good, good_is}
 use Rattle.tree_text_laws.proofs.Tails.{tail_back, tail_again}
 use Rattle.tree_text_laws.proofs.WholeText.{rest_back, rest_again}
@@ -90,12 +92,16 @@ module _ (p : Problem) (formed : IsWellFormed p) where
       claim_back p formed number lines taken e in
       (b.lines_are, record { known = b.known; kept = b.kept }))
 
-  pub ends_taken : TakesJust (end_taken p) (λ end. end_line p end ∷ []) (FitsEnd p)
-  ends_taken = takes_just (end_taken p) (λ end. end_line p end ∷ []) (FitsEnd p)
-      (λ end number behind fits. end_again p formed end number behind fits
-      ∙ numbered end behind (suc number) (number + 1)
-      (let e : suc number ≡ number + 1 = omega arith in e))
-      (end_back p formed)
+  pub ends_taken : TakesBefore (BeginsNoSet p) (end_taken p) (end_with_sets p) (FitsEnd p)
+  ends_taken = record {
+    takes = λ end number behind fits stops. end_again p formed end number behind fits stops;
+    lines_are = λ number lines taken e. (end_back p formed number lines taken e).lines_are;
+    number_is = λ number lines taken e. let b =
+        end_back p formed number lines taken e in
+        counted_so number (end_with_sets p taken.what) lines taken.number taken.behind b.counted
+        b.lines_are;
+    fits = λ number lines taken e. (end_back p formed number lines taken e).fits;
+  }
 
   steps_count : (ss : List nodes.Step) (number : ℕ)
       → behind_steps p formed number ss ≡ number + length ss
@@ -103,27 +109,40 @@ module _ (p : Problem) (formed : IsWellFormed p) where
   steps_count (s ∷ ss) number = steps_count ss (suc number)
       ∙ (let e : suc number + length ss ≡ number + suc (length ss) = omega arith in e)
 
+  sets_count : (cs : List Cover) (number : ℕ) → behind_sets p formed number cs ≡ number + length cs
+  sets_count [] number = let e : number ≡ number + 0 = omega arith in e
+  sets_count (c ∷ cs) number = sets_count cs (suc number)
+      ∙ (let e : suc number + length cs ≡ number + suc (length cs) = omega arith in e)
+
   nodes_count : (ts : Tree) (number : ℕ)
       → behind_nodes p formed number ts ≡ number + length (tree_lines p ts)
   nodes_count [] number = let e : number ≡ number + 0 = omega arith in e
   nodes_count (t ∷ ts) number =
       let here : ℕ = behind_steps p formed (suc number) t.steps in
       let steps : here ≡ suc number + length t.steps = steps_count t.steps (suc number) in
+      let next : ℕ = behind_sets p formed (suc here) (covers_in t.end) in
+      let sets : next ≡ suc here + length (covers_in t.end) =
+      sets_count (covers_in t.end) (suc here) in
       let all : List (List Token) = map (step_line p) t.steps in
       let size : length all ≡ length t.steps = length-map t.steps (step_line p) in
-      let node : length (all ++ end_line p t.end ∷ []) ≡ length all + 1 =
-      length-append all (end_line p t.end ∷ []) in
+      let covers : length (map (cover_line p) (covers_in t.end)) ≡ length (covers_in t.end) =
+      length-map (covers_in t.end) (cover_line p) in
+      let node : length (all ++ end_with_sets p t.end) ≡ length all
+      + suc (length (map (cover_line p) (covers_in t.end))) =
+      length-append all (end_with_sets p t.end) in
       let whole : length (node_lines p t ++ tree_lines p ts) ≡ length (node_lines p t)
       + length (tree_lines p ts) = length-append (node_lines p t) (tree_lines p ts) in
-      nodes_count ts (suc here) ∙ omega (arith, steps, size, node, whole)
+      nodes_count ts next ∙ omega (arith, steps, sets, size, covers, node, whole)
 
-  pub trees_taken : TakesJust (tree_taken p) (tree_lines p) (FitsTree p)
-  trees_taken = takes_just (tree_taken p) (tree_lines p) (FitsTree p)
-      (λ ts number behind fits. tree_again p formed number ts behind fits
-      ∙ numbered ts behind (behind_tree p formed number ts) (number + length (tree_lines p ts))
-      (nodes_count ts number))
-      (λ number lines taken e. let b =
-      tree_back p formed number lines taken e in (b.lines_are, b.fits))
+  pub trees_taken : TakesBefore (BeginsNoSet p) (tree_taken p) (tree_lines p) (FitsTree p)
+  trees_taken = record {
+    takes = λ ts number behind fits stops. tree_again p formed number ts behind fits stops
+        ∙ numbered ts behind (behind_tree p formed number ts) (number + length (tree_lines p ts))
+        (nodes_count ts number);
+    lines_are = λ number lines taken e. (tree_back p formed number lines taken e).lines_are;
+    number_is = λ number lines taken e. (tree_back p formed number lines taken e).number_is;
+    fits = λ number lines taken e. (tree_back p formed number lines taken e).fits;
+  }
 
   pub tails_read : ReadsJust (tail_taken p) (tail_lines p) (FitsTail p)
   tails_read = record {

@@ -26,7 +26,7 @@ use Rattle.tree_text_laws.proofs.Parts.{good_is, on_line_ok, then_ok}
 use Rattle.tree_text_laws.proofs.Pieces.{text_back, text_again, HasNoFeed}
 use Rattle.tree_text_laws.specs.Codes.{line_of, IsToken}
 use Rattle.tree_text_laws.proofs.Said.{no_feed}
-use Rattle.tree_text_laws.proofs.Tails.{tail_back, tail_again, tail_tokens}
+use Rattle.tree_text_laws.proofs.Tails.{tail_back, tail_again, tail_no_set, tail_tokens}
 
 -- ---- the first line
 
@@ -115,7 +115,7 @@ module _ (p : Problem) (formed : IsWellFormed p) where
       ∙ ap (λ (r : Result (Taken claims.Claim) Fault). then_read r tree_then)
       (claim_again p formed c.claim number tree fits.claim.known fits.claim.kept)
       ∙ ap (λ (r : Result (Taken Tree) Fault). then_read r (tail_then c.claim))
-      (tree_again p formed here c.tree tail fits.tree)
+      (tree_again p formed here c.tree tail fits.tree (tail_no_set p formed c.tail fits.tail))
       ∙ ap (with_tail c.claim c.tree)
       (tail_again p formed c.tail (behind_tree p formed here c.tree) fits.tail)
 

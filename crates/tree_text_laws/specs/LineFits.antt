@@ -1,6 +1,6 @@
 -- What a line can have: numbers in range, counts up to 2^32 - 1, up to 2^128 - 1 options, and ends
 -- and places that a problem knows with such counts.
-use Rattle.std.specs.Prelude.{◌≡◌, ℕ, ℤ, pos, ◌≤◌, ◌≤ℤ◌, ◌^◌, ◌-◌, List, length}
+use Rattle.std.specs.Prelude.{◌≡◌, ℕ, ℤ, pos, ◌≤◌, ◌≤ℤ◌, ◌^◌, ◌-◌, List, [], length}
 use Rattle.integer_laws.specs.Range.{InRange}
 use Rattle.problem_rules.specs.Each.{Each}
 use Rattle.problem_rules.specs.Problem.{Problem}
@@ -10,6 +10,7 @@ use Rattle.tree_rules.specs.Ways as ways
 use Rattle.tree_rules.specs.Tree as trees
 use Rattle.tree_rules.specs.Leaf as leaves
 use Rattle.tree_rules.specs.Known.{KnowsEnd, KnowsPlace}
+use Rattle.tree_text_rules.specs.Spelling.{covers_in}
 
 -- the number of a node or of a step, or how many children a branch has
 abbrev pub IsCount : ℕ → Type 0
@@ -22,7 +23,11 @@ IsSomeCount n = (1 ≤ n) × IsCount n
 abbrev pub IsOptionCount : ℕ → Type 0
 IsOptionCount n = n ≤ 2 ^ 128 - 1
 
--- the divisor of sizes and cost
+-- the weight of a set
+abbrev pub IsWeight : ℤ → Type 0
+IsWeight z = InRange z × (pos 0 ≤ℤ z)
+
+-- what sizes and cost are over
 abbrev pub IsDenominator : ℤ → Type 0
 IsDenominator z = InRange z × (pos 1 ≤ℤ z)
 
@@ -39,6 +44,11 @@ pub record FitsEnd (p : Problem) (end : trees.End leaves.Leaf) : Type 0 where
   pub known : KnowsEnd p end
   pub some : trees.HasChildren end
   pub counted : CountsEnd end
+
+-- an end that its first line says whole: no set follows it
+pub record FitsEndLine (p : Problem) (end : trees.End leaves.Leaf) : Type 0 where
+  pub fits : FitsEnd p end
+  pub bare : covers_in end ≡ []
 
 abbrev pub CountsPlace : Place → Type 0
 CountsPlace (places.Entry leave enter row column which) = Unit {0}

@@ -6,22 +6,23 @@ use Rattle.problem_rules.specs.Each.{Each}
 use Rattle.problem_rules.specs.Problem.{Problem}
 use Rattle.problem_rules.specs.Validity.{IsValid}
 use Rattle.pns_rules.specs.Nodes.{Step}
-use Rattle.tree_rules.specs.Known.{IsUnit, IsMaterial, IsExclusion, AreUnits, KnowsStep}
+use Rattle.charge_rules.specs.Cover.{Cover}
+use Rattle.tree_rules.specs.Known.{IsUnit, IsMaterial, IsExclusion, AreUnits, KnowsStep, KnowsCover}
 use Rattle.tree_rules.specs.Known.{KnowsColumn, KnowsRow}
 use Rattle.tree_text_rules.specs.Line.{Token, Line, lines_of, word_text}
-use Rattle.tree_text_rules.specs.LineRead.{step_read, end_line_read, option_read, root_read}
-use Rattle.tree_text_rules.specs.LineRead.{network_line_read, sizes_read, cost_read, nonbasic_read}
-use Rattle.tree_text_rules.specs.LineRead.{place_read, close_read}
+use Rattle.tree_text_rules.specs.LineRead.{step_read, end_line_read, cover_read, option_read}
+use Rattle.tree_text_rules.specs.LineRead.{root_read, network_line_read, sizes_read, cost_read}
+use Rattle.tree_text_rules.specs.LineRead.{nonbasic_read, place_read, close_read}
 use Rattle.tree_text_rules.specs.Spelling.{unit_name, material_name, exclusion_name, step_line}
-use Rattle.tree_text_rules.specs.Spelling.{end_line, option_line, column_text, row_text, which_text}
-use Rattle.tree_text_rules.specs.Spelling.{flow_text, place_fields, text_of}
+use Rattle.tree_text_rules.specs.Spelling.{end_line, cover_line, option_line, column_text, row_text}
+use Rattle.tree_text_rules.specs.Spelling.{which_text, flow_text, place_fields, text_of}
 use Rattle.tree_text_rules.specs.Token.{unit_of, material_of, exclusion_of, number_of}
 use Rattle.tree_text_rules.specs.Token.{denominator_of, count_of, children_of, options_of}
 use Rattle.tree_text_rules.specs.Token.{column_of, row_of, which_of, flow_of}
 use Rattle.tree_text_rules.specs.declared.Word.TheVariants as words
 use Rattle.tree_text_laws.specs.Codes.{IsToken, line_of, IsCode, IsLineCode}
 use Rattle.tree_text_laws.specs.LineFits.{IsCount, IsSomeCount, IsOptionCount, IsDenominator}
-use Rattle.tree_text_laws.specs.LineFits.{FitsSizes, FitsEnd, FitsPlace}
+use Rattle.tree_text_laws.specs.LineFits.{FitsSizes, FitsEndLine, FitsPlace}
 
 -- any value fits
 abbrev pub Any : {A : Type 0} → A → Type 0
@@ -75,7 +76,11 @@ pub record ReadsNodeLines (p : Problem) : Type 0 where
   pub step_back : (line : Line) (s : Step) → step_read p line ≡ Some (Ok s)
       → (line ≡ line_of (step_line p s)) × KnowsStep p s
   pub step_again : (s : Step) → KnowsStep p s → step_read p (line_of (step_line p s)) ≡ Some (Ok s)
-  pub ends : IsLineCode (end_line_read p) (end_line p) (FitsEnd p)
+  pub ends : IsLineCode (end_line_read p) (end_line p) (FitsEndLine p)
+  pub set_back : (line : Line) (c : Cover) → cover_read p line ≡ Some (Ok c)
+      → (line ≡ line_of (cover_line p c)) × KnowsCover p c
+  pub set_again : (c : Cover) → KnowsCover p c
+      → cover_read p (line_of (cover_line p c)) ≡ Some (Ok c)
 
 abbrev pub NodeLinesAreRead : Type 0
 NodeLinesAreRead = (p : Problem) → IsValid p → ReadsNodeLines p

@@ -45,7 +45,19 @@ firsts =
       (6, AfterEnd),
     ) ∷
     (body (codes "unknown" ∷ codes "node" ∷ codes "dead Q" ∷ codes "node" ∷ []), (4, UnknownName))
-    ∷
+    ∷ (
+      body (codes "unknown" ∷ codes "node" ∷ codes "charge 1" ∷ codes "some 1 U1" ∷ []),
+      (6, BadLine),
+    ) ∷ (
+      body (codes "unknown" ∷ codes "node" ∷ codes "charge 1" ∷ codes "some 1 U1" ∷ [])
+          ++ codes "some 1 U1",
+      (6, BadLine),
+    ) ∷ (
+      body (codes "unknown" ∷ codes "node" ∷ codes "either U1" ∷ codes "node U1"
+          ∷ codes "charge 1"
+          ∷ []),
+      (7, BadLine),
+    ) ∷
     (body (codes "unknown" ∷ codes "node" ∷ codes "open" ∷ codes "spent 0 3" ∷ []), (6, BadLine))
     ∷ (
       body (codes "unknown" ∷ codes "node" ∷ codes "open" ∷ codes "spent 0 3" ∷ codes "node"

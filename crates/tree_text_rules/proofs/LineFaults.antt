@@ -16,7 +16,8 @@ parts =
     (codes "", BadLine) ∷
     (codes "open ", BadLine) ∷
     (codes " open", BadLine) ∷
-    (codes "open now", BadLine) ∷
+    (codes "open now", BadNumber) ∷
+    (codes "open 1 2.5", BadNumber) ∷
     (codes "Open", BadLine) ∷
     (codes "node", BadLine) ∷
     (codes "end", BadLine) ∷
@@ -55,6 +56,11 @@ parts =
     (codes "bound 1 +1", BadNumber) ∷
     (codes "bound 1 170141183460469231731687303715884105728", BadNumber) ∷
     (codes "bound 1 -170141183460469231731687303715884105728", BadNumber) ∷
+    (codes "charge", BadLine) ∷
+    (codes "charge A", BadNumber) ∷
+    (codes "charge 1 -0", BadNumber) ∷
+    (codes "some 1 U1", BadLine) ∷
+    (codes "with 1 U1 U2", BadLine) ∷
     (codes "refuted 1.5", BadNumber) ∷
     (codes "refuted -", BadNumber) ∷
     []
@@ -63,7 +69,51 @@ parts_told : Told (codes "unknown" ∷ codes "node" ∷ []) (codes "end" ∷ [])
 unfolding parts word_named nodes_taken
 parts_told = refl
 
--- at the place of a child's line
+-- after a charge at the last node a set or the tail may come
+sets : List (List ℕ × TreeKind)
+sets =
+    (codes "some", BadLine) ∷
+    (codes "some x", BadLine) ∷
+    (codes "some 1  U1", BadLine) ∷
+    (codes "some 1 Q", UnknownName) ∷
+    (codes "some -1 Q", UnknownName) ∷
+    (codes "some 1 A", UnknownName) ∷
+    (codes "some -1 U1", BadNumber) ∷
+    (codes "some 01 U1", BadNumber) ∷
+    (codes "some -1 U2 U1", BadNumber) ∷
+    (codes "some 1 U2 U1", Order) ∷
+    (codes "some 1 U1 U1", Order) ∷
+    (codes "with 1 U1", BadLine) ∷
+    (codes "with 1 Q U1", UnknownName) ∷
+    (codes "with 1 U1 Q", UnknownName) ∷
+    (codes "with x U1 U2", BadNumber) ∷
+    (codes "with 1 U1 U3 U2", Order) ∷
+    (codes "node", MoreNodes) ∷
+    (codes "open", BadLine) ∷
+    (codes "spent 01 1", BadNumber) ∷
+    []
+
+sets_told : Told (codes "unknown" ∷ codes "node" ∷ codes "charge 1 0" ∷ codes "some 0 U1" ∷ [])
+    (codes "end" ∷ []) 6 sets
+unfolding sets word_named nodes_taken
+sets_told = refl
+
+-- and if a node is still to come
+before_nodes : List (List ℕ × TreeKind)
+before_nodes =
+    (codes "some 1 Q", UnknownName) ∷
+    (codes "end", FewerNodes) ∷
+    (codes "open", BadLine) ∷
+    (codes "node Q", UnknownName) ∷
+    []
+
+before_nodes_told : Told
+    (codes "unknown" ∷ codes "node" ∷ codes "either U3" ∷ codes "node U3" ∷ codes "charge 1" ∷ [])
+    (codes "open" ∷ codes "end" ∷ []) 7 before_nodes
+unfolding before_nodes word_named nodes_taken
+before_nodes_told = refl
+
+-- where a child's line must come
 children : List (List ℕ × TreeKind)
 children =
     (codes "end", FewerNodes) ∷

@@ -8,9 +8,11 @@ use Rattle.flow_rules.specs.declared.place.Column.TheVariants as columns
 use Rattle.flow_rules.specs.declared.place.FlowStep.TheVariants as flows
 use Rattle.flow_rules.specs.declared.place.Place.{Place}
 use Rattle.flow_rules.specs.declared.place.Place.TheVariants as places
+use Rattle.charge_rules.specs.Cover.{Cover}
+use Rattle.charge_rules.specs.Leaf.{Handed}
 use Rattle.tree_rules.specs.Ways.{at_material, either}
 use Rattle.tree_rules.specs.Tree.{TreeNode, branch, leaf}
-use Rattle.tree_rules.specs.Leaf.{Leaf, dead, clash, refuted, bounded, untried}
+use Rattle.tree_rules.specs.Leaf.{Leaf, dead, clash, refuted, bounded, charged, untried}
 use Rattle.tree_rules.specs.Claim.{Claim, network, infeasible, unknown}
 use Rattle.tree_rules.specs.Accepted.{Tree}
 use Rattle.tree_rules.specs.Tail.{whole, spent, past}
@@ -143,19 +145,78 @@ halves_are : IsTextOf halves_text (record { claim = halves_claim; tree = halves;
 unfolding digits nodes_taken word_named
 halves_are = (refl, refl)
 
+-- the same, if each leaf charges its node: with one set, and with two, the second of which is
+-- beside U4
+abbrev one_set : Cover
+one_set = record { weight = pos 1000000000000000000; beside = None; units = 0 ∷ 1 ∷ [] }
+
+abbrev set_beside : Cover
+set_beside = record { weight = pos 0; beside = Some 3; units = 2 ∷ [] }
+
+abbrev charge_leaf : List ℕ → Handed → TreeNode Leaf
+charge_leaf option h = record { option = option; steps = []; end = leaf (charged h) }
+
+abbrev charges : Tree
+charges =
+    record { option = []; steps = sole 5 3 ∷ []; end = branch (either 2) }
+    ∷ charge_leaf (2 ∷ [])
+    (record {
+      d = pos 1;
+      ys = pos 0 ∷ pos 0 ∷ pos 2000000 ∷ pos 2000000 ∷ [];
+      covers =
+          one_set ∷ [];
+    })
+    ∷ charge_leaf [] (record { d = pos 0; ys = negsuc 0 ∷ []; covers = one_set ∷ set_beside ∷ [] })
+    ∷ []
+
+abbrev charges_text : List ℕ
+charges_text = body (
+    codes "network U3 U4"
+    ∷ codes "sizes 1 20000000 20000000"
+    ∷ codes "cost 65000000000000000000"
+    ∷ codes "node"
+    ∷ codes "sole P U4"
+    ∷ codes "either U3"
+    ∷ codes "node U3"
+    ∷ codes "charge 1 0 0 2000000 2000000"
+    ∷ codes "some 1000000000000000000 U1 U2"
+    ∷ codes "node"
+    ∷ codes "charge 0 -1"
+    ∷ codes "some 1000000000000000000 U1 U2"
+    ∷ codes "with 0 U4 U3"
+    ∷ codes "end"
+    ∷ []
+    )
+
+charges_are : IsTextOf charges_text (record { claim = halves_claim; tree = charges; tail = whole })
+unfolding digits nodes_taken word_named
+charges_are = (refl, refl)
+
 -- each form of a step, an end and a claim
 abbrev forms : Tree
 forms =
     record {
       option = [];
       steps = raw 0 ∷ rival 1 ∷ starve 0 ∷ loose [] ∷ loose (0 ∷ 4 ∷ []) ∷ [];
-      end = branch (at_material 5 5);
+      end = branch (at_material 5 7);
     }
     ∷ record { option = 0 ∷ []; steps = []; end = leaf (dead 1) }
     ∷ record { option = []; steps = []; end = leaf (clash 0) }
     ∷ record { option = []; steps = []; end = leaf (refuted []) }
     ∷ record { option = []; steps = []; end = leaf (bounded (negsuc 0) []) }
-    ∷ record { option = []; steps = []; end = leaf untried }
+    ∷ record {
+      option = [];
+      steps = [];
+      end =
+          leaf (charged (record { d = negsuc 0; ys = []; covers = [] }));
+    }
+    ∷ record { option = []; steps = []; end = leaf (untried None) }
+    ∷ record {
+      option = [];
+      steps = [];
+      end =
+          leaf (untried (Some (record { d = pos 2; ys = negsuc 0 ∷ pos 3 ∷ [] })));
+    }
     ∷ []
 
 abbrev forms_text : List (List ℕ) → List (List ℕ) → List ℕ
@@ -166,7 +227,7 @@ forms_text claim tail = body (claim ++
     ∷ codes "starve A"
     ∷ codes "loose"
     ∷ codes "loose U1 U5"
-    ∷ codes "branch P 5"
+    ∷ codes "branch P 7"
     ∷ codes "node U1"
     ∷ codes "dead B"
     ∷ codes "node"
@@ -176,7 +237,11 @@ forms_text claim tail = body (claim ++
     ∷ codes "node"
     ∷ codes "bound -1"
     ∷ codes "node"
+    ∷ codes "charge -1"
+    ∷ codes "node"
     ∷ codes "open"
+    ∷ codes "node"
+    ∷ codes "open 2 -1 3"
     ∷ tail
     )
 
@@ -226,7 +291,7 @@ past_text place =
 abbrev past_at : Place → Certificate
 past_at place = record {
   claim = unknown;
-  tree = record { option = []; steps = []; end = leaf untried } ∷ [];
+  tree = record { option = []; steps = []; end = leaf (untried None) } ∷ [];
   tail =
       past 0 (columns.X 0 ∷ columns.S 1 ∷ columns.T 0 ∷ columns.W 5 ∷ columns.Right ∷ columns.Scale
       ∷ []) place;

@@ -10,8 +10,9 @@ use Rattle.tree_text_rules.specs.declared.Word.{Word}
 use Rattle.tree_text_rules.specs.declared.Word.TheVariants.{Network, Sizes, Cost, Infeasible}
 use Rattle.tree_text_rules.specs.declared.Word.TheVariants.{Unknown, Node, Raw, Rival, Starve}
 use Rattle.tree_text_rules.specs.declared.Word.TheVariants.{Loose, Sole, Dead, Clash, Refuted}
-use Rattle.tree_text_rules.specs.declared.Word.TheVariants.{Bound, Branch, Either, Open, Spent}
-use Rattle.tree_text_rules.specs.declared.Word.TheVariants.{Past, Nonbasic, Place, End}
+use Rattle.tree_text_rules.specs.declared.Word.TheVariants.{Bound, Charge, SomeOf, With, Branch}
+use Rattle.tree_text_rules.specs.declared.Word.TheVariants.{Either, Open, Spent, Past, Nonbasic}
+use Rattle.tree_text_rules.specs.declared.Word.TheVariants.{Place, End}
 
 abbrev pub Token : Type 0
 Token = List ℕ
@@ -72,6 +73,9 @@ word_text Dead = codes "dead"
 word_text Clash = codes "clash"
 word_text Refuted = codes "refuted"
 word_text Bound = codes "bound"
+word_text Charge = codes "charge"
+word_text SomeOf = codes "some"
+word_text With = codes "with"
 word_text Branch = codes "branch"
 word_text Either = codes "either"
 word_text Open = codes "open"
@@ -109,6 +113,9 @@ word_named token =
     else if bytes_eq token (word_text Clash) then Some Clash
     else if bytes_eq token (word_text Refuted) then Some Refuted
     else if bytes_eq token (word_text Bound) then Some Bound
+    else if bytes_eq token (word_text Charge) then Some Charge
+    else if bytes_eq token (word_text SomeOf) then Some SomeOf
+    else if bytes_eq token (word_text With) then Some With
     else if bytes_eq token (word_text Branch) then Some Branch
     else if bytes_eq token (word_text Either) then Some Either
     else if bytes_eq token (word_text Open) then Some Open

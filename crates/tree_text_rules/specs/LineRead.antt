@@ -1,24 +1,29 @@
 -- What a line stands for at its place, or which fault it has. A line without the form of its place
 -- has no other fault. But a node's line too many, and a node's line that is missing, are reported
 -- before that.
-use Rattle.std.specs.Prelude.{◌==◌, ℕ, ℤ, Bool, true, List, [], ◌∷◌, length, codes, Option, Some}
-use Rattle.std.specs.Prelude.{None, Result, Ok, Err, if◌then◌else◌}
+use Rattle.std.specs.Prelude.{◌==◌, ℕ, ℤ, Bool, true, nat_lt, List, [], ◌∷◌, length}
+use Rattle.std.specs.Prelude.{codes}
+use Rattle.std.specs.Prelude.{Option}
+use Rattle.std.specs.Prelude.{Some, None, Result, Ok, Err, if◌then◌else◌}
 use Rattle.std.specs.Str.{bytes_eq}
 use Rattle.problem_rules.specs.Problem.{Problem}
 use Rattle.pns_rules.specs.Nodes as nodes
 use Rattle.flow_rules.specs.declared.place.Column.{Column}
 use Rattle.flow_rules.specs.declared.place.Place.{Place}
 use Rattle.flow_rules.specs.declared.place.Place.TheVariants as places
+use Rattle.charge_rules.specs.Cover.{Cover}
 use Rattle.tree_rules.specs.Ways as ways
 use Rattle.tree_rules.specs.Tree as trees
 use Rattle.tree_rules.specs.Leaf as leaves
-use Rattle.tree_text_rules.specs.Line.{Token, Line, word_of, fields_of, is_formed, file_type}
+use Rattle.tree_text_rules.specs.Line.{Token, Line, word_of, fields_of, is_formed}
+use Rattle.tree_text_rules.specs.Line.{file_type}
 use Rattle.tree_text_rules.specs.Token.{both, mapped, each, judged, unit_of, material_of}
-use Rattle.tree_text_rules.specs.Token.{exclusion_of, units_of, number_of, denominator_of, count_of}
-use Rattle.tree_text_rules.specs.Token.{children_of, options_of, column_of, row_of, which_of}
-use Rattle.tree_text_rules.specs.Token.{flow_of}
+use Rattle.tree_text_rules.specs.Token.{exclusion_of, units_of, number_of, weight_of}
+use Rattle.tree_text_rules.specs.Token.{denominator_of, count_of, children_of, options_of}
+use Rattle.tree_text_rules.specs.Token.{column_of, row_of, which_of, flow_of}
 use Rattle.tree_text_rules.specs.declared.TreeKind.{TreeKind}
-use Rattle.tree_text_rules.specs.declared.TreeKind.TheVariants.{FileType, BadLine, WrongCount}
+use Rattle.tree_text_rules.specs.declared.TreeKind.TheVariants.{FileType, BadLine}
+use Rattle.tree_text_rules.specs.declared.TreeKind.TheVariants.{WrongCount}
 use Rattle.tree_text_rules.specs.declared.TreeKind.TheVariants.{MoreNodes, FewerNodes}
 use Rattle.tree_text_rules.specs.declared.Word.{Word}
 use Rattle.tree_text_rules.specs.declared.Word.TheVariants as words
@@ -28,17 +33,20 @@ abbrev pub formed : {A : Type 0} → Line → Result A TreeKind → Result A Tre
 formed line read = if is_formed line then read else Err BadLine
 
 -- the one token, or the two, after the first word
-abbrev pub one : {A : Type 0} → (Token → Result A TreeKind) → List Token → Result A TreeKind
+abbrev pub one : {A : Type 0} → (Token → Result A TreeKind) → List Token
+    → Result A TreeKind
 one read (token ∷ []) = read token
 one read tokens = Err BadLine
 
-abbrev pub two : {A B : Type 0} → (Token → Result A TreeKind) → (Token → Result B TreeKind)
+abbrev pub two : {A B : Type 0} → (Token → Result A TreeKind)
+    → (Token → Result B TreeKind)
     → List Token → Result (A × B) TreeKind
 two read read' (token ∷ next ∷ []) = both (read token) (read' next)
 two read read' tokens = Err BadLine
 
 -- one token and then any number
-abbrev pub one_and_more : {A B : Type 0} → (Token → Result A TreeKind) → (Token → Result B TreeKind)
+abbrev pub one_and_more : {A B : Type 0} → (Token → Result A TreeKind)
+    → (Token → Result B TreeKind)
     → List Token → Result (A × List B) TreeKind
 one_and_more read read' (token ∷ tokens) = both (read token) (each read' tokens)
 one_and_more read read' [] = Err BadLine
@@ -51,13 +59,17 @@ alone a (token ∷ tokens) = Err BadLine
 -- ---- nodes
 
 -- at the place of a step: a step, or none if the line is another
-abbrev pub step_by : Problem → Option Word → List Token → Option (Result nodes.Step TreeKind)
+abbrev pub step_by : Problem → Option Word → List Token
+    → Option (Result nodes.Step TreeKind)
 step_by p (Some words.Raw) fields = Some (mapped nodes.raw (one (unit_of p) fields))
 step_by p (Some words.Rival) fields = Some (mapped nodes.rival (one (unit_of p) fields))
-step_by p (Some words.Starve) fields = Some (mapped nodes.starve (one (material_of p) fields))
+step_by p (Some words.Starve) fields =
+    Some (mapped nodes.starve (one (material_of p) fields))
 step_by p (Some words.Loose) fields = Some (mapped nodes.loose (units_of p fields))
 step_by p (Some words.Sole) fields =
-    Some (mapped (λ found. nodes.sole found.0 found.1) (two (material_of p) (unit_of p) fields))
+    Some
+    (mapped (λ found. nodes.sole found.0 found.1)
+    (two (material_of p) (unit_of p) fields))
 step_by p word fields = None
 
 abbrev pub formed_step : Line → Option (Result nodes.Step TreeKind)
@@ -68,7 +80,16 @@ formed_step line (Some read) = Some (formed line read)
 abbrev pub step_read : Problem → Line → Option (Result nodes.Step TreeKind)
 step_read p line = formed_step line (step_by p (word_of line) (fields_of line))
 
-abbrev pub end_by : Problem → Option Word → List Token → Result (trees.End leaves.Leaf) TreeKind
+-- an open leaf: nothing, or a scale and multipliers
+abbrev pub open_of : List Token → Result leaves.Leaf TreeKind
+open_of [] = Ok (leaves.untried None)
+open_of (token ∷ tokens) =
+    mapped (λ found. leaves.untried (Some (record { d = found.0; ys = found.1 })))
+    (one_and_more number_of number_of (token ∷ tokens))
+
+-- the line of a charge, without the sets that come after it
+abbrev pub end_by : Problem → Option Word → List Token
+    → Result (trees.End leaves.Leaf) TreeKind
 end_by p (Some words.Dead) fields =
     mapped (λ x. trees.leaf (leaves.dead x)) (one (material_of p) fields)
 end_by p (Some words.Clash) fields =
@@ -78,19 +99,68 @@ end_by p (Some words.Refuted) fields =
 end_by p (Some words.Bound) fields =
     mapped (λ found. trees.leaf (leaves.bounded found.0 found.1))
     (one_and_more number_of number_of fields)
+end_by p (Some words.Charge) fields =
+    mapped
+    (λ found. trees.leaf
+    (leaves.charged (record { d = found.0; ys = found.1; covers = [] })))
+    (one_and_more number_of number_of fields)
 end_by p (Some words.Branch) fields =
     mapped (λ found. trees.branch (ways.at_material found.0 found.1))
     (two (material_of p) children_of fields)
 end_by p (Some words.Either) fields =
     mapped (λ u. trees.branch (ways.either u)) (one (unit_of p) fields)
-end_by p (Some words.Open) fields = alone (trees.leaf leaves.untried) fields
+end_by p (Some words.Open) fields = mapped (λ l. trees.leaf l) (open_of fields)
 end_by p word fields = Err BadLine
 
 abbrev pub end_line_read : Problem → Line → Result (trees.End leaves.Leaf) TreeKind
 end_line_read p line = formed line (end_by p (word_of line) (fields_of line))
 
--- at the place of a node's line
-abbrev pub option_by : Problem → Option Word → List Token → Bool → Result (List ℕ) TreeKind
+-- ---- the sets of a charge
+
+-- the names of a set, one at least
+abbrev pub some_units : Problem → List Token → Result (List ℕ) TreeKind
+some_units p [] = Err BadLine
+some_units p (token ∷ tokens) = units_of p (token ∷ tokens)
+
+-- a weight and the units of a set
+abbrev pub set_of : Problem → List Token → Result Cover TreeKind
+set_of p (weight ∷ names) =
+    mapped (λ found. record { weight = found.0; beside = None; units = found.1 })
+    (both (weight_of weight) (some_units p names))
+set_of p [] = Err BadLine
+
+-- a weight, the unit beside a set, and the units of the set
+abbrev pub set_beside : Problem → List Token → Result Cover TreeKind
+set_beside p (weight ∷ unit ∷ names) =
+    mapped
+    (λ found. record { weight = found.0; beside = Some found.1.0; units = found.1.1 })
+    (both (weight_of weight) (both (unit_of p unit) (some_units p names)))
+set_beside p fields = Err BadLine
+
+-- where a set may come: a set, or none if the line is another
+abbrev pub cover_by : Problem → Option Word → List Token → Option (Result Cover TreeKind)
+cover_by p (Some words.SomeOf) fields = Some (set_of p fields)
+cover_by p (Some words.With) fields = Some (set_beside p fields)
+cover_by p word fields = None
+
+abbrev pub formed_cover : Line → Option (Result Cover TreeKind)
+    → Option (Result Cover TreeKind)
+formed_cover line None = None
+formed_cover line (Some read) = Some (formed line read)
+
+abbrev pub cover_read : Problem → Line → Option (Result Cover TreeKind)
+cover_read p line = formed_cover line (cover_by p (word_of line) (fields_of line))
+
+-- after so many sets of a charge one more may come, as long as there are not a million
+abbrev pub next_cover : Problem → List Cover → Line → Option (Result Cover TreeKind)
+next_cover p covers line =
+    if nat_lt (length covers) 1000000 then cover_read p line else None
+
+-- ---- the lines that begin nodes
+
+-- where a node's line must come
+abbrev pub option_by : Problem → Option Word → List Token → Bool
+    → Result (List ℕ) TreeKind
 option_by p (Some words.Node) fields true = units_of p fields
 option_by p (Some words.Spent) fields is_formed = Err FewerNodes
 option_by p (Some words.Past) fields is_formed = Err FewerNodes
@@ -155,7 +225,8 @@ cost_read line = formed line (cost_by (word_of line) (fields_of line))
 -- ---- tails
 
 -- what is read of a line of the tail; here a node's line is one too many
-abbrev pub behind_nodes : {A : Type 0} → Option Word → Result A TreeKind → Result A TreeKind
+abbrev pub behind_nodes : {A : Type 0} → Option Word → Result A TreeKind
+    → Result A TreeKind
 behind_nodes (Some words.Node) read = Err MoreNodes
 behind_nodes word read = read
 
@@ -174,19 +245,23 @@ tail_opening_by word fields = Err BadLine
 
 abbrev pub tail_opening_read : Line → Result TailOpening TreeKind
 tail_opening_read line =
-    behind_nodes (word_of line) (formed line (tail_opening_by (word_of line) (fields_of line)))
+    behind_nodes (word_of line)
+    (formed line (tail_opening_by (word_of line) (fields_of line)))
 
-abbrev pub nonbasic_by : Problem → Option Word → List Token → Result (List Column) TreeKind
+abbrev pub nonbasic_by : Problem → Option Word → List Token
+    → Result (List Column) TreeKind
 nonbasic_by p (Some words.Nonbasic) fields = each (column_of p) fields
 nonbasic_by p word fields = Err BadLine
 
 abbrev pub nonbasic_read : Problem → Line → Result (List Column) TreeKind
 nonbasic_read p line =
-    behind_nodes (word_of line) (formed line (nonbasic_by p (word_of line) (fields_of line)))
+    behind_nodes (word_of line)
+    (formed line (nonbasic_by p (word_of line) (fields_of line)))
 
 abbrev pub entry_of : Problem → List Token → Result Place TreeKind
 entry_of p (leave ∷ enter ∷ row ∷ column ∷ which ∷ []) =
-    mapped (λ found. places.Entry found.0 found.1.0 found.1.1.0 found.1.1.1.0 found.1.1.1.1)
+    mapped
+    (λ found. places.Entry found.0 found.1.0 found.1.1.0 found.1.1.1.0 found.1.1.1.1)
     (both (column_of p leave)
     (both (column_of p enter)
     (both (row_of p row) (both (column_of p column) (which_of which)))))
@@ -196,12 +271,15 @@ abbrev pub place_of : Problem → List Token → Result Place TreeKind
 place_of p [] = Err BadLine
 place_of p (word ∷ fields) =
     if bytes_eq word (codes "entry") then entry_of p fields
-    else if bytes_eq word (codes "flow") then mapped (λ found. places.Flow found.0 found.1)
+    else if bytes_eq word (codes "flow") then mapped
+    (λ found. places.Flow found.0 found.1)
     (two (unit_of p) flow_of fields)
     else if bytes_eq word (codes "cost") then mapped places.Cost (one count_of fields)
-    else if bytes_eq word (codes "flowsum") then mapped places.FlowSum (one count_of fields)
+    else if bytes_eq word (codes "flowsum") then mapped places.FlowSum
+    (one count_of fields)
     else if bytes_eq word (codes "bound") then mapped places.Bound (one count_of fields)
-    else if bytes_eq word (codes "refute") then mapped (λ found. places.Refute found.0 found.1)
+    else if bytes_eq word (codes "refute") then mapped
+    (λ found. places.Refute found.0 found.1)
     (two (column_of p) count_of fields)
     else Err BadLine
 
@@ -226,5 +304,6 @@ close_read line =
 
 abbrev pub file_type_read : Line → Result (Unit {0}) TreeKind
 file_type_read line =
-    if line.ended then (if bytes_eq line.text file_type then Ok tt else Err FileType) else Err
+    if line.ended then (if bytes_eq line.text file_type then Ok tt else Err FileType)
+    else Err
     FileType

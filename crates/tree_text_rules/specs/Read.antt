@@ -5,6 +5,8 @@ use Rattle.std.specs.Prelude.{◌+◌, ℕ, zero, suc, List, [], ◌∷◌, ◌+
 use Rattle.std.specs.Prelude.{Result, Ok, Err}
 use Rattle.problem_rules.specs.Problem.{Problem}
 use Rattle.pns_rules.specs.Nodes as nodes
+use Rattle.charge_rules.specs.Cover.{Cover}
+use Rattle.charge_rules.specs.Leaf.{Handed}
 use Rattle.tree_rules.specs.Tree as trees
 use Rattle.tree_rules.specs.Leaf as leaves
 use Rattle.tree_rules.specs.Claim as claims
@@ -26,7 +28,8 @@ pub record Taken (A : Type 0) : Type 0 where
   pub behind : List Line
 
 -- a line, and what is read of the lines after it
-abbrev pub on_line : {A B : Type 0} → ℕ → Result A TreeKind → (A → Result B Fault) → Result B Fault
+abbrev pub on_line : {A B : Type 0} → ℕ → Result A TreeKind → (A → Result B Fault)
+    → Result B Fault
 on_line number (Ok a) read = read a
 on_line number (Err kind) read = Err (number, kind)
 
@@ -92,7 +95,8 @@ abbrev pub steps_taken : Problem → Head → ℕ → List Line → Result (Take
 steps_taken p head number [] = Ok (record { what = head; number = number; behind = [] })
 steps_taken p head number (line ∷ lines) = elim (reads.step_read p line) [
   | None ↦ Ok (record { what = head; number = number; behind = line ∷ lines })
-  | Some read ↦ on_line number read (λ step. steps_taken p (with_step head step) (suc number) lines)
+  | Some read
+      ↦ on_line number read (λ step. steps_taken p (with_step head step) (suc number) lines)
 ]
 
 -- a node's line and its steps
@@ -101,11 +105,48 @@ head_taken p number lines =
     first_line (reads.option_read p) number lines
     (λ option lines. steps_taken p (record { option = option; steps = [] }) (suc number) lines)
 
--- the line of an end
+-- ---- ends
+
+-- the sets that come next, after those of the charge; they end before the first line that is none
+abbrev pub covers_taken : Problem → List Cover → ℕ → List Line → Result (Taken (List Cover)) Fault
+covers_taken p covers number [] = Ok (record { what = covers; number = number; behind = [] })
+covers_taken p covers number (line ∷ lines) = elim (reads.next_cover p covers line) [
+  | None ↦ Ok (record { what = covers; number = number; behind = line ∷ lines })
+  | Some read
+      ↦ on_line number read (λ cover. covers_taken p (covers ++ cover ∷ []) (suc number) lines)
+]
+
+abbrev pub with_covers : Handed → List Cover → Handed
+with_covers h covers = record { d = h.d; ys = h.ys; covers = covers }
+
+abbrev pub charge_end : Handed → trees.End leaves.Leaf
+charge_end h = trees.leaf (leaves.charged h)
+
+-- the charge of an end whose line was read, if it is one
+abbrev pub charge_of : trees.End leaves.Leaf → Option Handed
+charge_of (trees.branch w) = None
+charge_of (trees.leaf (leaves.dead x)) = None
+charge_of (trees.leaf (leaves.clash k)) = None
+charge_of (trees.leaf (leaves.refuted ys)) = None
+charge_of (trees.leaf (leaves.bounded d ys)) = None
+charge_of (trees.leaf (leaves.charged h)) = Some h
+charge_of (trees.leaf (leaves.untried low)) = None
+
+-- what follows the line of an end: the sets of a charge
+abbrev pub end_behind : Problem → trees.End leaves.Leaf → Option Handed → ℕ → List Line
+    → Result (Taken (trees.End leaves.Leaf)) Fault
+end_behind p end None number lines = Ok (record { what = end; number = number; behind = lines })
+end_behind p end (Some h) number lines =
+    then_read (covers_taken p h.covers number lines) (λ covers number lines.
+    Ok (record { what = charge_end (with_covers h covers); number = number; behind = lines }))
+
+-- the lines of an end
 abbrev pub end_taken : Problem → ℕ → List Line → Result (Taken (trees.End leaves.Leaf)) Fault
 end_taken p number lines =
     first_line (reads.end_line_read p) number lines
-    (λ end lines. Ok (record { what = end; number = suc number; behind = lines }))
+    (λ end lines. end_behind p end (charge_of end) (suc number) lines)
+
+-- ---- trees
 
 abbrev pub with_node : trees.TreeNode leaves.Leaf → Result (Taken Tree) Fault
     → Result (Taken Tree) Fault
@@ -113,30 +154,65 @@ with_node t (Ok taken) =
     Ok (record { what = t ∷ taken.what; number = taken.number; behind = taken.behind })
 with_node t (Err fault) = Err fault
 
--- So many subtrees, after the node that was begun, if there is one.
-unfoldable pub nodes_taken : Problem → Option Head → ℕ → ℕ → List Line → Result (Taken Tree) Fault
-nodes_taken p None zero number lines = Ok (record { what = []; number = number; behind = lines })
-nodes_taken p None (suc count) number [] = Err (number, BadLine)
-nodes_taken p None (suc count) number (line ∷ lines) =
+-- where the reading of nodes is: between two of them; after the option and the steps of one; or
+-- after the line of its charge and the sets that were read of it
+pub data Begun : Type 0 where
+  between : Begun
+  at_steps : Head → Begun
+  at_covers : Head → Handed → Begun
+
+abbrev pub at_option : List ℕ → Begun
+at_option option = at_steps (record { option = option; steps = [] })
+
+-- so many subtrees, after what was begun
+unfoldable pub nodes_taken : Problem → Begun → ℕ → ℕ → List Line → Result (Taken Tree) Fault
+nodes_taken p between zero number lines =
+    Ok (record { what = []; number = number; behind = lines })
+nodes_taken p between (suc count) number [] = Err (number, BadLine)
+nodes_taken p between (suc count) number (line ∷ lines) =
     on_line number (reads.option_read p line)
-    (λ option. nodes_taken p (Some (record { option = option; steps = [] })) count (suc number)
-    lines)
-nodes_taken p (Some head) count number [] = Err (number, BadLine)
-nodes_taken p (Some head) count number (line ∷ lines) = elim (reads.step_read p line) [
+    (λ option. nodes_taken p (at_option option) count (suc number) lines)
+nodes_taken p (at_steps head) count number [] = Err (number, BadLine)
+nodes_taken p (at_steps head) count number (line ∷ lines) = elim (reads.step_read p line) [
   | Some read
       ↦ on_line number read
-      (λ step. nodes_taken p (Some (with_step head step)) count (suc number) lines)
-  | None ↦ on_line number (reads.end_line_read p line) (λ end.
-      with_node (with_end head end)
-      (nodes_taken p None (trees.children end + count) (suc number) lines))
+      (λ step. nodes_taken p (at_steps (with_step head step)) count (suc number) lines)
+  | None ↦ on_line number (reads.end_line_read p line) (λ end. elim (charge_of end) [
+    | Some h ↦ nodes_taken p (at_covers head h) count (suc number) lines
+    | None ↦ with_node (with_end head end)
+        (nodes_taken p between (trees.children end + count) (suc number) lines)
+  ])
 ]
+nodes_taken p (at_covers head h) zero number [] =
+    with_node (with_end head (charge_end h))
+    (Ok (record { what = []; number = number; behind = [] }))
+nodes_taken p (at_covers head h) (suc count) number [] = Err (number, BadLine)
+nodes_taken p (at_covers head h) zero number (line ∷ lines) =
+    elim (reads.next_cover p h.covers line) [
+      | Some read
+          ↦ on_line number read
+          (λ cover. nodes_taken p (at_covers head (with_covers h (h.covers ++ cover ∷ []))) zero
+          (suc number) lines)
+      | None ↦ with_node (with_end head (charge_end h))
+          (Ok (record { what = []; number = number; behind = line ∷ lines }))
+    ]
+nodes_taken p (at_covers head h) (suc count) number (line ∷ lines) =
+    elim (reads.next_cover p h.covers line) [
+      | Some read
+          ↦ on_line number read
+          (λ cover. nodes_taken p (at_covers head (with_covers h (h.covers ++ cover ∷ [])))
+          (suc count)
+          (suc number) lines)
+      | None ↦ with_node (with_end head (charge_end h))
+          (on_line number (reads.option_read p line)
+          (λ option. nodes_taken p (at_option option) count (suc number) lines))
+    ]
 
 -- one whole tree
 abbrev pub tree_taken : Problem → ℕ → List Line → Result (Taken Tree) Fault
 tree_taken p number lines =
     first_line reads.root_read number lines
-    (λ option lines. nodes_taken p (Some (record { option = option; steps = [] })) 0 (suc number)
-    lines)
+    (λ option lines. nodes_taken p (at_option option) 0 (suc number) lines)
 
 -- ---- tails
 
@@ -188,7 +264,8 @@ rest_taken p number lines =
 
 abbrev pub lines_taken : Problem → List Line → Result Certificate Fault
 lines_taken p [] = Err (1, FileType)
-lines_taken p (line ∷ lines) = on_line 1 (reads.file_type_read line) (λ read. rest_taken p 2 lines)
+lines_taken p (line ∷ lines) =
+    on_line 1 (reads.file_type_read line) (λ read. rest_taken p 2 lines)
 
 -- the claim, tree and tail that a text stands for, or its first fault: the answer of a reader of
 -- tree texts

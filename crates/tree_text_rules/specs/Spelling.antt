@@ -14,6 +14,7 @@ use Rattle.flow_rules.specs.declared.place.FlowStep.{FlowStep}
 use Rattle.flow_rules.specs.declared.place.FlowStep.TheVariants as flows
 use Rattle.flow_rules.specs.declared.place.Place.{Place}
 use Rattle.flow_rules.specs.declared.place.Place.TheVariants as places
+use Rattle.charge_rules.specs.Cover.{Cover}
 use Rattle.tree_rules.specs.Ways as ways
 use Rattle.tree_rules.specs.Tree as trees
 use Rattle.tree_rules.specs.Leaf as leaves
@@ -41,16 +42,44 @@ step_line p (nodes.starve x) = word_text words.Starve ∷ material_name p x ∷ 
 step_line p (nodes.loose us) = word_text words.Loose ∷ map (unit_name p) us
 step_line p (nodes.sole x u) = word_text words.Sole ∷ material_name p x ∷ unit_name p u ∷ []
 
+-- of a charge its first line
 abbrev pub end_line : Problem → trees.End leaves.Leaf → List Token
 end_line p (trees.leaf (leaves.dead x)) = word_text words.Dead ∷ material_name p x ∷ []
 end_line p (trees.leaf (leaves.clash k)) = word_text words.Clash ∷ exclusion_name p k ∷ []
 end_line p (trees.leaf (leaves.refuted ys)) = word_text words.Refuted ∷ map signed_decimal ys
 end_line p (trees.leaf (leaves.bounded d ys)) =
     word_text words.Bound ∷ signed_decimal d ∷ map signed_decimal ys
-end_line p (trees.leaf leaves.untried) = word_text words.Open ∷ []
+end_line p (trees.leaf (leaves.charged h)) =
+    word_text words.Charge ∷ signed_decimal h.d ∷ map signed_decimal h.ys
+end_line p (trees.leaf (leaves.untried None)) = word_text words.Open ∷ []
+end_line p (trees.leaf (leaves.untried (Some low))) =
+    word_text words.Open ∷ signed_decimal low.d ∷ map signed_decimal low.ys
 end_line p (trees.branch (ways.at_material x c)) =
     word_text words.Branch ∷ material_name p x ∷ decimal c ∷ []
 end_line p (trees.branch (ways.either u)) = word_text words.Either ∷ unit_name p u ∷ []
+
+abbrev pub set_line : Problem → ℤ → Option ℕ → List ℕ → List Token
+set_line p weight None units =
+    word_text words.SomeOf ∷ signed_decimal weight ∷ map (unit_name p) units
+set_line p weight (Some u) units =
+    word_text words.With ∷ signed_decimal weight ∷ unit_name p u ∷ map (unit_name p) units
+
+abbrev pub cover_line : Problem → Cover → List Token
+cover_line p c = set_line p c.weight c.beside c.units
+
+-- the sets of an end
+abbrev pub covers_in : trees.End leaves.Leaf → List Cover
+covers_in (trees.branch w) = []
+covers_in (trees.leaf (leaves.dead x)) = []
+covers_in (trees.leaf (leaves.clash k)) = []
+covers_in (trees.leaf (leaves.refuted ys)) = []
+covers_in (trees.leaf (leaves.bounded d ys)) = []
+covers_in (trees.leaf (leaves.charged h)) = h.covers
+covers_in (trees.leaf (leaves.untried low)) = []
+
+-- the line of an end, and after it those of its sets
+abbrev pub end_with_sets : Problem → trees.End leaves.Leaf → List (List Token)
+end_with_sets p end = end_line p end ∷ map (cover_line p) (covers_in end)
 
 abbrev pub option_line : Problem → List ℕ → List Token
 option_line p us = word_text words.Node ∷ map (unit_name p) us
@@ -60,7 +89,7 @@ abbrev pub head_lines : Problem → List ℕ → List nodes.Step → List (List 
 head_lines p option steps = option_line p option ∷ map (step_line p) steps
 
 abbrev pub node_lines : Problem → trees.TreeNode leaves.Leaf → List (List Token)
-node_lines p t = head_lines p t.option t.steps ++ end_line p t.end ∷ []
+node_lines p t = head_lines p t.option t.steps ++ end_with_sets p t.end
 
 abbrev pub tree_lines : Problem → Tree → List (List Token)
 tree_lines p tree = flat_map (node_lines p) tree

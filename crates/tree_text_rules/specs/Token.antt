@@ -109,6 +109,14 @@ abbrev pub is_positive : ℤ → Bool
 is_positive (pos n) = nat_le 1 n
 is_positive (negsuc n) = false
 
+abbrev pub is_not_negative : ℤ → Bool
+is_not_negative (pos n) = true
+is_not_negative (negsuc n) = false
+
+-- the weight of a set, at least 0
+abbrev pub weight_of : Token → Result ℤ TreeKind
+weight_of token = judged is_not_negative BadNumber (number_of token)
+
 -- what sizes and cost are over, at least 1
 abbrev pub denominator_of : Token → Result ℤ TreeKind
 denominator_of token = judged is_positive BadNumber (number_of token)

@@ -15,7 +15,8 @@
 pub enum TreeKind {
     /// The first line is another text than `file_type=PNS_tree_v1`, or is missing.
     FileType,
-    /// A line that is none of the forms that may come there, or a missing line.
+    /// A line that is none of the forms that may come there, or a missing line. After the line of a
+    /// charge a million sets may come.
     BadLine,
     /// A name that the problem does not have.
     UnknownName,
@@ -51,6 +52,9 @@ pub enum Word {
     Clash,
     Refuted,
     Bound,
+    Charge,
+    SomeOf,
+    With,
     Branch,
     Either,
     Open,

@@ -13,8 +13,10 @@ use Rattle.flow_rules.specs.Net.{net_of}
 use Rattle.flow_rules.specs.Relaxed.{bound}
 use Rattle.pgraph.specs.View.{node_of}
 use Rattle.tree_rules.specs.Tree.{End, branch, leaf, StepsPass, after_all}
-use Rattle.tree_rules.specs.Leaf.{Leaf, dead, clash, refuted, bounded, untried, multiplier}
-use Rattle.tree_rules.specs.Leaf.{LeafPasses}
+use Rattle.charge_rules.specs.Facts.{own_facts}
+use Rattle.charge_rules.specs.Leaf.{IsScale, charge_of, ChargeReaches}
+use Rattle.tree_rules.specs.Leaf.{Leaf, dead, clash, refuted, bounded, charged, untried, multiplier}
+use Rattle.tree_rules.specs.Leaf.{IsClaimed, LeafPasses}
 use Rattle.tree_rules.specs.Claim.{CostOver, IsAtLeast}
 use Rattle.search_tree.specs.Cells.{Cell, place_of, cell_at, times, numbers_below, children_at}
 use Rattle.search_tree.specs.Cells.{AreBehind, IsLinked}
@@ -33,6 +35,18 @@ reaches_fallen (Some v) None b d q h po pn r = absurd h
 reaches_fallen (Some v) (Some w) b d q h po pn r =
     fraction_trans w.cost w.d v.cost v.d b d pn po q h r
 
+scale_fallen : (old new : Option CostOver) (d : ℤ) → HasFallen old new → IsScale (IsClaimed old) d
+    → IsScale (IsClaimed new) d
+scale_fallen old new d h (inl e) = inl e
+scale_fallen None new d h (inr c) = absurd c.1
+scale_fallen (Some v) None d h (inr c) = absurd h
+scale_fallen (Some v) (Some w) d h (inr c) = inr (c.0, tt)
+
+charge_fallen : (old new : Option CostOver) (x d : ℤ) → HasFallen old new → IsPositiveCost old
+    → IsPositiveCost new → ChargeReaches (IsAtLeast old) x d → ChargeReaches (IsAtLeast new) x d
+charge_fallen old new x d h po pn (inl r) = inl (r.0, reaches_fallen old new x d r.0 h po pn r.1)
+charge_fallen old new x d h po pn (inr r) = inr r
+
 pub leaf_fallen : (p : Problem) (old new : Option CostOver) (n : Node) (l : Leaf)
     → HasFallen old new → IsPositiveCost old → IsPositiveCost new → LeafPasses true p old n l
     → LeafPasses true p new n l
@@ -47,7 +61,14 @@ leaf_fallen p old new n (bounded d ys) h po pn l = record {
       reaches_fallen old new (bound (net_of p) n d (multiplier p n ys)) d l.positive h po pn
       l.reaches;
 }
-leaf_fallen p old new n untried h po pn l = l
+leaf_fallen p old new n (charged c) h po pn l = record {
+  scale = scale_fallen old new c.d h l.scale;
+  each_row = l.each_row;
+  covered = l.covered;
+  formed = l.formed;
+  reaches = charge_fallen old new (charge_of p n (own_facts (net_of p)) c) c.d h po pn l.reaches;
+}
+leaf_fallen p old new n (untried low) h po pn l = l
 
 -- ---- cells that keep their option, their steps and their node
 pub record IsSameBase (old new : Cell) : Type 0 where
@@ -225,7 +246,7 @@ module _ (p : Problem) (start : Node) (claimed : Option CostOver) (old new : Lis
   shut_children v lt = elim (s.each v lt) [
     | inl e ↦ ap (λ (c : Cell). numbers_below c.first c.end) e
     | inr t ↦ ap (λ (c : Cell). numbers_below c.first c.end) t.new_is
-        ∙ sym (ap (λ (e : End Leaf). numbers_below (cell_at old v).first e) t.was_open)
+        ∙ sym (ap (λ (e : End Leaf). numbers_below (cell_at old v).first e) t.was_open.1)
   ]
 
   pub shut_linked : IsLinked new

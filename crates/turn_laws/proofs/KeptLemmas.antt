@@ -10,11 +10,13 @@ use Rattle.pns_rules.specs.Nodes.{Node}
 use Rattle.pns_rules.specs.Ends.{IsSound, IsDead, IsNever}
 use Rattle.tree_rules.specs.Ways.{Way, at_material, either, options_at, child_at, IsDecision}
 use Rattle.tree_rules.specs.Tree.{End, branch, leaf, after_all}
-use Rattle.tree_rules.specs.Leaf.{Leaf, dead, clash, refuted, bounded, untried}
+use Rattle.tree_rules.specs.Leaf.{Leaf, dead, clash, refuted, bounded, charged, untried}
+use Rattle.tree_rules.specs.Leaf.{IsUntried}
 use Rattle.tree_rules.specs.Claim.{Claim, CostOver, claimed_cost}
 use Rattle.tree_rules.specs.Lean.{MayUndercut, IsNoDearer}
 use Rattle.search_laws.proofs.ValueLemmas.{ways_are_dearer}
 use Rattle.search_tree.specs.Cells.{Cell, place_of, cell_at}
+use Rattle.search_tree.specs.Growth.{EndsOpen}
 use Rattle.tree_rules.specs.Costs.{HasFallen}
 use Rattle.turn_laws.specs.Values.{IsPositiveCost}
 use Rattle.turn_laws.specs.Kept.{IsFromLast, ReachesLast, LeafIsKept, EndIsKept, IsKeptFor}
@@ -67,21 +69,23 @@ module _ (p : Problem) (valid : IsValid p) (start : Node) (claim new_claim : Cla
   reaches_now None e n r = absurd r
   reaches_now (Some o) e n r =
       let from : IsNever (IsDead (shape_of p) here) → IsFromLast p last here =
-      subst (λ (f : End Leaf). EndIsKept p last here f) can.is_open (kept.ends at can.there) in
+      subst (λ (f : End Leaf). EndIsKept p last here f) can.is_open.1
+      (kept.ends at can.there) in
       no_dearer_trans p n o here r
       (subst (λ (k : Option Node). IsFromLast p k here) e (from can.reduced.live.no_dead))
 
   other_leaf : (n : Node) (l : Leaf)
-      → (l ≡ untried → IsNever (IsDead (shape_of p) n) → IsNoDearer p here n)
+      → (IsUntried l → IsNever (IsDead (shape_of p) n) → IsNoDearer p here n)
       → LeafIsKept p (Some here) n l
   other_leaf n (dead y) h = tt
   other_leaf n (clash k) h = tt
   other_leaf n (refuted ys) h = tt
   other_leaf n (bounded d ys) h = tt
-  other_leaf n untried h = h refl
+  other_leaf n (charged c) h = tt
+  other_leaf n (untried low) h = h (low, refl)
 
   other_end : (n : Node) (e : End Leaf) → EndIsKept p last n e
-      → (e ≡ leaf untried → IsNever (IsDead (shape_of p) n) → IsNoDearer p here n)
+      → (EndsOpen e → IsNever (IsDead (shape_of p) n) → IsNoDearer p here n)
       → EndIsKept p (Some here) n e
   other_end n (branch way) k h =
       record {
@@ -90,7 +94,7 @@ module _ (p : Problem) (valid : IsValid p) (start : Node) (claim new_claim : Cla
         reached =
             reaches_now last refl n k.reached;
       }
-  other_end n (leaf l) k h = other_leaf n l (λ e. h (ap (λ (w : Leaf). leaf w) e))
+  other_end n (leaf l) k h = other_leaf n l (λ e. h (e.0, ap (λ (w : Leaf). leaf w) e.1))
 
   -- a child costs no less than the leaf
   child_dearer : (k : ℕ) → k < length children
@@ -174,13 +178,14 @@ module _ (p : Problem) (valid : IsValid p) (start : Node) (claim new_claim : Cla
   }
 
 -- ---- open leaves are shut
-shut_leaf : (p : Problem) (last : Option Node) (n : Node) (l : Leaf) → (l ≡ untried → ⊥)
+shut_leaf : (p : Problem) (last : Option Node) (n : Node) (l : Leaf) → (IsUntried l → ⊥)
     → LeafIsKept p last n l
 shut_leaf p last n (dead y) h = tt
 shut_leaf p last n (clash k) h = tt
 shut_leaf p last n (refuted ys) h = tt
 shut_leaf p last n (bounded d ys) h = tt
-shut_leaf p last n untried h = absurd (h refl)
+shut_leaf p last n (charged c) h = tt
+shut_leaf p last n (untried low) h = absurd (h (low, refl))
 
 pub shutting_is_kept : (p : Problem) (start : Node) (claim : Claim) (undercut : Option CostOver)
     (last : Option Node) (old new : List Cell) → IsKeptFor p start claim undercut last old

@@ -18,13 +18,14 @@ use Rattle.flow_rules.specs.Relaxed.{relaxed_cost}
 use Rattle.flow_rules.proofs.DualityLemmas.{flows_are_relaxed, relaxed_costs_less}
 use Rattle.tree_rules.specs.Ways.{Way}
 use Rattle.tree_rules.specs.Tree.{End, branch, leaf, Stands}
-use Rattle.tree_rules.specs.Leaf.{Leaf, untried, IsUntried, LeafPasses}
+use Rattle.tree_rules.specs.Leaf.{Leaf, untried, Scaled, IsUntried, LeafPasses}
 use Rattle.tree_rules.specs.Claim.{Claim, unknown, CostOver, claimed_cost, ClaimPasses}
 use Rattle.tree_rules.specs.Lean.{MayUndercut, IsNoDearer, IsLean}
 use Rattle.tree_rules.specs.Stops.{IsOpenAt, IsPending, IsNextCount, IsSpent}
 use Rattle.tree_rules.specs.Accepted.{IsAccepted}
 use Rattle.tree_laws.proofs.AcceptedLemmas.{partial_is_accepted}
 use Rattle.search_tree.specs.Cells.{Cell, place_of, cell_at}
+use Rattle.search_tree.specs.Growth.{EndsOpen}
 use Rattle.search_tree.specs.Preorder.{IsPreorder, node_at, tree_of}
 use Rattle.search_tree.specs.Laws.{IsCell}
 use Rattle.search_tree.proofs.CountLemmas.{preorder_has_all}
@@ -68,7 +69,7 @@ module _ (p : Problem) (start : Node) (claim : Claim) (undercut : Option CostOve
 
   open_at : (m : Node) (l : Leaf) → LeafIsKept p last m l → IsUntried l
       → IsNever (IsDead (shape_of p) m) → IsFromLast p last m
-  open_at m l k e = subst (λ (w : Leaf). LeafIsKept p last m w) e k
+  open_at m l k e = subst (λ (w : Leaf). LeafIsKept p last m w) e.1 k
 
   of_use : (l : Option Node) → l ≡ last → (n : Node) → ReachesLast p l n → MayUndercut p undercut n
   of_use None e n r = absurd r
@@ -92,7 +93,7 @@ module _ (p : Problem) (start : Node) (claim : Claim) (undercut : Option CostOve
   }
 
   pub whole_is_accepted : ClaimPasses true p claim → (claim ≡ unknown → ⊥)
-      → ((i : ℕ) → i < length cells → (cell_at cells i).end ≡ leaf untried → ⊥)
+      → ((i : ℕ) → i < length cells → EndsOpen (cell_at cells i).end → ⊥)
       → IsAccepted p start claim (tree_of cells order)
   whole_is_accepted passing known shut =
       partial_is_accepted p start claim (tree_of cells order)
@@ -104,64 +105,67 @@ module _ (p : Problem) (start : Node) (claim : Claim) (undercut : Option CostOve
             (aligned_start (shape_of p) (LeafPasses true p (claimed_cost claim)) start cells
             kept.grown.linked kept.grown.fits) preorder;
       })
-      known (λ k n s. let c = cell_of k n (leaf untried) s in shut c.number c.there c.end_is)
+      known (λ k n low s. let c = cell_of k n (leaf (untried low)) s in
+      shut c.number c.there (low, c.end_is))
 
   pub open_stands : (at place : ℕ) → slice_get order place ≡ Some at
-      → (cell_at cells at).end ≡ leaf untried
+      → EndsOpen (cell_at cells at).end
       → IsOpenAt p IsUntried start (tree_of cells order) place (place_of (cell_at cells at))
   open_stands at place h untried_there = record {
-    what = untried;
+    what = untried untried_there.0;
     stands =
         subst
         (λ (e : End Leaf). Stands (shape_of p) (start ∷ []) (tree_of cells order) place
-        (place_of (cell_at cells at)) e) untried_there
+        (place_of (cell_at cells at)) e) untried_there.1
         (cells_stand (shape_of p) (LeafPasses true p (claimed_cost claim)) start cells
         kept.grown.linked kept.grown.fits (start ∷ []) (0 ∷ []) order
         (aligned_start (shape_of p) (LeafPasses true p (claimed_cost claim)) start cells
         kept.grown.linked kept.grown.fits) preorder place at h);
-    is_open = refl;
+    is_open = (untried_there.0, refl);
   }
 
   -- the cell of an open leaf
-  open_cell : (k : ℕ) (n : Node) → IsOpenAt p IsUntried start (tree_of cells order) k n
-      → IsCell cells n (leaf untried)
+  open_cell : (k : ℕ) (n : Node) (o : IsOpenAt p IsUntried start (tree_of cells order) k n)
+      → IsCell cells n (leaf (untried o.is_open.0))
   open_cell k n o =
-      cell_of k n (leaf untried)
+      cell_of k n (leaf (untried o.is_open.0))
       (subst (λ (l : Leaf). Stands (shape_of p) (start ∷ []) (tree_of cells order) k n (leaf l))
-      o.is_open o.stands)
+      o.is_open.1 o.stands)
 
   module _ (at place count budget : ℕ) (w : Way) (stands : slice_get order place ≡ Some at)
       (can : CanBranch p cells at w)
       (least : IsLeastOpen p cells at)
       (of_use_here : MayUndercut p undercut (place_of (cell_at cells at)))
-      (pending : (j : ℕ) → j < length cells → (cell_at cells j).end ≡ leaf untried
+      (pending : (j : ℕ) → j < length cells → EndsOpen (cell_at cells j).end
       → IsPending p (place_of (cell_at cells j)))
       (count_is : IsNextCount (shape_of p) (place_of (cell_at cells at)) count)
       (over : budget < length cells + count) where
-    pending_at : (n : Node) → IsCell cells n (leaf untried) → IsPending p n
-    pending_at n c =
-        subst (λ (m : Node). IsPending p m) c.node_is (pending c.number c.there c.end_is)
+    pending_at : (n : Node) (low : Option Scaled) → IsCell cells n (leaf (untried low))
+        → IsPending p n
+    pending_at n low c =
+        subst (λ (m : Node). IsPending p m) c.node_is (pending c.number c.there (low, c.end_is))
 
     abbrev here : Node
     here = place_of (cell_at cells at)
 
-    dearer_at : (n : Node) → IsCell cells n (leaf untried) → IsNoDearer p here n
-    dearer_at n c =
+    dearer_at : (n : Node) (low : Option Scaled) → IsCell cells n (leaf (untried low))
+        → IsNoDearer p here n
+    dearer_at n low c =
         subst (λ (m : Node). IsNoDearer p here m) c.node_is (elim (cases_eq c.number at) [
           | inl e ↦ subst (λ i. IsNoDearer p here (place_of (cell_at cells i))) (sym e)
               (no_dearer_self p here)
           | inr ne
-              ↦ least c.number c.there ne c.end_is
-              (pending c.number c.there c.end_is).reduced.live.no_dead
+              ↦ least c.number c.there ne (low, c.end_is)
+              (pending c.number c.there (low, c.end_is)).reduced.live.no_dead
         ])
 
     pub kept_is_spent : IsSpent p IsUntried undercut start (tree_of cells order) place count budget
     kept_is_spent = record {
-      pending = λ k n o. pending_at n (open_cell k n o);
+      pending = λ k n o. pending_at n o.is_open.0 (open_cell k n o);
       node = place_of (cell_at cells at);
       at_leaf = open_stands at place stands can.is_open;
       of_use = of_use_here;
-      least = λ k n o. dearer_at n (open_cell k n o);
+      least = λ k n o. dearer_at n o.is_open.0 (open_cell k n o);
       count_is = count_is;
       exceeds =
           let a : length (tree_of cells order) ≡ length order = length-map order (node_at cells) in

@@ -9,6 +9,7 @@ use Rattle.tree_rules.specs.Tree.{End, branch, leaf}
 use Rattle.tree_rules.specs.Leaf.{Leaf, untried}
 use Rattle.search_tree.specs.Cells.{Cell, cell_at, times, numbers_below, children_at, AreBehind}
 use Rattle.search_tree.specs.Cells.{IsParentOf, IsLinked}
+use Rattle.search_tree.specs.Growth.{EndsOpen}
 use Rattle.turn_laws.specs.Turns.{IsBranched}
 
 abbrev pub one_if : Bool → ℕ
@@ -78,7 +79,7 @@ module _ (old children new : List Cell) (at : ℕ) (w : Way)
   ]
 
   module _ (linked : IsLinked old) (there : at < length old)
-      (is_open : (cell_at old at).end ≡ leaf untried) (some : 0 < length children)
+      (is_open : EndsOpen (cell_at old at).end) (some : 0 < length children)
       (leaves : (k : ℕ) → k < length children → (l : Leaf)
       × ((cell_at children k).end ≡ leaf l)) where
     child_is : (j : ℕ) (k : ℕ) → k < length children → j ≡ length old + k
@@ -138,7 +139,8 @@ module _ (old children new : List Cell) (at : ℕ) (w : Way)
             let was : times j (children_at old at) ≡ one_if (at == q) = parent.once at there in
             let none : times j (children_at old at) ≡ 0 =
             ap (times j)
-            (leaf_below (cell_at old at).first (cell_at old at).end untried is_open) in
+            (leaf_below (cell_at old at).first (cell_at old at).end (untried is_open.0)
+            is_open.1) in
             let now : times j (children_at new at) ≡ 0 =
             ap (times j) children_here ∙ not_below j (length old) (length children) lt in
             subst (λ i. times j (children_at new i) ≡ one_if (i == q)) (sym e)

@@ -8,7 +8,7 @@ use Rattle.pns_rules.specs.Nodes.{Node}
 use Rattle.pns_rules.specs.Ends.{IsSound, IsDead, IsNever, IsReduced}
 use Rattle.tree_rules.specs.Ways.{Way, IsDecision}
 use Rattle.tree_rules.specs.Tree.{End, branch, leaf}
-use Rattle.tree_rules.specs.Leaf.{Leaf, dead, clash, refuted, bounded, untried}
+use Rattle.tree_rules.specs.Leaf.{Leaf, dead, clash, refuted, bounded, charged, untried}
 use Rattle.tree_rules.specs.Claim.{Claim, CostOver, claimed_cost}
 use Rattle.tree_rules.specs.Lean.{MayUndercut, IsNoDearer}
 use Rattle.search_tree.specs.Cells.{Cell, place_of, cell_at}
@@ -35,7 +35,8 @@ LeafIsKept p last n (dead x) = Unit {0}
 LeafIsKept p last n (clash k) = Unit {0}
 LeafIsKept p last n (refuted ys) = Unit {0}
 LeafIsKept p last n (bounded d ys) = Unit {0}
-LeafIsKept p last n untried = IsNever (IsDead (shape_of p) n) → IsFromLast p last n
+LeafIsKept p last n (charged h) = Unit {0}
+LeafIsKept p last n (untried low) = IsNever (IsDead (shape_of p) n) → IsFromLast p last n
 
 abbrev pub EndIsKept : Problem → Option Node → Node → End Leaf → Type 0
 EndIsKept p last n (branch w) = BranchIsKept p last n w

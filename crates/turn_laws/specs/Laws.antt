@@ -11,14 +11,14 @@ use Rattle.pns_rules.specs.Nodes.{Node}
 use Rattle.flow_rules.specs.Net.{net_of}
 use Rattle.flow_rules.specs.Flows.{IsFlows, cost}
 use Rattle.tree_rules.specs.Ways.{Way, width}
-use Rattle.tree_rules.specs.Tree.{branch, leaf}
-use Rattle.tree_rules.specs.Leaf.{IsUntried, untried}
+use Rattle.tree_rules.specs.Tree.{branch}
+use Rattle.tree_rules.specs.Leaf.{IsUntried}
 use Rattle.tree_rules.specs.Claim.{Claim, unknown, CostOver, claimed_cost, IsAtMost, ClaimPasses}
 use Rattle.tree_rules.specs.Lean.{MayUndercut, HasCheaper, IsNoDearer, IsLean}
 use Rattle.tree_rules.specs.Stops.{IsOpenAt, IsPending, IsNextCount, IsSpent}
 use Rattle.tree_rules.specs.Accepted.{IsAccepted}
 use Rattle.search_tree.specs.Cells.{Cell, place_of, cell_at}
-use Rattle.search_tree.specs.Growth.{as_parent}
+use Rattle.search_tree.specs.Growth.{as_parent, EndsOpen}
 use Rattle.search_tree.specs.Preorder.{IsPreorder, tree_of}
 use Rattle.turn_laws.specs.Values.{IsPositive, IsUnder, IsPositiveCost}
 use Rattle.tree_rules.specs.Costs.{HasFallen}
@@ -95,7 +95,7 @@ WholeIsAccepted =
     (p : Problem) (start : Node) (claim : Claim) (undercut : Option CostOver) (last : Option Node)
     (cells : List Cell) (order : List ℕ) → IsKeptFor p start claim undercut last cells
     → IsPreorder cells (0 ∷ []) order → ClaimPasses true p claim → (claim ≡ unknown → ⊥)
-    → ((i : ℕ) → i < length cells → (cell_at cells i).end ≡ leaf untried → ⊥)
+    → ((i : ℕ) → i < length cells → EndsOpen (cell_at cells i).end → ⊥)
     → IsAccepted p start claim (tree_of cells order)
 
 -- if all open leaves are pending, and the nodes with the children that a least one may have are
@@ -108,7 +108,7 @@ KeptIsSpent =
     → slice_get order place ≡ Some at
     → CanBranch p cells at w → IsLeastOpen p cells at
     → MayUndercut p undercut (place_of (cell_at cells at))
-    → ((j : ℕ) → j < length cells → (cell_at cells j).end ≡ leaf untried
+    → ((j : ℕ) → j < length cells → EndsOpen (cell_at cells j).end
     → IsPending p (place_of (cell_at cells j)))
     → IsNextCount (shape_of p) (place_of (cell_at cells at)) count → budget < length cells + count
     → IsSpent p IsUntried undercut start (tree_of cells order) place count budget
@@ -120,5 +120,5 @@ OpenCellsStand =
     (cells : List Cell) (order : List ℕ) (at place : ℕ)
     → IsKeptFor p start claim undercut last cells → IsPreorder cells (0 ∷ []) order
     → slice_get order place ≡ Some at
-    → (cell_at cells at).end ≡ leaf untried
+    → EndsOpen (cell_at cells at).end
     → IsOpenAt p IsUntried start (tree_of cells order) place (place_of (cell_at cells at))

@@ -6,10 +6,11 @@ use Rattle.pns_rules.specs.Nodes.{Node}
 use Rattle.pns_rules.specs.Ends.{IsSound, IsDead, IsNever, IsReduced}
 use Rattle.tree_rules.specs.Ways.{Way, width, MayBranch, options_at, child_at, IsDecision}
 use Rattle.tree_rules.specs.Tree.{End, branch, leaf}
-use Rattle.tree_rules.specs.Leaf.{Leaf, untried, LeafPasses}
+use Rattle.tree_rules.specs.Leaf.{Leaf, IsUntried, LeafPasses}
 use Rattle.tree_rules.specs.Claim.{CostOver}
 use Rattle.tree_rules.specs.Lean.{IsNoDearer}
 use Rattle.search_tree.specs.Cells.{Cell, place_of, cell_at}
+use Rattle.search_tree.specs.Growth.{EndsOpen}
 use Rattle.search_tree.specs.Fits.{Follows}
 
 -- ---- a leaf is branched
@@ -17,7 +18,7 @@ use Rattle.search_tree.specs.Fits.{Follows}
 -- leaf `at` can be branched in this way: it is reduced, and the way decides something there
 pub record CanBranch (p : Problem) (cells : List Cell) (at : ℕ) (w : Way) : Type 0 where
   pub there : at < length cells
-  pub is_open : (cell_at cells at).end ≡ leaf untried
+  pub is_open : EndsOpen (cell_at cells at).end
   pub reduced : IsReduced (shape_of p) (place_of (cell_at cells at))
   pub may : MayBranch (shape_of p) (place_of (cell_at cells at)) w
   pub splits : IsDecision (shape_of p) (place_of (cell_at cells at)) w
@@ -25,7 +26,7 @@ pub record CanBranch (p : Problem) (cells : List Cell) (at : ℕ) (w : Way) : Ty
 -- the leaf costs no more than any other open leaf
 abbrev pub IsLeastOpen : Problem → List Cell → ℕ → Type 0
 IsLeastOpen p cells at =
-    (j : ℕ) → j < length cells → (j ≡ at → ⊥) → (cell_at cells j).end ≡ leaf untried
+    (j : ℕ) → j < length cells → (j ≡ at → ⊥) → EndsOpen (cell_at cells j).end
     → IsNever (IsDead (shape_of p) (place_of (cell_at cells j)))
     → IsNoDearer p (place_of (cell_at cells at)) (place_of (cell_at cells j))
 
@@ -71,9 +72,9 @@ pub record IsBranched (old children new : List Cell) (at : ℕ) (w : Way) : Type
 
 -- an open leaf is shut as another leaf that passes
 pub record IsShut (p : Problem) (claimed : Option CostOver) (old new : Cell) : Type 0 where
-  pub was_open : old.end ≡ leaf untried
+  pub was_open : EndsOpen old.end
   pub what : Leaf
-  pub shut : what ≡ untried → ⊥
+  pub shut : IsUntried what → ⊥
   pub passes : LeafPasses true p claimed (place_of old) what
   pub key : ℕ
   pub new_is : new ≡ with_end old old.first (leaf what) key

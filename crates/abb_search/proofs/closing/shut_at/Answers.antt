@@ -4,7 +4,7 @@ use Rattle.pns_rules.specs.Shape.{shape_of}
 use Rattle.pns_rules.specs.Ends.{IsSound, IsReduced}
 use Rattle.pgraph.specs.View.{node_of}
 use Rattle.unit_sets.specs.declared.node.Node.{Node}
-use Rattle.branch_tree.specs.Scaled.{Scaled}
+use Rattle.tree_rules.specs.Leaf.{Scaled}
 use Rattle.search_tree.specs.Cells.{place_of, cell_at}
 use Rattle.node_evaluation.specs.Evaluated.{cost_in, IsBoundOf, IsProof}
 use Rattle.abb_search.specs.declared.closing.Shutting.{Shutting}

@@ -45,7 +45,8 @@ returns-clause-solved g c = λ none.
     let root =
     solved_one p (record { cell = l.cell; value = l.value }) c.place-root.result l.ready
     c.reserve.new.self c.place-root.new.hand l.network c.place-root.ensures.placed
-    (solved_by p l.cell l.network seen.what seen.end_is seen.passes seen.found seen.bounded) in
+    (solved_by p l.cell l.network seen.what seen.end_is seen.passes seen.found seen.bounded
+    seen.uncharged) in
     let best =
     best_is_found c.args.best c.cheaper.result l.network none c.cheaper.ensures.which
     c.cheaper.ensures.some in

@@ -1,13 +1,12 @@
-use Rattle.std.proofs.Common.{◌∙◌, sym, ap, ap₂, Bool, Option, List, ℤ, SFits, OnOk, IfErr, subst}
-use Rattle.std.proofs.Common.{rules, to_z, of_z}
+use Rattle.std.proofs.Common.{◌∙◌, sym, ap, ap₂, Bool, Option, List, ℤ, SFits, rules, to_z, of_z}
 use Rattle.std.specs.Int.{w128}
 use Rattle.std.proofs.lemmas.Int.{to_z-of_z}
-use Rattle.problem_rules.specs.Problem.{Problem}
 use Rattle.pgraph.specs.View.{node_of}
 use Rattle.tree_rules.specs.declared.why.Why.{Why}
 use Rattle.tree_rules.specs.Claim as claims
 use Rattle.tree_rules.specs.Tree.{leaf}
-use Rattle.tree_rules.specs.Leaf.{Leaf, dead, clash, refuted, bounded, untried, LeafPasses}
+use Rattle.charge_rules.specs.Leaf.{Handed}
+use Rattle.tree_rules.specs.Leaf.{Leaf, dead, clash, refuted, bounded, charged, untried, LeafPasses}
 use Rattle.tree_rules.specs.Leaf.{LeafFails}
 use Rattle.branch_tree.specs.View.{end_of}
 use Rattle.cert_parts.specs.Shown.{cost_over}
@@ -114,32 +113,58 @@ returns-in-Bound-clause-fails c =
     → LeafFails partial p k n (bounded (to_z w128 (of_z w128 c.d.result)) c.ys.result.now) why)
     c.judge_bound.result (λ why q. q c.args.partial) c.judge_bound.ensures.fails
 
+pub returns-in-Charge-clause-passes : goal.returns-in-Charge-clause-passes
+returns-in-Charge-clause-passes c =
+    let p = c.args.site.now in
+    let n = node_of c.args.node.now in
+    let k = cost_over c.args.claimed in
+    let h : Handed =
+    record {
+      d = c.in-Charge.scaled.d;
+      ys = c.in-Charge.scaled.ys;
+      covers =
+          c.in-Charge.covers;
+    } in
+    passes_at (end_of c.args.end.now) (charged h) (ap end_of c.in-Charge.is)
+    (λ (l : Leaf). LeafPasses c.args.partial p k n l)
+    ((partial : Bool) → LeafPasses partial p k n (charged h))
+    c.judge_charged.result (λ q. q c.args.partial) c.judge_charged.ensures.passes
+
+pub returns-in-Charge-clause-fails : goal.returns-in-Charge-clause-fails
+returns-in-Charge-clause-fails c =
+    let p = c.args.site.now in
+    let n = node_of c.args.node.now in
+    let k = cost_over c.args.claimed in
+    let h : Handed =
+    record {
+      d = c.in-Charge.scaled.d;
+      ys = c.in-Charge.scaled.ys;
+      covers =
+          c.in-Charge.covers;
+    } in
+    fails_at (end_of c.args.end.now) (charged h) (ap end_of c.in-Charge.is)
+    (λ (l : Leaf) (why : Why). LeafFails c.args.partial p k n l why)
+    (λ (why : Why). (partial : Bool) → LeafFails partial p k n (charged h) why)
+    c.judge_charged.result (λ why q. q c.args.partial) c.judge_charged.ensures.fails
+
 pub returns-in-Open-clause-passes : goal.returns-in-Open-clause-passes
 returns-in-Open-clause-passes c =
     let p = c.args.site.now in
     let n = node_of c.args.node.now in
     let k = cost_over c.args.claimed in
-    passes_at (end_of c.args.end.now) untried (ap end_of c.in-Open.is)
+    passes_at (end_of c.args.end.now) (untried c.in-Open.low) (ap end_of c.in-Open.is)
     (λ (l : Leaf). LeafPasses c.args.partial p k n l)
-    ((claimed : Option claims.CostOver) → LeafPasses c.args.partial p claimed n untried)
-    c.judge_open.result (λ q. q k)
-    (subst
-    (λ (o : Problem). OnOk c.judge_open.result
-    ((claimed : Option claims.CostOver) → LeafPasses c.args.partial o claimed n untried))
-    c.problem.ensures.same c.judge_open.ensures.passes)
+    ((claimed : Option claims.CostOver)
+    → LeafPasses c.args.partial p claimed n (untried c.in-Open.low))
+    c.judge_untried.result (λ q. q k) c.judge_untried.ensures.passes
 
 pub returns-in-Open-clause-fails : goal.returns-in-Open-clause-fails
 returns-in-Open-clause-fails c =
     let p = c.args.site.now in
     let n = node_of c.args.node.now in
     let k = cost_over c.args.claimed in
-    fails_at (end_of c.args.end.now) untried (ap end_of c.in-Open.is)
+    fails_at (end_of c.args.end.now) (untried c.in-Open.low) (ap end_of c.in-Open.is)
     (λ (l : Leaf) (why : Why). LeafFails c.args.partial p k n l why)
     (λ (why : Why). (claimed : Option claims.CostOver)
-    → LeafFails c.args.partial p claimed n untried why)
-    c.judge_open.result (λ why q. q k)
-    (subst
-    (λ (o : Problem). IfErr c.judge_open.result
-    (λ why. (claimed : Option claims.CostOver)
-    → LeafFails c.args.partial o claimed n untried why)) c.problem.ensures.same
-    c.judge_open.ensures.fails)
+    → LeafFails c.args.partial p claimed n (untried c.in-Open.low) why)
+    c.judge_untried.result (λ why q. q k) c.judge_untried.ensures.fails

@@ -9,7 +9,7 @@ use Rattle.cert_check.specs.declared.walk.Stop.{Stop}
 use Rattle.cert_check.specs.Subtrees.{stack_of}
 use Rattle.cert_check.specs.OpenLeaves.{leaves_at, AreBefore}
 use Rattle.cert_check.specs.Refusals.{NamesFault}
-use Rattle.cert_check.specs.Visits.{leaf_passes, leaf_fails, refusal_at}
+use Rattle.cert_check.specs.Visits.{leaf_passes, leaf_fails}
 use Rattle.cert_check.proofs.TurnLemmas.{opened, visited, halted, halted_before, found_on}
 use Rattle.cert_check.proofs.walk.walk_to.Goals as goal
 

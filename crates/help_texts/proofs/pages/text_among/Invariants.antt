@@ -2,7 +2,7 @@ use Rattle.std.proofs.Common.{◌≡◌, length, map}
 use Rattle.studio_rules.specs.TopicPages.{text_among}
 use Rattle.help_texts.proofs.pages.text_among.Given as goal
 
--- the page is among those that are left where it is among all
+-- the page is among those that are left exactly if it is among all
 abbrev pub invariant-loop-pages : goal.invariant-loop-pages
 invariant-loop-pages l =
     text_among (map (λ page. (page.0.now, page.1.now)) l.pages) l.topic

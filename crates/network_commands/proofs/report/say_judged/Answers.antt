@@ -15,7 +15,7 @@ returns-in-Ok g c =
     let p = c.args.site.now in
     let claim = claim_of c.args.claim.now in
     let Q : Status → List ℕ → Type 0 = Tells (ReportWork p claim c.args.tree.now) in
-    let lines : List (List ℕ) = verdict_lines p claim c.in-Ok.verdict in
+    let lines : List (List ℕ) = verdict_lines p claim c.args.tree.now c.in-Ok.verdict in
     Ends-map _ Q c.args.out.now _ _
     (only_or_memory_in Q Done (text_of lines)
     (lines, (c.in-Ok.verdict, c.in-Ok.ensures.verdict, refl), refl) ([], inl refl, refl))

@@ -13,6 +13,7 @@ returns c =
     c.in_ok-bytes.ensures
     ∙ ap (λ (p : Problem). first_line p claim c.args.verdict ++ 10 ∷ [])
     c.problem.ensures.same in
-    let tables : c.deref.result.now ≡ text_of (tables_of c.args.site.now claim) =
+    let tables : c.deref.result.now
+    ≡ text_of (tables_of c.args.site.now claim c.args.tree.now c.args.verdict) =
     c.deref.ensures.value ∙ c.in_ok-tables.ensures in
     c.in_ok-extend_from_slice.ensures.items ∙ (λ i. first i ++ tables i)

@@ -104,5 +104,5 @@ returns-clause-solved g c =
     let e = c.in_ok-more.ensures in
     let same = c.with_best.ensures.same in
     solved_after c.args.site.now c.args.children c.with_best.result l c.args.all c.requires.solved
-    (solved_by c.args.site.now l.cell l.network k.what k.end_is k.passes k.found k.bounded)
-    (same.nodes ∙ e.nodes) (same.networks ∙ e.networks)
+    (solved_by c.args.site.now l.cell l.network k.what k.end_is k.passes k.found k.bounded
+    k.uncharged) (same.nodes ∙ e.nodes) (same.networks ∙ e.networks)

@@ -44,7 +44,8 @@ returns-in-Dead-clause-looked g c =
     c.requires.option c.from_vec.ensures c.open_cell-cell.ensures
     c.in_ok-extended.ensures.extends c.closed.result (leaves.dead c.in-Dead.material)
     c.closed.ensures.cell c.closed.ensures.network c.closed.ensures.stop
-    (λ (e : leaves.dead c.in-Dead.material ≡ leaves.untried). cc) refl end.0
+    (λ (e : leaves.IsUntried (leaves.dead c.in-Dead.material)). let q : leaves.dead
+    c.in-Dead.material ≡ leaves.untried e.0 = e.1 in cc) refl refl end.0
     (known_dead p (proper_if_valid p c.problem.ensures.valid) (node_of x.node) c.in-Dead.material
     end.0)
 
@@ -66,7 +67,8 @@ returns-in-Clash-clause-looked g c =
     c.in_ok-extended.ensures.extends c.closed-in-Clash.result
     (leaves.clash c.in-Clash.exclusion)
     c.closed-in-Clash.ensures.cell c.closed-in-Clash.ensures.network c.closed-in-Clash.ensures.stop
-    (λ (e : leaves.clash c.in-Clash.exclusion ≡ leaves.untried). cc) refl end.1.0 end.1.0.known
+    (λ (e : leaves.IsUntried (leaves.clash c.in-Clash.exclusion)). let q : leaves.clash
+    c.in-Clash.exclusion ≡ leaves.untried e.0 = e.1 in cc) refl refl end.1.0 end.1.0.known
 
 pub returns-in-Decided-clause-looked : goal.returns-in-Decided-clause-looked
 returns-in-Decided-clause-looked g c =

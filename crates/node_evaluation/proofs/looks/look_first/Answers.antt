@@ -1,7 +1,7 @@
 use Rattle.std.proofs.Common.{◌≡◌, refl, subst}
 use Rattle.pns_rules.specs.Shape.{shape_of}
 use Rattle.branch_choice.specs.Choices.{IsChoice}
-use Rattle.tree_rules.specs.Leaf.{refuted, untried, IsRefuted}
+use Rattle.tree_rules.specs.Leaf.{refuted, untried, IsUntried, IsRefuted}
 use Rattle.search_tree.specs.Cells.{Cell, place_of}
 use Rattle.node_evaluation.specs.declared.looks.Worth.TheVariants.{AtLeast}
 use Rattle.node_evaluation.specs.Evaluated.{IsLowerBoundOf}
@@ -27,6 +27,7 @@ returns-in-Refuted-clause-seen g c =
     seen_closed g.E.Evaluator.past c.args.site.now c.args.cell c.closed.result
     (refuted c.in-Refuted.ys) c.closed.ensures.cell c.closed.ensures.network
     c.closed.ensures.stop
-    (λ (e : refuted c.in-Refuted.ys ≡ untried). cc) refl
+    (λ (e : IsUntried (refuted c.in-Refuted.ys)). let q : refuted c.in-Refuted.ys ≡ untried e.0 =
+    e.1 in cc) refl refl
     (subst (λ (w : Cell). IsRefuted c.args.site.now (place_of w) c.in-Refuted.ys) c.cell.view_is h)
     c.are_in_range.ensures

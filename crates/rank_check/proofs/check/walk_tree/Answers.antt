@@ -1,15 +1,14 @@
-use Rattle.std.proofs.Common.{◌≡◌, ◌∙◌, [], ◌∷◌, List, ℕ, Option, true, OnOk, IfOk, IfErr, ap₂}
-use Rattle.std.proofs.Common.{subst}
+use Rattle.std.proofs.Common.{◌≡◌, ◌∙◌, [], ◌∷◌, List, ℕ, Option, OnOk, IfOk, IfErr, ap₂, subst}
 use Rattle.number_sets.specs.Sets.{has}
 use Rattle.pns_rules.specs.Shape.{shape_of}
 use Rattle.pns_rules.specs.Nodes.{Node}
 use Rattle.tree_rules.specs.Tree.{Pass}
 use Rattle.tree_rules.specs.Claim.{Network, CostOver}
-use Rattle.tree_rules.specs.Leaf.{LeafPasses, LeafFails}
 use Rattle.tree_rules.specs.Accepted.{Tree, first_node}
 use Rattle.part_rules.specs.OpenLeaves.{open_leaves}
 use Rattle.pgraph.specs.View.{node_of}
 use Rattle.cert_parts.specs.Shown.{cost_over}
+use Rattle.cert_check.specs.Bare.{BarePasses, BareFails}
 use Rattle.cert_check.specs.OpenLeaves.{leaves_at, AreBefore}
 use Rattle.cert_check.specs.Refusals.{NamesFault}
 use Rattle.rank_rules.specs.Networks.{to_undercut}
@@ -29,14 +28,14 @@ returns-clause-passes c =
     c.networks.ensures in
     subst
     (λ (ts : Tree). OnOk c.check_nodes.result
-    (Pass (shape_of p) (LeafPasses true p u) (first_node ∷ []) ts)) c.tree.ensures
+    (Pass (shape_of p) (BarePasses p u) (first_node ∷ []) ts)) c.tree.ensures
     (subst
     (λ (v : Option CostOver). OnOk c.check_nodes.result
-    (Pass (shape_of p) (LeafPasses true p v) (first_node ∷ []) c.tree.result.now)) cost
+    (Pass (shape_of p) (BarePasses p v) (first_node ∷ []) c.tree.result.now)) cost
     (subst
     (λ (n : Node). OnOk c.check_nodes.result
-    (Pass (shape_of p) (LeafPasses true p (cost_over c.cost_to_undercut-undercut.result))
-    (n ∷ []) c.tree.result.now)) start c.check_nodes.ensures.passes))
+    (Pass (shape_of p) (BarePasses p (cost_over c.cost_to_undercut-undercut.result)) (n ∷ [])
+    c.tree.result.now)) start c.check_nodes.ensures.passes))
 
 pub returns-clause-leaves : goal.returns-clause-leaves
 returns-clause-leaves c =
@@ -76,17 +75,17 @@ returns-clause-fault c =
     c.networks.ensures in
     subst
     (λ (ts : Tree). IfErr c.check_nodes.result
-    (λ stop. NamesFault (shape_of p) (LeafPasses true p u) (LeafFails true p u)
-    (first_node ∷ []) ts stop.refusal)) c.tree.ensures
+    (λ stop. NamesFault (shape_of p) (BarePasses p u) (BareFails p u) (first_node ∷ []) ts
+    stop.refusal)) c.tree.ensures
     (subst
     (λ (v : Option CostOver). IfErr c.check_nodes.result
-    (λ stop. NamesFault (shape_of p) (LeafPasses true p v) (LeafFails true p v)
-    (first_node ∷ []) c.tree.result.now stop.refusal)) cost
+    (λ stop. NamesFault (shape_of p) (BarePasses p v) (BareFails p v) (first_node ∷ [])
+    c.tree.result.now stop.refusal)) cost
     (subst
     (λ (n : Node). IfErr c.check_nodes.result
     (λ stop. NamesFault (shape_of p)
-    (LeafPasses true p (cost_over c.cost_to_undercut-undercut.result))
-    (LeafFails true p (cost_over c.cost_to_undercut-undercut.result)) (n ∷ []) c.tree.result.now
+    (BarePasses p (cost_over c.cost_to_undercut-undercut.result))
+    (BareFails p (cost_over c.cost_to_undercut-undercut.result)) (n ∷ []) c.tree.result.now
     stop.refusal)) start c.check_nodes.ensures.fault))
 
 pub returns-clause-before : goal.returns-clause-before

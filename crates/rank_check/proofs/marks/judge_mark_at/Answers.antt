@@ -1,4 +1,4 @@
-use Rattle.std.proofs.Common.{Option, OnOk, IfErr, sym, subst, false}
+use Rattle.std.proofs.Common.{Option, None, OnOk, IfErr, sym, subst, false}
 use Rattle.tree_rules.specs.declared.why.Why.TheVariants as causes
 use Rattle.tree_rules.specs.Claim.{CostOver}
 use Rattle.pgraph.specs.View.{node_of}
@@ -16,7 +16,7 @@ returns-then-at-marks-clause-passes c =
     (λ (m : Mark). OnOk c.judge_mark.result
     ((undercut : Option CostOver)
     → LeafPasses false c.args.site.now c.args.networks.now undercut (node_of c.args.node.now)
-    (marked_leaf m)))
+    (marked_leaf None m)))
     (sym
     (mark_here c.args.marks.now c.args.at c.index-marks-at.result c.if-at-marks.true
     c.index-marks-at.is)) c.judge_mark.ensures.passes

@@ -38,6 +38,7 @@ of-requires c =
       within = c.requires.within;
       numbered =
           numbered _ back.marks;
+      bare = back.bare;
     }
 
 pub returns-clause-read : goal.returns-clause-read

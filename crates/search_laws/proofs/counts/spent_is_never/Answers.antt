@@ -5,5 +5,6 @@ use Rattle.search_laws.proofs.counts.spent_is_never.Goals as goal
 
 pub returns : goal.returns
 returns c =
-    λ p valid start claim tree a lean root e s sound all union k n h r w may d. never_spent p
-    (proper_if_valid p valid) true start claim all union tree a lean root e s sound k n h r w may d
+    λ p valid start claim tree a lean root e s sound all union k n low h r w may d. never_spent p
+    (proper_if_valid p valid) true start claim all union tree a lean root e s sound k n low h r w
+    may d

@@ -11,7 +11,7 @@ use Rattle.flow_rules.specs.Relaxed.{units}
 use Rattle.flow_rules.specs.Steps.{AreInRange, IsFirstPast}
 use Rattle.flow_rules.specs.CostSteps.{cost_steps}
 use Rattle.tree_rules.specs.Claim.{Network}
-use Rattle.branch_tree.specs.Scaled.{Scaled}
+use Rattle.tree_rules.specs.Leaf.{Scaled}
 use Rattle.dual_simplex.specs.Bench.{IsLeastOf, AreFlowsOf}
 use Rattle.tree_rules.specs.Known.{KnowsPlace}
 use Rattle.dual_simplex.specs.PastPlace.{IsPastFlowOf}

@@ -1,9 +1,9 @@
 use Rattle.std.proofs.Common.{refl, sym, ap, subst, arith, ◌≤◌, ℕ, List, map, string_bytes}
-use Rattle.studio_rules.specs.Command.{Command, Max, Axioms, Flows, Listing, Migrate, Editing}
-use Rattle.studio_rules.specs.Command.{Undoing, Checking, RankChecking, Solving, Showing, Ranking}
-use Rattle.studio_rules.specs.Command.{Telling, AreWithin, Table, Splitting, Expanding, Drawing}
-use Rattle.studio_rules.specs.Command.{DrawingNetwork, Reporting, Json, Ranging, Planning, Parting}
-use Rattle.studio_rules.specs.Command.{PartingAgainst, Merging}
+use Rattle.studio_rules.specs.Command.{Command, Max, Axioms, Flows, Listing, Linting, Migrate}
+use Rattle.studio_rules.specs.Command.{Editing, Undoing, Checking, RankChecking, Solving, Showing}
+use Rattle.studio_rules.specs.Command.{Ranking, Telling, AreWithin, Table, Splitting, Expanding}
+use Rattle.studio_rules.specs.Command.{Drawing, DrawingNetwork, Reporting, Json, Ranging, Planning}
+use Rattle.studio_rules.specs.Command.{Parting, PartingAgainst, Merging}
 use Rattle.studio_words.specs.View.{command_view}
 use Rattle.studio_rules.specs.Answers.{CommandSays}
 use Rattle.studio_rules.specs.Make.{MakeWork}
@@ -23,6 +23,15 @@ returns-in-Max-clause-ends g c =
     Ends-map (CommandSays old new (Max c.in-Max.file.now)) Q c.args.out.now _ _
     (λ s t h. subst (λ (v : Command). CommandSays old new v s t) (sym (ap command_view c.in-Max.is))
     h) c.max.ensures.ends
+
+pub returns-in-Linting-clause-ends : goal.returns-in-Linting-clause-ends
+returns-in-Linting-clause-ends g c =
+    let old = g.F.Shelf.state c.args.shelf.now in
+    let new = g.F.Shelf.state c.lint.new.shelf in
+    let Q : Status → List ℕ → Type 0 = CommandSays old new (command_view c.args.command) in
+    Ends-map (CommandSays old new (Linting c.in-Linting.file.now)) Q c.args.out.now _ _
+    (λ s t h. subst (λ (v : Command). CommandSays old new v s t)
+    (sym (ap command_view c.in-Linting.is)) h) c.lint.ensures.ends
 
 pub returns-in-Axioms-clause-ends : goal.returns-in-Axioms-clause-ends
 returns-in-Axioms-clause-ends g c =

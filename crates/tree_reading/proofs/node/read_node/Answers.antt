@@ -1,10 +1,10 @@
-use Rattle.std.proofs.Common.{◌≡◌, ◌+◌, List, map, None, rules, sym, subst}
+use Rattle.std.proofs.Common.{◌≡◌, ◌+◌, List, map, rules, sym, subst}
 use Rattle.std.proofs.lemmas.Result.{err_from_is_err_and}
 use Rattle.pns_rules.specs.Nodes.{Step}
 use Rattle.pgraph.specs.View.{step_of}
 use Rattle.branch_tree.specs.View.{end_of}
 use Rattle.tree_rules.specs.Tree.{children}
-use Rattle.tree_text_rules.specs.Read.{Head, with_end, with_node, nodes_taken}
+use Rattle.tree_text_rules.specs.Read.{Head, with_end, with_node, between, nodes_taken}
 use Rattle.tree_reading.specs.Gives.{begun}
 use Rattle.tree_reading.specs.Place.{lines_at}
 use Rattle.tree_reading.proofs.NodeByNode.{steps_told, end_told, node_read}
@@ -45,7 +45,8 @@ returns c =
           subst
           (λ (steps : List Step). begun p c.args.option count c.args.cut.line lines
           ≡ with_node (with_end (head steps) end)
-          (nodes_taken p None (children end + count) behind.line left)) (sym c.from_vec.ensures)
+          (nodes_taken p between (children end + count) behind.line left))
+          (sym c.from_vec.ensures)
           (node_read p c.args.option c.args.cut.line lines (head steps) first.line
           (lines_at c.args.bytes.now first) c.in_ok-steps.ensures.ok count end behind.line left
           c.in_ok-end.ensures.read);

@@ -3,7 +3,8 @@ use Rattle.turn_laws.proofs.trees.kept_is_spent.Goals as goal
 
 pub returns : goal.returns
 returns c =
-    λ p start claim undercut last cells order at place count budget w kept preorder stands can least of_use pending count_is over.
+    λ p start claim undercut last cells order at place count budget w kept preorder stands can
+    least of_use pending count_is over.
     kept_is_spent p start claim undercut last cells order kept preorder at place count
     budget
     w

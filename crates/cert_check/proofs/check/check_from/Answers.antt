@@ -1,0 +1,82 @@
+use Rattle.std.proofs.Common.{[], ◌∷◌, OnOk, IfErr, subst}
+use Rattle.pns_rules.specs.Shape.{shape_of}
+use Rattle.pgraph.specs.View.{node_of}
+use Rattle.tree_rules.specs.Tree.{Pass}
+use Rattle.tree_rules.specs.Leaf.{LeafPasses, LeafFails}
+use Rattle.tree_rules.specs.Accepted.{Tree, Proves}
+use Rattle.tree_rules.specs.Refusals.{Refuses}
+use Rattle.branch_tree.specs.View.{claim_of}
+use Rattle.cert_parts.specs.Shown.{cost_over}
+use Rattle.cert_check.specs.Refusals.{NamesFault}
+use Rattle.cert_check.proofs.RefusalLemmas.{walk_proves, walk_refuses, accepts, names_node}
+use Rattle.cert_check.proofs.check.check_from.Goals as goal
+
+pub returns-in-Ok-clause-proves : goal.returns-in-Ok-clause-proves
+returns-in-Ok-clause-proves c =
+    let p = c.args.site.now in
+    let n = node_of c.args.start.now in
+    let claim = claim_of c.args.claim.now in
+    let tree = c.args.tree.now in
+    let cost = cost_over c.cost_of_claim.result in
+    walk_proves c.args.partial p n claim tree c.in-Ok.ensures.passes cost c.cost_of_claim.ensures
+    c.walk.result
+    (subst
+    (λ (ts : Tree). OnOk c.walk.result
+    (Pass (shape_of p) (LeafPasses c.args.partial p cost) (n ∷ []) ts)) c.nodes.ensures
+    c.walk.ensures.passes)
+
+pub returns-in-Ok-clause-refuses : goal.returns-in-Ok-clause-refuses
+returns-in-Ok-clause-refuses c =
+    let p = c.args.site.now in
+    let n = node_of c.args.start.now in
+    let claim = claim_of c.args.claim.now in
+    let tree = c.args.tree.now in
+    let cost = cost_over c.cost_of_claim.result in
+    walk_refuses c.args.partial p n claim tree c.in-Ok.ensures.passes cost c.cost_of_claim.ensures
+    c.walk.result
+    (subst
+    (λ (ts : Tree). IfErr c.walk.result
+    (NamesFault (shape_of p) (LeafPasses c.args.partial p cost) (LeafFails c.args.partial p cost)
+    (n ∷ []) ts)) c.nodes.ensures c.walk.ensures.fault)
+
+pub returns-in-Ok-clause-accepts : goal.returns-in-Ok-clause-accepts
+returns-in-Ok-clause-accepts c =
+    let p = c.args.site.now in
+    let n = node_of c.args.start.now in
+    let claim = claim_of c.args.claim.now in
+    let tree = c.args.tree.now in
+    let cost = cost_over c.cost_of_claim.result in
+    let refuses : IfErr c.walk.result (Refuses c.args.partial p n claim tree) =
+    walk_refuses c.args.partial p n claim tree c.in-Ok.ensures.passes cost c.cost_of_claim.ensures
+    c.walk.result
+    (subst
+    (λ (ts : Tree). IfErr c.walk.result
+    (NamesFault (shape_of p) (LeafPasses c.args.partial p cost) (LeafFails c.args.partial p cost)
+    (n ∷ []) ts)) c.nodes.ensures c.walk.ensures.fault) in
+    accepts c.args.partial p n claim tree c.claim_has_one_fault.ensures.passes
+    c.tree_has_one_fault.ensures.passes c.walk.result refuses
+
+pub returns-in-Ok-clause-names_node : goal.returns-in-Ok-clause-names_node
+returns-in-Ok-clause-names_node c =
+    let p = c.args.site.now in
+    let n = node_of c.args.start.now in
+    let claim = claim_of c.args.claim.now in
+    let tree = c.args.tree.now in
+    let cost = cost_over c.cost_of_claim.result in
+    let proves : OnOk c.walk.result (Proves c.args.partial p n claim tree) =
+    walk_proves c.args.partial p n claim tree c.in-Ok.ensures.passes cost c.cost_of_claim.ensures
+    c.walk.result
+    (subst
+    (λ (ts : Tree). OnOk c.walk.result
+    (Pass (shape_of p) (LeafPasses c.args.partial p cost) (n ∷ []) ts)) c.nodes.ensures
+    c.walk.ensures.passes) in
+    let refuses : IfErr c.walk.result (Refuses c.args.partial p n claim tree) =
+    walk_refuses c.args.partial p n claim tree c.in-Ok.ensures.passes cost c.cost_of_claim.ensures
+    c.walk.result
+    (subst
+    (λ (ts : Tree). IfErr c.walk.result
+    (NamesFault (shape_of p) (LeafPasses c.args.partial p cost) (LeafFails c.args.partial p cost)
+    (n ∷ []) ts)) c.nodes.ensures c.walk.ensures.fault) in
+    names_node c.args.partial p n claim tree c.claim_has_one_fault.ensures.passes
+    c.tree_has_one_fault.ensures.passes c.tree_has_one_fault.ensures.one c.walk.result proves
+    refuses

@@ -1,0 +1,4 @@
+pub mod Item
+pub mod Lint
+pub mod Warned
+pub mod Words

@@ -1,0 +1,2 @@
+mod Maximal
+mod Texts

@@ -1,0 +1,15 @@
+use Rattle.std.proofs.Common.{map, drop}
+use Rattle.problem_rules.specs.Each.{Each}
+use Rattle.covers.specs.View.{covers_of}
+use Rattle.tree_rules.specs.Known.{KnowsCover}
+use Rattle.tree_text_rules.specs.Spelling.{cover_line}
+use Rattle.tree_text.proofs.Printed.{Finishes}
+use Rattle.tree_text.proofs.part.put_covers.Given as goal
+
+abbrev pub invariant-printing : goal.invariant-printing
+invariant-printing g l = record {
+  known : Each (KnowsCover l.problem) (covers_of (drop l.cover-index l.covers));
+  finishes : Finishes (map (cover_line l.problem) (covers_of (drop l.cover-index l.covers)))
+      (map (cover_line l.problem) (covers_of l.covers)) (g.K.Sink.state l.fn.out)
+      (g.K.Sink.state l.out);
+}
