@@ -127,7 +127,9 @@ class Solving(unittest.TestCase):
         self.assertTrue(pns.check(plant, none))
         self.assertTrue(none.report.proved)
         self.assertEqual((none.report.claim, none.report.money), ("infeasible", {}))
-        self.assertEqual(pns.show(plant), "PROVED: no network meets the bounds\n")
+        lines = pns.show(plant).splitlines()
+        self.assertEqual(lines[0], "PROVED: no network meets the bounds")
+        self.assertIn("  P: at least 200", lines)
         self.assertIsNone(pns.periods(plant, [{}, {}]))
         with self.assertRaises(pns.ClaimRefused) as caught:
             pns.stable(plant, none, "price", "A")
