@@ -53,6 +53,8 @@ Prints a line that begins with PROVED (check accepts the tree), NOT FINISHED
 one of materials and one of sums. Costs are above 0, incomes below; numbers with
 more than 6 digits show 6. limit names the bound that an amount is at: max, min,
 fixed (both), idle (built, but of size 0), or UNBOUNDED?, at 1000000000.
+NOT FINISHED tells, if each open node has a bound, what no network costs less
+than (rounded down), and the gap to the best one in per cent (rounded up).
 If no network meets the bounds, those that clash follow: what the multipliers of
 the first ten refuted leaves use.
 Ends with

@@ -4,6 +4,7 @@ pub mod Clash
 pub mod Decimal
 pub mod Drawn
 pub mod Graph
+pub mod Lower
 pub mod Number
 pub mod Report
 pub mod Table

@@ -24,6 +24,6 @@ mod units;
 
 pub use foot::{left_out, push_names_or_none};
 pub use materials::material_limit;
-pub use money::push_total;
+pub use money::{push_low, push_total};
 pub use text::report_of;
 pub use units::{NO_BOUND, unit_limit};

@@ -48,6 +48,8 @@ report_page =
     codes "one of materials and one of sums. Costs are above 0, incomes below; numbers with" ∷
     codes "more than 6 digits show 6. limit names the bound that an amount is at: max, min," ∷
     codes "fixed (both), idle (built, but of size 0), or UNBOUNDED?, at 1000000000." ∷
+    codes "NOT FINISHED tells, if each open node has a bound, what no network costs less" ∷
+    codes "than (rounded down), and the gap to the best one in per cent (rounded up)." ∷
     codes "If no network meets the bounds, those that clash follow: what the multipliers of" ∷
     codes "the first ten refuted leaves use." ∷
     codes "Ends with" ∷

@@ -26,6 +26,7 @@ returns-clause-verdict c =
           ↦ subst V (sym w.result-is) (
             c.requires.refused,
             subst (λ (n : Node). Proves true p n claim tree) start w.in-Ok.ensures.proves,
+            w.lower_bound.ensures,
           )
       | in-Err-Node w ↦
           let fails : ClaimPasses true p claim
