@@ -8,13 +8,15 @@
 //! if they have more, or as a share in per cent.
 //!
 //! Modules: `number`, such fractions; `amounts`, the numbers of units and their sums; `costs`,
-//! those of materials.
+//! those of materials; `ranks`, what a network costs more than the first of a ranking.
 #![tactic(auto)]
 
 mod amounts;
 mod costs;
 mod number;
+mod ranks;
 
 pub use amounts::{amount, share_of, size, unit_of, unit_sum};
 pub use costs::{cost, cost_sum, flow_at, material_of, net, price};
 pub use number::Number;
+pub use ranks::{above_first, share_above};

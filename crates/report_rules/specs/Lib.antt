@@ -5,6 +5,8 @@ pub mod Decimal
 pub mod Drawn
 pub mod Graph
 pub mod Number
+pub mod RankVerdict
+pub mod Ranked
 pub mod Report
 pub mod Table
 pub mod Verdict
