@@ -1,3 +1,4 @@
+pub mod Alternatives
 pub mod Leaf
 pub mod Marked
 pub mod Networks

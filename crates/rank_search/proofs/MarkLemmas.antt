@@ -1,6 +1,7 @@
 -- A tree whose named leaves are open leaves, with its marks, is the ranked tree in which these
 -- leaves name networks.
-use Rattle.std.proofs.Common.{◌≡◌, ℕ, zero, suc, ◌+◌, List, [], ◌∷◌, ◌++◌, length, map, take, drop}
+use Rattle.std.proofs.Common.{◌≡◌, ℕ, zero, suc, ◌+◌, Bool, List, [], ◌∷◌, ◌++◌, length, map, take}
+use Rattle.std.proofs.Common.{drop}
 use Rattle.std.proofs.Common.{slice_set, Option, Some, None, refl, sym, ap, ap₂, ◌∙◌, subst, arith}
 use Rattle.std.specs.List.{slice_get}
 use Rattle.problem_rules.specs.Each.{Each}
@@ -9,13 +10,14 @@ use Rattle.tree_rules.specs.Tree.{End, branch, leaf, TreeNode, children, HasChil
 use Rattle.tree_rules.specs.Tree.{IsTree}
 use Rattle.tree_rules.specs.Leaf.{Leaf, dead, clash, refuted, bounded, charged, untried}
 use Rattle.tree_rules.specs.Accepted.{Tree}
+use Rattle.rank_rules.specs.declared.naming.Naming.TheVariants.{Only}
 use Rattle.rank_rules.specs.Leaf as ranks
 use Rattle.rank_rules.specs.Ranked as ranked
 use Rattle.tree_rules.specs.Known.{KnowsEnd, KnowsTree}
 use Rattle.rank_rules.specs.Marked.{Mark, marked, marked_end, first_mark, marks_behind}
 use Rattle.ranked_tree.specs.declared.mark.Mark as code
 use Rattle.ranked_tree.specs.View.{mark_of}
-use Rattle.rank_rules.specs.Text.{AreNumbered, IsBareAt, AreBare}
+use Rattle.rank_rules.specs.Text.{AreNumbered, FitWays, IsBareAt, AreBare}
 use Rattle.search_tree.specs.Preorder.{told_end}
 use Rattle.rank_search.specs.Naming.{Names, opened_end, opened_node, opened, marks_at, marks_in}
 use Rattle.rank_search.specs.Naming.{marks_of}
@@ -28,7 +30,7 @@ named_leaf None l = ranks.plain l
 named_leaf (Some k) (dead x) = ranks.plain (dead x)
 named_leaf (Some k) (clash x) = ranks.plain (clash x)
 named_leaf (Some k) (refuted ys) = ranks.plain (refuted ys)
-named_leaf (Some k) (bounded d ys) = ranks.named k d ys
+named_leaf (Some k) (bounded d ys) = ranks.named Only k d ys
 named_leaf (Some k) (charged c) = ranks.plain (charged c)
 named_leaf (Some k) (untried low) = ranks.plain (untried low)
 
@@ -173,6 +175,31 @@ marks_numbered [] ts h = tt
 marks_numbered (n ∷ ns) [] h = tt
 marks_numbered (n ∷ ns) (t ∷ ts) h =
     numbered_with n t.end (marks_in ns ts) h.0 (marks_numbered ns ts h.1)
+
+-- ---- each named leaf is the only structure of its node
+
+ways_with : (distinct : Bool) (n : Option ℕ) (e : End Leaf) (ms : List Mark) → FitWays distinct ms
+    → FitWays distinct (marks_at n e ++ ms)
+ways_with distinct None (branch w) ms h = h
+ways_with distinct None (leaf (dead x)) ms h = h
+ways_with distinct None (leaf (clash x)) ms h = h
+ways_with distinct None (leaf (refuted ys)) ms h = h
+ways_with distinct None (leaf (bounded d ys)) ms h = h
+ways_with distinct None (leaf (charged c)) ms h = h
+ways_with distinct None (leaf (untried low)) ms h = h
+ways_with distinct (Some k) (branch w) ms h = h
+ways_with distinct (Some k) (leaf (dead x)) ms h = h
+ways_with distinct (Some k) (leaf (clash x)) ms h = h
+ways_with distinct (Some k) (leaf (refuted ys)) ms h = h
+ways_with distinct (Some k) (leaf (bounded d ys)) ms h = (tt, h)
+ways_with distinct (Some k) (leaf (charged c)) ms h = h
+ways_with distinct (Some k) (leaf (untried low)) ms h = h
+
+pub marks_fit : (distinct : Bool) (ns : Names) (ts : Tree) → FitWays distinct (marks_in ns ts)
+marks_fit distinct [] ts = tt
+marks_fit distinct (n ∷ ns) [] = tt
+marks_fit distinct (n ∷ ns) (t ∷ ts) =
+    ways_with distinct n t.end (marks_in ns ts) (marks_fit distinct ns ts)
 
 -- ---- a leaf that names a network has no bound of its own
 

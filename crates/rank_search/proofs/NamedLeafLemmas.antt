@@ -13,6 +13,7 @@ use Rattle.tree_rules.specs.Leaf as leaves
 use Rattle.tree_rules.specs.Leaf.{Leaf, Scaled, dead, clash, refuted, bounded, charged, untried}
 use Rattle.tree_rules.specs.Leaf.{IsUntried, IsBounded}
 use Rattle.tree_rules.specs.Claim.{Network, CostOver}
+use Rattle.rank_rules.specs.declared.naming.Naming.TheVariants.{Only}
 use Rattle.rank_rules.specs.Leaf as ranks
 use Rattle.rank_rules.specs.Leaf.{IsOpenLeaf}
 use Rattle.rank_rules.specs.Networks.{numbered, network_at, last_cost}
@@ -114,7 +115,7 @@ named_open (Some k) (dead x) h = (h.0, plain_is (dead x) (untried h.0) h.1)
 named_open (Some k) (clash x) h = (h.0, plain_is (clash x) (untried h.0) h.1)
 named_open (Some k) (refuted ys) h = (h.0, plain_is (refuted ys) (untried h.0) h.1)
 named_open (Some k) (bounded d ys) h =
-    absurd (let q : ranks.named k d ys ≡ ranks.plain (untried h.0) = h.1 in cc)
+    absurd (let q : ranks.named Only k d ys ≡ ranks.plain (untried h.0) = h.1 in cc)
 named_open (Some k) (charged c) h = (h.0, plain_is (charged c) (untried h.0) h.1)
 named_open (Some k) (untried low) h = (low, refl)
 
@@ -172,7 +173,7 @@ module _ (partial : Bool) (p : Problem) (count : ℕ) (start : Node) (claimed : 
     (closes : Closes partial p (undercut_by count fs) cells ms) where
   abbrev Holds : ℕ → Option ℕ → Leaf → Type 0
   Holds i name l =
-      ranks.LeafPasses partial p (networks_of fs) (undercut_by count fs)
+      ranks.LeafPasses false partial p (networks_of fs) (undercut_by count fs)
       (place_of (cell_at cells i)) (named_leaf name (shut_leaf (proof_of ms i) l))
 
   without_name : (i : ℕ) → i < length cells → (IsOfLeaf i fs → ⊥) → (l : Leaf)
@@ -199,15 +200,16 @@ module _ (partial : Bool) (p : Problem) (count : ℕ) (start : Node) (claimed : 
       let is : l ≡ bounded h.d h.ys = end_inj l (bounded h.d h.ys) (sym e ∙ h.end_is) in
       subst (λ (k : Leaf). Holds f.leaf (Some (1 + at)) k) (sym is)
       (subst
-      (λ (k : Leaf). ranks.LeafPasses partial p (networks_of fs) (undercut_by count fs)
+      (λ (k : Leaf). ranks.LeafPasses false partial p (networks_of fs) (undercut_by count fs)
       (place_of (cell_at cells f.leaf)) (named_leaf (Some (1 + at)) k))
       (sym (bounded_stays (proof_of ms f.leaf) h.d h.ys))
-      (subst (λ (o : Option Network). ranks.IsNamed p o (place_of (cell_at cells f.leaf)) h.d h.ys)
+      (subst (λ (o : Option Network). ranks.IsNamed false Only p o (place_of
+      (cell_at cells f.leaf)) h.d h.ys)
       (sym (numbered_there fs at f there))
-      (record { only = (h.found.none_free, h.found.units); bounded = h.bound })))
+      (record { may = (h.found.none_free, h.found.units); bounded = h.bound })))
 
   pub leaf_passes : (i : ℕ) → i < length cells → (l : Leaf) → (cell_at cells i).end ≡ leaf l
-      → ranks.LeafPasses partial p (networks_of fs) (undercut_by count fs)
+      → ranks.LeafPasses false partial p (networks_of fs) (undercut_by count fs)
       (place_of (cell_at cells i)) (leaf_told (names_of (length cells) fs) ms i l)
   leaf_passes i lt l e = elim (name_is (length cells) fs i lt) [
     | inl h ↦ subst (λ (n : Option ℕ). Holds i n l) (sym h.name_is)

@@ -1,7 +1,8 @@
 -- The answer of a search: the tree, with its networks and marks, is ranked, lean, and spent if the
 -- search is.
 use Rattle.std.specs.Prelude.{IfOk}
-use Rattle.std.proofs.Common.{◌≡◌, ℕ, suc, ◌+◌, ◌-◌, ◌^◌, ◌<◌, ◌≤◌, Bool, true, List, [], ◌∷◌}
+use Rattle.std.proofs.Common.{◌≡◌, ℕ, suc, ◌+◌, ◌-◌, ◌^◌, ◌<◌, ◌≤◌, Bool, true, false, List, []}
+use Rattle.std.proofs.Common.{◌∷◌}
 use Rattle.std.proofs.Common.{length, Option, Some, None, Result, Ok, Err, refl, sym, ap, ap₂, ◌∙◌}
 use Rattle.std.proofs.Common.{subst, arith}
 use Rattle.std.specs.List.{slice_get}
@@ -27,7 +28,7 @@ use Rattle.rank_rules.specs.Networks.{ArePassing}
 use Rattle.rank_rules.specs.Ranked as ranked
 use Rattle.tree_rules.specs.Known.{KnowsEnd, KnowsTree}
 use Rattle.rank_rules.specs.Marked.{Mark, marked}
-use Rattle.rank_rules.specs.Text.{AreNumbered, AreBare}
+use Rattle.rank_rules.specs.Text.{AreNumbered, FitWays, AreBare}
 use Rattle.search_tree.specs.declared.shut.Shut.{Shut}
 use Rattle.search_tree.specs.declared.shut.Shut.TheVariants as shuts
 use Rattle.search_tree.specs.Cells.{Cell, place_of, cell_at, IsLinked}
@@ -53,7 +54,7 @@ use Rattle.rank_search.proofs.FewLemmas.{few_with_next}
 use Rattle.rank_search.proofs.NamedLeafLemmas.{ClosesAt, Closes, leaf_passes, still_open, told_open}
 use Rattle.rank_search.proofs.NamedLeafLemmas.{told_unshut}
 use Rattle.rank_search.proofs.MarkLemmas.{named_leaf, marked_is, length-opened, opened_known}
-use Rattle.rank_search.proofs.MarkLemmas.{marks_numbered, marks_bare}
+use Rattle.rank_search.proofs.MarkLemmas.{marks_numbered, marks_fit, marks_bare}
 use Rattle.rank_search.proofs.NameLemmas.{IsCountedName, counted_name}
 use Rattle.rank_search.proofs.NetworkLemmas.{each_there, knows_networks, networks_pass}
 use Rattle.rank_search.proofs.OrderLemmas.{leaf_told, shut_order, named_is_told, length-names_at}
@@ -169,12 +170,13 @@ module _ (p : Problem) (valid : IsValid p) (count : ℕ) (s : Growing) (fs : Lis
   module _ (partial : Bool) (closes : Closes partial p (undercut_by count fs) s.pool.payloads ms)
       (sized : Each IsSized (networks_of fs)) (asked : 1 ≤ count) where
     passes_told : Pass (shape_of p)
-        (ranks.LeafPasses partial p (networks_of fs) (undercut_by count fs)) (node_of s.start ∷ [])
+        (ranks.LeafPasses false partial p (networks_of fs) (undercut_by count fs))
+        (node_of s.start ∷ [])
         (told_tree told s.pool.payloads of.order)
     passes_told =
         told_passes (shape_of p) (leaves.LeafPasses true p (claimed_cost (claim_with s.best)))
         (node_of s.start) s.pool.payloads linked t.kept.grown.fits told
-        (ranks.LeafPasses partial p (networks_of fs) (undercut_by count fs))
+        (ranks.LeafPasses false partial p (networks_of fs) (undercut_by count fs))
         (leaf_passes partial p count (node_of s.start) (claimed_cost (claim_with s.best))
         s.pool.payloads t.kept.grown.fits fs best ms closes)
         (node_of s.start ∷ []) (0 ∷ []) of.order
@@ -183,19 +185,19 @@ module _ (p : Problem) (valid : IsValid p) (count : ℕ) (s : Growing) (fs : Lis
         s.pool.payloads linked t.kept.grown.fits) preorder
 
     passes_marked : Pass (shape_of p)
-        (ranks.LeafPasses partial p (networks_of fs) (undercut_by count fs)) (first_node ∷ [])
+        (ranks.LeafPasses false partial p (networks_of fs) (undercut_by count fs)) (first_node ∷ [])
         (marked marks tree)
     passes_marked =
         subst
         (λ (n : Node). Pass (shape_of p)
-        (ranks.LeafPasses partial p (networks_of fs) (undercut_by count fs)) (n ∷ [])
+        (ranks.LeafPasses false partial p (networks_of fs) (undercut_by count fs)) (n ∷ [])
         (marked marks tree)) first
         (subst
         (λ (w : ranked.Tree). Pass (shape_of p)
-        (ranks.LeafPasses partial p (networks_of fs) (undercut_by count fs))
+        (ranks.LeafPasses false partial p (networks_of fs) (undercut_by count fs))
         (node_of s.start ∷ []) w) (sym marked_tree) passes_told)
 
-    passing : ArePassing p [] (networks_of fs)
+    passing : ArePassing false p [] (networks_of fs)
     passing =
         networks_pass p s.pool.payloads valid (node_of s.start) (claim_with s.best) t.kept.grown
         t.passes t.kept.sound of.order preorder fs
@@ -233,6 +235,9 @@ module _ (p : Problem) (valid : IsValid p) (count : ℕ) (s : Growing) (fs : Lis
             (marks_numbered (names_at names of.order) (tree_of (shut_cells ms cells) of.order)
             (each_name IsCountedName names (counted_name (length s.pool.payloads) fs)
             of.order));
+        ways =
+            subst (λ (ks : List Mark). FitWays false ks) (sym of.marks_are)
+            (marks_fit false (names_at names of.order) (tree_of (shut_cells ms cells) of.order));
         bare =
             let a : length (names_at names of.order) ≡ length of.order =
             length-names_at names of.order in

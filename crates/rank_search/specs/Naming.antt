@@ -6,6 +6,7 @@ use Rattle.std.specs.List.{slice_get}
 use Rattle.tree_rules.specs.Tree.{End, branch, leaf, TreeNode}
 use Rattle.tree_rules.specs.Leaf.{Leaf, dead, clash, refuted, bounded, charged, untried}
 use Rattle.tree_rules.specs.Accepted.{Tree}
+use Rattle.rank_rules.specs.declared.naming.Naming.TheVariants.{Only}
 use Rattle.rank_rules.specs.Marked.{Mark}
 use Rattle.ranked_tree.specs.declared.mark.Mark as marks
 use Rattle.ranked_tree.specs.View.{mark_of}
@@ -62,7 +63,8 @@ marks_at name (leaf (dead x)) = []
 marks_at name (leaf (clash x)) = []
 marks_at name (leaf (refuted ys)) = []
 marks_at None (leaf (bounded d ys)) = []
-marks_at (Some k) (leaf (bounded d ys)) = Some (record { network = k; d = d; ys = ys }) ∷ []
+marks_at (Some k) (leaf (bounded d ys)) =
+    Some (record { way = Only; network = k; d = d; ys = ys }) ∷ []
 marks_at name (leaf (charged h)) = []
 marks_at name (leaf (untried low)) = None ∷ []
 

@@ -1,5 +1,5 @@
 -- The answer of a search for the best networks: the networks with a ranked tree, whole or so far.
-use Rattle.std.specs.Prelude.{ℕ, ◌-◌, ◌^◌, ◌<◌, Bool, List, length}
+use Rattle.std.specs.Prelude.{ℕ, ◌-◌, ◌^◌, ◌<◌, Bool, false, List, length}
 use Rattle.problem_rules.specs.Each.{Each}
 use Rattle.problem_rules.specs.Problem.{Problem}
 use Rattle.tree_rules.specs.Claim.{Network}
@@ -19,9 +19,10 @@ use Rattle.rank_rules.specs.Leaf.{IsOpenLeaf}
 -- or partial, and lean. All numbers are the problem's.
 pub record IsTelling (partial : Bool) (p : Problem) (count : ℕ) (ws : List Network) (tree : Tree)
     (marks : List Mark) : Type 0 where
-  pub proves : Proves partial p (record { count = count; networks = ws; tree = marked marks tree })
+  pub proves : Proves partial p
+      (record { count = count; distinct = false; networks = ws; tree = marked marks tree })
   pub lean : IsLean p IsOpenLeaf (to_undercut count ws) first_node (marked marks tree)
-  pub counted : IsCounted count ws tree marks
+  pub counted : IsCounted count false ws tree marks
   pub of_networks : Each (KnowsNetwork p) ws
   pub of_tree : KnowsTree p tree
   pub few : length tree < 2 ^ 32 - 1

@@ -12,7 +12,8 @@ ghost use Rattle.rank_search.specs.Naming.{opened, opened_node, marks_in, marks_
 use crate::found::FoundAt;
 use branch_tree::{End, Tree, TreeNode};
 use node_pool::Pool;
-use ranked_tree::Mark;
+use rank_rules::Naming;
+use ranked_tree::{Mark, Name};
 use search_tree::{Cell, Shut, nodes_in_preorder};
 use std::alloc::{AllocError, Global};
 use std::mem;
@@ -62,7 +63,11 @@ fn take_mark(node: &mut TreeNode, name: Option<u32>) -> Option<Mark>
     }
     let network = name?;
     match mem::replace(&mut node.end, End::Open(None)) {
-        End::Bound(scaled) => Some(Mark::Named { network, scaled }),
+        End::Bound(scaled) => Some(Mark::Named(Name {
+            way: Naming::Only,
+            network,
+            scaled,
+        })),
         other => {
             node.end = other;
             None

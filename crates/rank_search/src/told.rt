@@ -1,5 +1,5 @@
 //! The answer of a search that has ended, as a text.
-ghost use Rattle.std.specs.Prelude.{◌≡◌, IfOk, map};
+ghost use Rattle.std.specs.Prelude.{◌≡◌, false, IfOk, map};
 ghost use Rattle.branch_tree.specs.View.{tail_of};
 ghost use Rattle.ranked_tree.specs.View.{mark_of};
 ghost use Rattle.rank_rules.specs.Text.{IsCounted};
@@ -13,14 +13,15 @@ use abb_search::{Ending, Growing};
 use branch_tree::Tail;
 use node_evaluation::Evaluator;
 use pgraph::Site;
-use ranked_tree::RankText;
+use ranked_tree::{Asked, RankText};
 use std::alloc::{AllocError, Global};
 
 /// The answer, with the place at which the search stopped.
 fn text_of(count: u32, told: Told, tail: Tail) -> RankText
-    requires { IsCounted count told.networks.items told.tree (map mark_of told.marks.items) }
+    requires { IsCounted count false told.networks.items told.tree (map mark_of told.marks.items) }
     ensures { result ≡ record {
       count = count;
+      distinct = false;
       networks = told.networks.items;
       tree =
           told.tree;
@@ -28,7 +29,11 @@ fn text_of(count: u32, told: Told, tail: Tail) -> RankText
       tail = tail_of tail;
     } }
 {
-    RankText::of(count, told.networks, told.tree, told.marks, tail)
+    let asked = Asked {
+        count,
+        distinct: false,
+    };
+    RankText::of(asked, told.networks, told.tree, told.marks, tail)
 }
 
 /// What is found if the search ends in this way.

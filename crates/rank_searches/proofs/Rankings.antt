@@ -25,7 +25,7 @@ use Rattle.ranked_tree.specs.Known.{KnowsNetwork}
 use Rattle.rank_text.specs.Known.{KnowsText}
 use Rattle.rank_rules.specs.Read.{read_text}
 use Rattle.rank_rules.specs.Spelling.{rank_text, rank_text_lines, file_type, count_word}
-use Rattle.rank_rules.specs.Spelling.{networks_word, tree_lines}
+use Rattle.rank_rules.specs.Spelling.{networks_word, distinct_lines, tree_lines}
 use Rattle.rank_text.specs.Fits.{Fits}
 use Rattle.rank_rules.specs.Leaf.{IsOpenLeaf}
 use Rattle.rank_search.specs.declared.outcome.Ranked.{Ranked}
@@ -57,7 +57,8 @@ networks_fit p (w ∷ ws) known kept =
     (record { known = known.0; kept = kept.0 }, networks_fit p ws known.1 kept.1)
 
 pub fits : (p : Problem) (t : Text) → KnowsText p t → IsTree t.tree
-    → IsCounted t.count t.networks t.tree t.marks → t.count < 2 ^ 32 → length t.tree < 2 ^ 32
+    → IsCounted t.count t.distinct t.networks t.tree t.marks → t.count < 2 ^ 32
+    → length t.tree < 2 ^ 32
     → Each IsKept t.networks → Each IsMarkInRange t.marks → CountsTail t.tail → Fits p (normal t)
 fits p t known whole counted held few kept ranged tail =
     let asked = counted.asked in
@@ -66,7 +67,7 @@ fits p t known whole counted held few kept ranged tail =
       within = counted.within;
       networks = networks_fit p t.networks known.networks kept;
       tree = record { whole = whole; known = known.tree; counted = tree_counted t.tree whole few };
-      marks = marks_for_fit t.tree t.marks counted.numbered ranged;
+      marks = marks_for_fit t.distinct t.tree t.marks counted.numbered counted.ways ranged;
       marked = marks_for_length t.tree t.marks;
       bare = marks_for_bare t.tree t.marks counted.bare;
       tail = record { known = known.tail; counted = tail };
@@ -77,9 +78,10 @@ abbrev lines_with : Problem → Text → ranked.Tree → List (List Token)
 lines_with p t tree =
     (file_type ∷ [])
     ∷ (count_word ∷ decimal t.count ∷ [])
-    ∷ (networks_word ∷ decimal (length t.networks) ∷ [])
+    ∷ (distinct_lines t.distinct
+    ++ ((networks_word ∷ decimal (length t.networks) ∷ [])
     ∷ (flat_map (trees.network_lines p) t.networks
-    ++ (tree_lines p tree ++ trees.tail_lines p t.tail))
+    ++ (tree_lines p tree ++ trees.tail_lines p t.tail))))
 
 same_lines : (p : Problem) (t : Text) → rank_text_lines p (normal t) ≡ rank_text_lines p t
 same_lines p t = ap (lines_with p t) (same_tree t.tree t.marks)
@@ -132,8 +134,9 @@ can_print p count budget found.Memory h u e = absurd cc
 
 -- ---- what holds of it
 
-abbrev ranking_with : ℕ → List Network → ranked.Tree → Ranking
-ranking_with count ws tree = record { count = count; networks = ws; tree = tree }
+abbrev ranking_with : ℕ → Bool → List Network → ranked.Tree → Ranking
+ranking_with count distinct ws tree =
+    record { count = count; distinct = distinct; networks = ws; tree = tree }
 
 module _ (p : Problem) (count : ℕ) (t : Text) (count_is : t.count ≡ count) where
   own_tree : marked t.marks t.tree ≡ marked (marks_for t.tree t.marks) t.tree
@@ -141,9 +144,14 @@ module _ (p : Problem) (count : ℕ) (t : Text) (count_is : t.count ≡ count) w
 
   lists : (partial : Bool) → IsRankingFor partial p count t → Lists partial count p (normal t)
   lists partial h =
-      let proves : Proves partial p (ranking_with t.count t.networks (marked t.marks t.tree)) =
-      subst (λ (c : ℕ). Proves partial p (ranking_with c t.networks (marked t.marks t.tree)))
-      (sym count_is) h.tells.proves in
+      let proves : Proves partial p
+      (ranking_with t.count t.distinct t.networks (marked t.marks t.tree)) =
+      subst
+      (λ (c : ℕ). Proves partial p (ranking_with c t.distinct t.networks (marked t.marks t.tree)))
+      (sym count_is)
+      (subst
+      (λ (d : Bool). Proves partial p (ranking_with count d t.networks (marked t.marks t.tree)))
+      (sym h.is_ranking) h.tells.proves) in
       let lean : IsLean p IsOpenLeaf (to_undercut t.count t.networks) first_node
       (marked t.marks t.tree) =
       subst
@@ -151,9 +159,11 @@ module _ (p : Problem) (count : ℕ) (t : Text) (count_is : t.count ≡ count) w
       (marked t.marks t.tree)) (sym count_is) h.tells.lean in
       record {
         count_is = count_is;
+        is_ranking = h.is_ranking;
         proves =
-            subst (λ (tree : ranked.Tree). Proves partial p (ranking_with t.count t.networks tree))
-            own_tree proves;
+            subst
+            (λ (tree : ranked.Tree). Proves partial p
+            (ranking_with t.count t.distinct t.networks tree)) own_tree proves;
         lean =
             subst
             (λ (tree : ranked.Tree). IsLean p IsOpenLeaf (to_undercut t.count t.networks) first_node
@@ -184,7 +194,11 @@ module _ (listed : ListedAreLeast) (full : OthersCostEnough) (fewer : OthersHave
       let all : Lists false count p (normal t) = lists p count t h.1.count_is false h.1 in
       some_is (HoldsOf count budget) t u e
       (subst (λ (tail : tails.Tail). Holds count budget p (normal t) tail) (sym h.0)
-      (record { lists = all; best = are_best listed full fewer p valid (normal t) all.proves }))
+      (record {
+        lists = all;
+        best = are_best listed full fewer p valid
+            (normal t) all.proves all.is_ranking;
+      }))
   holds count budget (found.Spent t) h u e =
       some_is (HoldsOf count budget) t u e
       (subst (λ (tail : tails.Tail). Holds count budget p (normal t) tail) (sym h.tail_is) (

@@ -50,9 +50,9 @@ fn mark_is_in_range(mark: &Mark)
 {
     match mark {
         Mark::Open => {}
-        Mark::Named { network, scaled } => {
-            let _network = *network;
-            scaled.are_in_range();
+        Mark::Named(name) => {
+            let _network = name.network;
+            name.scaled.are_in_range();
         }
     }
 }

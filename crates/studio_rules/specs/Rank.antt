@@ -27,10 +27,11 @@ pub record AreTextOf (p : Problem) (t : Text) (lines : List (List ℕ)) : Type 0
   pub text : lines ≡ spelled (rank_text_lines p t)
   pub reads : read_text p (text_of lines) ≡ Ok t
 
--- So many networks were asked for, those that are listed pass, and the lean tree proves the
--- ranking; if it is partial, but for its open leaves.
+-- So many networks were asked for, not a list of alternatives. Those that are listed pass, and the
+-- lean tree proves the ranking; if it is partial, but for its open leaves.
 pub record Lists (partial : Bool) (count : ℕ) (p : Problem) (t : Text) : Type 0 where
   pub count_is : t.count ≡ count
+  pub is_ranking : t.distinct ≡ false
   pub proves : Proves partial p (ranking_of t)
   pub lean : IsLean p IsOpenLeaf (to_undercut t.count t.networks) first_node (marked t.marks t.tree)
 
