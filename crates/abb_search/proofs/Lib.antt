@@ -1,3 +1,4 @@
+pub mod ChargingLemmas
 pub mod ClosingLemmas
 pub mod EndLemmas
 pub mod GrowingLemmas

@@ -1,4 +1,5 @@
 pub mod Answers
+pub mod Charging
 pub mod Closing
 pub mod Found
 pub mod Growing

@@ -10,12 +10,17 @@
 //! settled only when it is to be branched: then its value rises, or it is refuted. A leaf whose
 //! least cost overflows keeps a lower bound as its value.
 //!
-//! Modules: `growing` the tree and how a leaf is branched; `settling` the worth of leaves;
-//! `closing` what shuts leaves; `hand` what is stored for them; `root` the root; `outcome` answers;
-//! `found` the tree of an answer; `rounds` which leaf is next; `step` a turn; `turns` the object;
-//! `runs` the loop; `watching` progress; `whole` the search over the simplex method.
+//! After a leaf was branched, the leaf of least value is shut if a charge of it is found that is no
+//! less than the best network's cost, and then the next one.
+//!
+//! Modules: `growing` the tree and how a leaf is branched; `charging` leaves that a charge shuts;
+//! `settling` the worth of leaves; `closing` what shuts leaves at the end; `hand` what is stored
+//! for them; `root` the root; `outcome` answers; `found` the tree of an answer; `rounds` which leaf
+//! is next; `step` a turn; `turns` the object; `runs` the loop; `watching` progress; `whole` the
+//! search over the simplex method.
 #![tactic(auto)]
 
+mod charging;
 mod closing;
 mod found;
 mod growing;

@@ -11,6 +11,7 @@ ghost use Rattle.abb_search.specs.Rounds.{IsNextLeaf, IsStopLeaf, FitsBudget, En
 ghost use Rattle.abb_search.specs.Answers.{IsMore, StepHolds};
 ghost use Rattle.abb_search.specs.Searched.{StandsAt};
 
+use crate::charging::shut_by_charges;
 use crate::found::{past_found, shut_tree, tree_with, whole_found};
 use crate::growing::{Growing, branch_leaf, choice_at, node_at, stopped_leaf, take_stop};
 use crate::outcome::Found;
@@ -106,8 +107,8 @@ fn found_by<E: Evaluator>(
     }
 }
 
-/// Branches the open leaf that comes next, so that the nodes are more, or says what is found. No
-/// leaf stops the search yet.
+/// Branches the open leaf that comes next, so that the nodes are more, and shuts leaves by charges;
+/// or says what is found. No leaf stops the search yet.
 fn go_on<E: Evaluator>(
     workspace: &mut Workspace<E>,
     site: &Site<'_>,
@@ -124,6 +125,7 @@ fn go_on<E: Evaluator>(
     match next_leaf(workspace, site, growing, &Goal::Best)? {
         Next::Branch(leaf) => {
             branch_next(workspace, site, growing, leaf)?;
+            shut_by_charges(workspace, site, growing);
             Ok(None)
         }
         Next::Stop(leaf) => stop_there::<E>(workspace.alloc, site, growing, leaf),

@@ -1,4 +1,4 @@
-//! No flows that fit what is known cost less than the charge; not used yet.
+//! No flows that fit what is known cost less than the charge.
 //!
 //! The relaxed bound lets a free unit pay for its size instead of its fixed cost. A charge lets it
 //! owe the whole fixed cost or nothing, so it is stronger. For units to owe at all, a charge takes

@@ -1,4 +1,4 @@
-//! A charge is exact, or names the first overflow; covers are exact; not used yet.
+//! A charge is exact, or names the first overflow; covers are exact.
 //!
 //! A charge is a bound of a node that lets a free unit owe its whole fixed cost or nothing. Its
 //! definition, and the laws that make it a bound, are in `charge_rules`. [`charge_of`] gives the

@@ -1,3 +1,4 @@
+pub mod ChargingLemmas
 pub mod FlowLemmas
 pub mod HandLemmas
 pub mod KnownLemmas

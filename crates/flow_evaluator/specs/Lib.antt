@@ -1,1 +1,2 @@
+pub mod Charging
 pub mod Evaluating

@@ -15,6 +15,7 @@ ghost use Rattle.flow_evaluator.specs.Evaluating.{IsFor};
 
 use crate::answers::{bounded, proved, refuted, stopped, unproved};
 use crate::at_hand::{running_units, structure_with};
+use crate::charging::Charging;
 use crate::told::{bound_between, evaluation_of, first_look_of};
 use crate::tries::Tries;
 use branch_tree::Network;
@@ -22,7 +23,7 @@ use certified_bounds::{Certified, CertifiedBounds};
 use dual_simplex::{Bench, Ends, entry_is_past, names_are_of_program, none_is_refuted};
 use flow_program::Program;
 use flow_rules::{refutation, relaxed_duality};
-use node_evaluation::{Evaluation, Evaluator, FirstLook, LowerBound, Proof};
+use node_evaluation::{Charged, Evaluation, Evaluator, FirstLook, LowerBound, Proof};
 use pgraph::Site;
 use pns_problem::Problem;
 use std::alloc::{AllocError, Global};
@@ -43,6 +44,7 @@ pub struct FlowEvaluator {
     // Whether the path of the node that was looked at or evaluated last was walked.
     is_walked: bool,
     tries: Tries,
+    charging: Charging,
 }
 
 impl Model for FlowEvaluator {
@@ -133,6 +135,7 @@ impl FlowEvaluator {
             materials,
             is_walked: false,
             tries: Tries::none(),
+            charging: Charging::none(),
         })
     }
 
@@ -311,6 +314,7 @@ impl Evaluator for FlowEvaluator {
             return Ok(());
         }
         self.tries = Tries::none();
+        self.charging = Charging::none();
         self.certified.rebind(alloc, site)
     }
 
@@ -365,6 +369,16 @@ impl Evaluator for FlowEvaluator {
             return Ok(Proof::Scaled(scaled));
         }
         prove_on(alloc, site, &node, &mut self.bench)
+    }
+
+    fn charge(
+        &mut self,
+        alloc: Global,
+        site: &Site<'_>,
+        node: Node,
+        network: &Network,
+    ) -> Option<Charged> {
+        self.charging.charge(alloc, site, &node, network)
     }
 
     fn network_at_hand(

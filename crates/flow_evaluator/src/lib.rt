@@ -9,13 +9,16 @@
 //! outside the basis and the place; so only the path stops a search. If not all is decided at such
 //! a node, two costs between which the least cost lies come with that place, if they are found.
 //!
+//! A charge of a node, which shuts an open leaf, is proposed in floating point and judged exactly.
+//!
 //! Modules: `evaluator` the evaluator; `told` its answers without a path; `answers` what the last
 //! basis of a path gives; `sums` the sums over what the bench keeps, which may overflow; `at_hand`
-//! a trial structure at a node; `tries` when its flows are tried.
+//! a trial structure at a node; `tries` when its flows are tried; `charging` charges.
 #![tactic(auto)]
 
 mod answers;
 mod at_hand;
+mod charging;
 mod evaluator;
 mod sums;
 mod told;

@@ -10,7 +10,9 @@ use Rattle.mixed_numbers.specs.Number.{numerator, denominator}
 use Rattle.flow_rules.specs.declared.place.Column.{Column}
 use Rattle.flow_rules.specs.declared.place.Place.{Place}
 use Rattle.tree_rules.specs.Claim.{Network, CostOver, IsFeasible}
-use Rattle.tree_rules.specs.Leaf.{IsRefuted, IsBounded}
+use Rattle.charge_rules.specs.Leaf.{Handed}
+use Rattle.tree_rules.specs.Leaf.{IsRefuted, IsBounded, IsCharged}
+use Rattle.tree_rules.specs.Known.{KnowsCharge}
 use Rattle.tree_rules.specs.Lean.{MayUndercut, HasCheaper}
 use Rattle.turn_laws.specs.Values.{IsValueOf, IsUnder}
 use Rattle.tree_rules.specs.Costs.{IsNoMore}
@@ -22,6 +24,7 @@ use Rattle.node_evaluation.specs.declared.evaluator.Bound.{Bound}
 use Rattle.node_evaluation.specs.declared.evaluator.Evaluation.{Evaluation}
 use Rattle.node_evaluation.specs.declared.evaluator.Evaluation.TheVariants.{Least, Flows, Refuted}
 use Rattle.node_evaluation.specs.declared.evaluator.Evaluation.TheVariants.{Stopped}
+use Rattle.node_evaluation.specs.declared.evaluator.Charged.{Charged}
 use Rattle.node_evaluation.specs.declared.evaluator.Proof.{Proof}
 use Rattle.node_evaluation.specs.declared.evaluator.Proof.TheVariants as proofs
 
@@ -97,6 +100,17 @@ pub record IsWorth (p : Problem) (n : Node) (cost : CostOver) : Type 0 where
 abbrev pub IsProof : PastPlaces → Problem → Node → CostOver → Proof → Type 0
 IsProof Past p n cost (proofs.Scaled s) = IsBounded p (Some cost) n s.d s.ys
 IsProof Past p n cost (proofs.Stopped h) = Past p n h.nonbasic h.place
+
+-- ---- a charge
+
+-- what a leaf that is charged hands in
+abbrev pub handed_in : Charged → Handed
+handed_in c = record { d = c.scaled.d; ys = c.scaled.ys; covers = c.covers }
+
+-- the charge of the node is no less than the cost, and its numbers are known to the problem
+pub record IsChargeOf (p : Problem) (n : Node) (cost : CostOver) (c : Charged) : Type 0 where
+  pub passes : IsCharged p (Some cost) n (handed_in c)
+  pub known : KnowsCharge p (handed_in c)
 
 -- ---- a trial network
 

@@ -5,9 +5,10 @@ ghost use Rattle.pns_rules.specs.Ends.{IsSound, IsReduced, IsDecided};
 ghost use Rattle.problem_rules.specs.Problem.{Problem};
 ghost use Rattle.pgraph.specs.View.{node_of};
 ghost use Rattle.node_evaluation.specs.Evaluated.{PastPlaces, IsFirstLook, IsEvaluated, IsWorth};
-ghost use Rattle.node_evaluation.specs.Evaluated.{IsProof, IsAtHand, cost_in};
+ghost use Rattle.node_evaluation.specs.Evaluated.{IsProof, IsAtHand, IsChargeOf, cost_in};
 
 use branch_tree::{Columns, Multipliers, Network, Scaled};
+use covers::Covers;
 use flow_rules::Place;
 use mixed_numbers::Mixed;
 use pgraph::Site;
@@ -83,6 +84,13 @@ pub enum Proof {
     Stopped(PastStop),
 }
 
+/// A charge of a node: multipliers over their scale, and covers.
+#[derive(Drop)]
+pub struct Charged {
+    pub scaled: Scaled,
+    pub covers: Covers,
+}
+
 /// Says what the nodes of a problem are worth. `Err` of each call comes if memory is refused, and
 /// only then.
 pub trait Evaluator {
@@ -152,6 +160,21 @@ pub trait Evaluator {
         requires reduced { IsReduced (shape_of site.now) (node_of node) }
         requires worth { IsWorth site.now (node_of node) (cost_in network.now) }
         ensures proved { IfOk result (IsProof past site.now (node_of node) (cost_in network.now)) }
+        ensures own { values site.now self.new };
+
+    /// A charge of a node that is no less than the network's cost, if one is found. `None` says
+    /// nothing, and comes also if memory is refused.
+    fn charge(
+        &mut self,
+        alloc: Global,
+        site: &Site<'_>,
+        node: Node,
+        network: &Network,
+    ) -> Option<Charged>
+        requires own { values site.now self.old }
+        requires sound { IsSound (shape_of site.now) (node_of node) }
+        ensures charged { IfSome result
+            (IsChargeOf site.now (node_of node) (cost_in network.now)) }
         ensures own { values site.now self.new };
 
     /// A trial network at the node that was looked at or evaluated last, if there is one. It has

@@ -5,7 +5,7 @@
 //! than one way. A first look gives a cost that no relaxed flows undercut. [`settle`] finds what
 //! the node is worth when it is to be branched: the least cost of relaxed flows, or two costs
 //! between which it lies, with multipliers; a network; a refutation; or the place at which a number
-//! overflows.
+//! overflows. An evaluator may also find a charge of the node, which shuts an open leaf.
 //!
 //! Modules: `evaluator` the trait and its answers; `looks` a look at a node; `children` a look at
 //! all children; `options` the options of a choice; `costs` costs compared; `workspace` what a
@@ -24,7 +24,7 @@ pub use children::{
 };
 pub use costs::is_no_more;
 pub use evaluator::{
-    Bound, Evaluation, Evaluator, FirstLook, Interval, LowerBound, PastStop, Proof,
+    Bound, Charged, Evaluation, Evaluator, FirstLook, Interval, LowerBound, PastStop, Proof,
 };
 pub use looks::{Looked, Ready, Settling, Worth, look, open_cell, settle};
 pub use workspace::Workspace;

@@ -231,7 +231,8 @@ fn push_rates(
     requires { IsPrintable (length materials.now) unit.now }
     ensures { let names = material_names materials.now in
         let u = unit.now in
-        OnOk result (string_bytes text.new ≡ string_bytes text.old ++ named u.name (token_text (rates_tokens names u))) }
+        OnOk result (string_bytes text.new ≡ string_bytes text.old
+        ++ named u.name (token_text (rates_tokens names u))) }
 {
     push_name(text, &unit.name)?;
     push_side(text, materials, &unit.inputs)?;
@@ -373,7 +374,8 @@ fn push_exclusion_section(
     requires { Each (HasKnownMembers (length units.now)) exclusions.now }
     ensures { OnOk result
         (string_bytes text.new ≡ string_bytes text.old
-        ++ printed (exclusion_section (map (exclusion_line (unit_names units.now)) exclusions.now))) }
+        ++ printed (exclusion_section (map (exclusion_line (unit_names units.now))
+        exclusions.now))) }
 {
     if exclusions.is_empty() {
         return Ok(());

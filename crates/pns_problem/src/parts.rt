@@ -73,7 +73,8 @@ impl Parts {
         requires { u < length self.old.units }
         ensures { self.new ≡ record self.old {
           units =
-              slice_set self.old.units u (record (unit_at self.old u) { proportional = proportional });
+              slice_set self.old.units u
+              (record (unit_at self.old u) { proportional = proportional });
         } }
     {
         let unit = &mut self.units[u as usize];

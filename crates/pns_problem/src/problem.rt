@@ -142,7 +142,8 @@ impl Problem {
         requires valid { IsValid
             (record self.old {
               materials =
-                  slice_set self.old.materials x (record (material_at self.old x) { price = price });
+                  slice_set self.old.materials x
+                  (record (material_at self.old x) { price = price });
             }) }
         ensures { self.new ≡ record self.old {
           materials =
@@ -174,11 +175,13 @@ impl Problem {
         requires valid { IsValid
             (record self.old {
               units =
-                  slice_set self.old.units u (record (unit_at self.old u) { proportional = proportional });
+                  slice_set self.old.units u
+                  (record (unit_at self.old u) { proportional = proportional });
             }) }
         ensures { self.new ≡ record self.old {
           units =
-              slice_set self.old.units u (record (unit_at self.old u) { proportional = proportional });
+              slice_set self.old.units u
+              (record (unit_at self.old u) { proportional = proportional });
         } }
     {
         self.parts.set_proportional(u, proportional);

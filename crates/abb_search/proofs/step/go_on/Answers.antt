@@ -4,6 +4,7 @@ use Rattle.tree_rules.specs.Claim.{claimed_cost}
 use Rattle.node_evaluation.specs.Children.{claim_with}
 use Rattle.abb_search.specs.declared.rounds.Next.{Next}
 use Rattle.abb_search.specs.Rounds.{IsNextLeaf, IsStopLeaf, EndsWith, IsNext}
+use Rattle.abb_search.proofs.ChargingLemmas.{more_kept}
 use Rattle.abb_search.proofs.SameLemmas.{same_trans, err_same, err_trans, growing_same, tree_same}
 use Rattle.abb_search.proofs.StepLemmas.{step_same, told_same}
 use Rattle.abb_search.proofs.step.go_on.Goals as goal
@@ -38,12 +39,17 @@ branch_next-requires-clause-fits g c =
     (claimed_cost (claim_with s.best)) n) c.in-Branch.is c.in_ok-leaf.ensures.next in
     next.1
 
+pub shut_by_charges-requires-clause-going : goal.shut_by_charges-requires-clause-going
+shut_by_charges-requires-clause-going g c = c.in_ok-branch_next-in-Branch.ensures.more.going
+
 pub returns-in_ok-branch_next-in-Branch-clause-holds :
     goal.returns-in_ok-branch_next-in-Branch-clause-holds
 returns-in_ok-branch_next-in-Branch-clause-holds g c =
     step_same g.E.Evaluator.past c.args.site.now c.args.growing.now c.next_leaf.new.growing
-    c.branch_next.new.growing None c.next_leaf.ensures.same c.requires.growing.tree
-    c.in_ok-branch_next-in-Branch.ensures.more
+    c.shut_by_charges.new.growing None c.next_leaf.ensures.same c.requires.growing.tree
+    (more_kept g.E.Evaluator.past c.args.site.now c.next_leaf.new.growing
+    c.branch_next.new.growing c.shut_by_charges.new.growing
+    c.in_ok-branch_next-in-Branch.ensures.more c.shut_by_charges.ensures.keeps)
 
 pub returns-in_err-branch_next-in-Branch-clause-same :
     goal.returns-in_err-branch_next-in-Branch-clause-same

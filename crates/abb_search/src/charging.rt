@@ -1,0 +1,106 @@
+//! Open leaves that a charge shuts.
+ghost use Rattle.std.specs.Prelude.{◌≡◌, true, None, IfSome, slice_set};
+ghost use Rattle.link_lists.specs.Lists.{has, without};
+ghost use Rattle.slab.specs.Slab.{Updates};
+ghost use Rattle.search_tree.specs.Cells.{cell_at};
+ghost use Rattle.abb_search.specs.Growing.{IsGrowing, IsGoing};
+ghost use Rattle.abb_search.specs.Charging.{IsSameButLeaves, IsCharging, KeepsGoing, as_charged};
+
+use crate::growing::{Growing, key_at, node_at, reaches};
+use branch_tree::End;
+use node_evaluation::{Charged, Evaluator, Workspace};
+use pgraph::Site;
+
+/// Shuts an open leaf of the pool by a charge. Nothing is stored for the leaf after that, and no
+/// memory is taken.
+fn shut_charged(growing: &mut Growing, leaf: u32, charged: Charged)
+    requires { has growing.old.pool.leaves leaf ≡ true }
+    ensures frees { Updates growing.old.ready growing.new.ready
+        (cell_at growing.old.pool.payloads leaf).key None }
+    ensures cells { growing.new.pool.payloads
+        ≡ slice_set growing.old.pool.payloads leaf
+        (as_charged (cell_at growing.old.pool.payloads leaf) charged) }
+    ensures values { growing.new.pool.values ≡ growing.old.pool.values }
+    ensures leaves { growing.new.pool.leaves ≡ without leaf growing.old.pool.leaves }
+    ensures rest { IsSameButLeaves growing.old growing.new }
+{
+    growing.pool.is_pool();
+    growing.ready.try_remove(key_at(&growing.pool, leaf));
+    growing.pool.shut(leaf);
+    growing.pool.payload_mut(leaf).make_end(End::Charge {
+        scaled: charged.scaled,
+        covers: charged.covers,
+    });
+}
+
+/// A charge of the leaf of least value that is no less than the best network's cost, with the
+/// number of the leaf. If a charge is not needed, there is none: if no leaf is open, if no network
+/// was found yet, or if its cost is no more than the leaf's value.
+fn charge_least<E: Evaluator>(
+    workspace: &mut Workspace<E>,
+    site: &Site<'_>,
+    growing: &Growing,
+) -> Option<(u32, Charged)>
+    requires own { E.values site.now workspace.old.evaluator }
+    requires growing { IsGrowing E.past site.now growing.now }
+    ensures charged { IfSome result (λ c. IsCharging site.now growing.now c.0 c.1) }
+    ensures own { E.values site.now workspace.new.evaluator }
+    ensures makers { workspace.new.makers ≡ workspace.old.makers }
+{
+    site.problem();
+    growing.pool.is_pool();
+    let leaf = growing.pool.least()?;
+    let network = growing.best.as_ref()?;
+    if reaches(&growing.pool.value(leaf), network) {
+        return None;
+    }
+    let node = node_at(&growing.pool, leaf);
+    let charged = workspace
+        .evaluator
+        .charge(workspace.alloc, site, node, network)?;
+    Some((leaf, charged))
+}
+
+/// Shuts the leaf of least value, if a charge of it is found, and says whether it did.
+fn shut_least<E: Evaluator>(
+    workspace: &mut Workspace<E>,
+    site: &Site<'_>,
+    growing: &mut Growing,
+) -> bool
+    requires own { E.values site.now workspace.old.evaluator }
+    requires going { IsGoing E.past site.now growing.old }
+    ensures keeps { KeepsGoing E.past site.now growing.old growing.new }
+    ensures own { E.values site.now workspace.new.evaluator }
+    ensures makers { workspace.new.makers ≡ workspace.old.makers }
+{
+    if growing.stop.is_some() {
+        return false;
+    }
+    match charge_least(workspace, site, growing) {
+        None => false,
+        Some((leaf, charged)) => {
+            shut_charged(growing, leaf, charged);
+            true
+        }
+    }
+}
+
+/// Shuts the leaf of least value again and again, as long as charges are found. It is asked for
+/// after a turn, so that a leaf is tried when it comes next, with the best network so far.
+pub(crate) fn shut_by_charges<E: Evaluator>(
+    workspace: &mut Workspace<E>,
+    site: &Site<'_>,
+    growing: &mut Growing,
+)
+    requires own { E.values site.now workspace.old.evaluator }
+    requires going { IsGoing E.past site.now growing.old }
+    ensures keeps { KeepsGoing E.past site.now growing.old growing.new }
+    ensures own { E.values site.now workspace.new.evaluator }
+    ensures makers { workspace.new.makers ≡ workspace.old.makers }
+{
+    'leaves: for _ in 0..growing.nodes {
+        if !shut_least(workspace, site, growing) {
+            return;
+        }
+    }
+}

@@ -1,0 +1,18 @@
+//! Unproved proposals: multipliers and covers for the charge of a node.
+//!
+//! A proposal is found by the dual simplex method with two-sided ranges, in floating point, over a
+//! linear program: sizes of units, and for each free unit that owes a fixed cost whether it is
+//! built beyond the share of its capacity that it uses. Sets of units of which each structure has
+//! one become rows as soon as they are broken. It is safe, and it ends; nothing else is promised.
+//! `charges` judges every proposal exactly, so no result depends on one.
+//!
+//! Modules: `tableau` (rows, columns and turns), `program` (the program of a node), `breach` (sets
+//! that are broken), `propose` (whole numbers for a proposal).
+#![tactic(auto)]
+
+mod breach;
+mod program;
+mod propose;
+mod tableau;
+
+pub use propose::{ChargeGuess, Proposal};

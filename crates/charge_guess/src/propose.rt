@@ -1,0 +1,194 @@
+//! Whole numbers for the charge of a node.
+use crate::breach::{Built, Place, add_broken};
+use crate::program::{Owed, float_of, is_in, put_columns, put_rows, share_of};
+use crate::tableau::{Ends, Outcome, Tableau, Variable, magnitude};
+use basis_guess::{Numbers, Standing};
+use covers::Cover;
+use pgraph::Site;
+use std::alloc::{AllocError, Global};
+use std::num::saturating_f64_to_i64;
+use unit_sets::Node;
+
+/// Multipliers over a scale, one for each row of the node, and covers.
+#[derive(Drop)]
+pub struct Proposal {
+    pub d: i128,
+    pub ys: Vec<i128>,
+    pub covers: Vec<Cover>,
+    /// What the charge is near, in money.
+    pub near: f64,
+}
+
+/// The numbers of a problem, for proposals.
+#[derive(Drop)]
+pub struct ChargeGuess {
+    numbers: Numbers,
+    owed: Owed,
+    standings: Vec<Standing>,
+}
+
+// The scale of multipliers and weights.
+const SCALE: i128 = 1 << 20;
+
+const SCALE_FLOAT: f64 = 1048576.0;
+
+const MILLION: f64 = 1000000.0;
+
+// So often sets are looked for, and so many at most are kept.
+const ROUNDS: u32 = 12;
+
+const MOST_SETS: usize = 80;
+
+/// A little more than the cost over `d`, which is in 10^-18 of the money unit.
+fn enough_for(cost: i128, d: i128) -> f64 {
+    let money = float_of(cost) / float_of(d) / (MILLION * MILLION * MILLION);
+    money + magnitude(money) * 0.000001
+}
+
+impl ChargeGuess {
+    /// Numbers of the site's problem. `Err` comes only when memory runs out.
+    pub fn open(alloc: Global, site: &Site<'_>) -> Result<ChargeGuess, AllocError> {
+        let problem = site.problem();
+        let ones = vec![in alloc; 1i64; problem.materials().len()]?;
+        let numbers = Numbers::of(alloc, problem, &ones, 1, 1)?;
+        let owed = Owed::of(alloc, problem)?;
+        let standings = vec![in alloc; Standing::Apart; problem.materials().len()]?;
+        Ok(ChargeGuess {
+            numbers,
+            owed,
+            standings,
+        })
+    }
+
+    /// A proposal for the charge of the node, so that it reaches the cost over `d`. `Err` comes
+    /// only when memory runs out.
+    pub fn propose(
+        &mut self,
+        alloc: Global,
+        site: &Site<'_>,
+        node: &Node,
+        cost: i128,
+        d: i128,
+    ) -> Result<Option<Proposal>, AllocError> {
+        let enough = enough_for(cost, d);
+        let units = site.problem().units().len();
+        self.numbers.stand(node, &mut self.standings);
+        let mut tableau = Tableau::open(alloc);
+        put_columns(&mut tableau, &self.numbers, &self.owed, node, units)?;
+        tableau.make_room(alloc)?;
+        let rows = put_rows(
+            alloc,
+            &mut tableau,
+            &self.numbers,
+            node,
+            &self.standings,
+            units,
+        )?;
+        let mut shares = Vec::new(alloc);
+        for unit in 0..units {
+            let free = !is_in(node.inside, unit) && !is_in(node.outside, unit);
+            shares.push(if free {
+                share_of(&self.numbers, node, unit)
+            } else {
+                0.0
+            })?;
+        }
+        let mut covers = Vec::new(alloc);
+        for _ in 0..ROUNDS {
+            match tableau.search(enough) {
+                Outcome::Nothing => return Ok(None),
+                Outcome::Enough => break,
+                Outcome::Least => {}
+            }
+            let built = Built::of(alloc, &tableau, &shares)?;
+            let known = covers.len();
+            let place = Place {
+                graph: site.graph(),
+                node,
+                owed: &self.owed,
+                built: &built,
+            };
+            add_broken(place, &mut covers)?;
+            if covers.len() == known || covers.len() > MOST_SETS {
+                break;
+            }
+            for cover in covers.iter().skip(known) {
+                add_cover(alloc, &mut tableau, cover, &shares)?;
+            }
+        }
+        let near = tableau.cost();
+        let ys = multipliers(alloc, &tableau, rows.len())?;
+        weigh(&tableau, rows.len(), &mut covers);
+        let mut kept = Vec::new(alloc);
+        for cover in covers.iter() {
+            if cover.weight > 0 {
+                kept.push(*cover)?;
+            }
+        }
+        Ok(Some(Proposal {
+            d: SCALE,
+            ys,
+            covers: kept,
+            near,
+        }))
+    }
+}
+
+/// Adds the row of a set.
+fn add_cover(
+    alloc: Global,
+    tableau: &mut Tableau,
+    cover: &Cover,
+    shares: &[f64],
+) -> Result<(), AllocError> {
+    let mut sum = Vec::new(alloc);
+    for unit in cover.units {
+        push_built(&mut sum, unit as usize, shares, 1.0)?;
+    }
+    let low = match cover.beside {
+        Some(unit) => {
+            push_built(&mut sum, unit as usize, shares, -1.0)?;
+            0.0
+        }
+        None => 1.0,
+    };
+    tableau.add_row(alloc, &sum, Ends { low, high: 1000.0 })
+}
+
+/// Adds what of a unit is built.
+fn push_built(
+    sum: &mut Vec<(Variable, f64)>,
+    unit: usize,
+    shares: &[f64],
+    factor: f64,
+) -> Result<(), AllocError> {
+    if let Some(share) = shares.get(unit) {
+        sum.push((Variable::Size(unit), factor * *share))?;
+    }
+    sum.push((Variable::Built(unit), factor))?;
+    Ok(())
+}
+
+/// A multiplier for each row of the node.
+fn multipliers(alloc: Global, tableau: &Tableau, rows: usize) -> Result<Vec<i128>, AllocError> {
+    let mut ys = Vec::new(alloc);
+    for row in 0..rows {
+        let y = tableau.cost_of(Variable::Sum(row)) * MILLION * SCALE_FLOAT;
+        let half = if y < 0.0 { -0.5 } else { 0.5 };
+        ys.push(saturating_f64_to_i64(y + half) as i128)?;
+    }
+    Ok(ys)
+}
+
+/// Gives each set its weight.
+fn weigh(tableau: &Tableau, rows: usize, covers: &mut [Cover]) {
+    for (k, cover) in covers.iter_mut().enumerate() {
+        let weight = tableau.cost_of(Variable::Sum(rows.saturating_add(k)));
+        let whole = saturating_f64_to_i64(weight * MILLION * SCALE_FLOAT);
+        cover.weight = if whole > 0 {
+            (whole as i128).wrapping_mul(1_000_000_000_000)
+        } else {
+            0
+        };
+    }
+}

@@ -1,0 +1,282 @@
+//! A charge of a node: it is proposed, and then judged exactly.
+ghost use Rattle.std.specs.Prelude.{◌≡◌, ◌<◌, ◌≤◌, ◌≤ℤ◌, ℕ, pos, true, length, Some, IsTrue};
+ghost use Rattle.std.specs.Prelude.{IfOk, IfSome};
+ghost use Rattle.integer_laws.specs.Range.{InRange};
+ghost use Rattle.number_sets.specs.Sets.{has};
+ghost use Rattle.problem_rules.specs.Problem.{Problem};
+ghost use Rattle.pns_rules.specs.Shape.{shape_of};
+ghost use Rattle.pns_rules.specs.Ends.{IsSound};
+ghost use Rattle.pgraph.specs.Tables.{shape};
+ghost use Rattle.pgraph.specs.View.{node_of};
+ghost use Rattle.flow_rules.specs.Net.{net_of};
+ghost use Rattle.flow_rules.specs.Relaxed.{rows};
+ghost use Rattle.covers.specs.View.{cover_of, covers_of};
+ghost use Rattle.tree_rules.specs.Claim.{IsAtLeast};
+ghost use Rattle.tree_rules.specs.Leaf.{IsOneEach};
+ghost use Rattle.node_evaluation.specs.Evaluated.{IsChargeOf, cost_in};
+ghost use Rattle.flow_evaluator.specs.Charging.{IsFit, AreFit, IsOwnCharge, ReachesWith};
+
+use branch_tree::{Network, Scaled};
+use charge_guess::{ChargeGuess, Proposal};
+use charges::{Charge, Facts, charge_of, covers_node, is_cover};
+use covers::{Cover, Covers};
+use flow_program::sets_of;
+use node_evaluation::{Charged, is_no_more};
+use pgraph::{Graph, Site};
+use std::alloc::{AllocError, Global};
+use unit_sets::Node;
+
+/// When charges are proposed. It saves time, and nothing is promised of it.
+#[derive(Drop)]
+pub(crate) struct Charging {
+    guess: Option<ChargeGuess>,
+    // How many charges were asked for.
+    asked: u32,
+    // How many were proposed in vain since one was found.
+    vain: u32,
+}
+
+// So many charges are not proposed at first: a small search needs none.
+const FIRST: u32 = 75;
+
+// After so many in vain, only one in 8 is proposed.
+const MOST_VAIN: u32 = 40;
+
+// A million covers at most are kept.
+const MOST_COVERS: usize = 1_000_000;
+
+impl Charging {
+    /// Before anything is asked for.
+    pub(crate) fn none() -> Charging {
+        Charging {
+            guess: None,
+            asked: 0,
+            vain: 0,
+        }
+    }
+
+    /// Counts a charge that is asked for, and says whether it is to be proposed.
+    fn is_due(&mut self) -> bool {
+        self.asked = self.asked.wrapping_add(1);
+        self.asked > FIRST && (self.vain < MOST_VAIN || self.asked % 8 == 0)
+    }
+
+    /// What is proposed for the node, so that the charge reaches the network's cost.
+    fn propose(
+        &mut self,
+        alloc: Global,
+        site: &Site<'_>,
+        node: &Node,
+        network: &Network,
+    ) -> Result<Option<Proposal>, AllocError> {
+        if self.guess.is_none() {
+            self.guess = Some(ChargeGuess::open(alloc, site)?);
+        }
+        match &mut self.guess {
+            Some(guess) => guess.propose(alloc, site, node, network.cost(), network.d()),
+            None => Ok(None),
+        }
+    }
+
+    /// What is proposed, if its charge is no less than the network's cost.
+    fn proposed(
+        &mut self,
+        alloc: Global,
+        site: &Site<'_>,
+        node: &Node,
+        network: &Network,
+    ) -> Result<Option<Charged>, AllocError>
+        requires sound { IsSound (shape_of site.now) (node_of node.now) }
+        ensures { IfOk result
+            (λ found. IfSome found
+            (IsChargeOf site.now (node_of node.now) (cost_in network.now))) }
+    {
+        match self.propose(alloc, site, node, network)? {
+            Some(proposal) => judged(alloc, site, node, network, &proposal),
+            None => Ok(None),
+        }
+    }
+
+    /// A charge of the node that is no less than the network's cost, if one is found.
+    pub(crate) fn charge(
+        &mut self,
+        alloc: Global,
+        site: &Site<'_>,
+        node: &Node,
+        network: &Network,
+    ) -> Option<Charged>
+        requires sound { IsSound (shape_of site.now) (node_of node.now) }
+        ensures { IfSome result
+            (IsChargeOf site.now (node_of node.now) (cost_in network.now)) }
+    {
+        if !self.is_due() {
+            return None;
+        }
+        match self.proposed(alloc, site, node, network) {
+            Ok(Some(charged)) => {
+                self.vain = 0;
+                Some(charged)
+            }
+            _ => {
+                self.vain = self.vain.saturating_add(1);
+                None
+            }
+        }
+    }
+}
+
+/// How many rows the program of the node has.
+fn row_count(graph: &Graph, node: &Node) -> usize
+    requires { (u : ℕ) → has node.now.inside u ≡ true → u < (shape graph.now).units }
+    ensures { (p : Problem) → shape graph.now ≡ shape_of p
+        → result ≡ length (rows (net_of p) (node_of node.now)) }
+{
+    sets_of(graph, node).rows.count() as usize
+}
+
+/// The number, or 0 if it is out of range.
+fn in_range(number: i128) -> i128
+    ensures { InRange result }
+{
+    if number == i128::MIN { 0 } else { number }
+}
+
+/// The proposed multipliers over their scale. A number out of range becomes 0.
+fn scaled_by(alloc: Global, d: i128, ys: &[i128]) -> Result<Scaled, AllocError> {
+    let mut numbers = Vec::new(alloc);
+    numbers.push(in_range(d))?;
+    'multipliers: for y in ys {
+        numbers.push(in_range(*y))?;
+    }
+    Ok(Scaled::from_vec(numbers))
+}
+
+/// Whether the weight is not below 0.
+fn is_weight(weight: i128) -> bool
+    ensures in_range { IsTrue result → InRange weight }
+    ensures not_negative { IsTrue result → pos 0 ≤ℤ weight }
+{
+    weight >= 0
+}
+
+/// Whether each structure of the node has a unit of the set, and its weight is not below 0.
+fn is_fit(site: &Site<'_>, node: &Node, cover: &Cover) -> bool
+    ensures { IsTrue result → IsFit site.now (node_of node.now) (cover_of cover.now) }
+{
+    let graph = site.graph();
+    if !is_cover(graph, node, cover) {
+        return false;
+    }
+    if !is_weight(cover.weight) {
+        return false;
+    }
+    covers_node(graph, node, cover)
+}
+
+/// The proposed covers that are fit.
+fn fit_covers(
+    alloc: Global,
+    site: &Site<'_>,
+    node: &Node,
+    covers: &[Cover],
+) -> Result<Vec<Cover>, AllocError>
+    ensures { IfOk result (λ fit. AreFit site.now (node_of node.now) (covers_of fit.items)) }
+{
+    let mut fit = Vec::new(alloc);
+    'covers: for cover in covers {
+        if is_fit(site, node, cover) {
+            fit.push(*cover)?;
+        }
+    }
+    Ok(fit)
+}
+
+/// The charge of the node with the problem's own numbers, if no number of its sum overflows.
+fn own_charge(site: &Site<'_>, node: &Node, charge: &Charge<'_>) -> Option<i128>
+    requires known { (u : ℕ) → has node.now.inside u ≡ true → u < (shape_of site.now).units }
+    requires multipliers { IsOneEach site.now (node_of node.now) charge.now.ys.now }
+    requires few { length charge.now.covers.now ≤ 1000000 }
+    requires fit { AreFit site.now (node_of node.now) (covers_of charge.now.covers.now) }
+    ensures { IfSome result (IsOwnCharge site.now (node_of node.now) charge.now.d
+        charge.now.ys.now (covers_of charge.now.covers.now)) }
+{
+    let facts = Facts::own(site.problem());
+    match charge_of(site, node, &facts, charge) {
+        Ok(sum) => Some(sum),
+        Err(_) => None,
+    }
+}
+
+/// Whether the number over `d` is no less than the network's cost.
+fn is_reached(network: &Network, number: i128, d: i128) -> bool
+    requires { pos 1 ≤ℤ d }
+    ensures { IsTrue result → IsAtLeast (Some (cost_in network.now)) number d }
+{
+    network.is_sized();
+    is_no_more(network.cost(), network.d(), number, d)
+}
+
+/// Whether the charge of the node is no less than the network's cost.
+fn reaches(
+    site: &Site<'_>,
+    node: &Node,
+    network: &Network,
+    scaled: &Scaled,
+    covers: &[Cover],
+) -> bool
+    requires sound { IsSound (shape_of site.now) (node_of node.now) }
+    requires fit { AreFit site.now (node_of node.now) (covers_of covers.now) }
+    ensures { IsTrue result
+        → ReachesWith site.now (node_of node.now) (cost_in network.now) scaled.now
+        (covers_of covers.now) }
+{
+    let (d, ys) = (scaled.d(), scaled.ys());
+    let count = ys.len();
+    let rows = row_count(site.graph(), node);
+    if d < 1 || count != rows || covers.len() > MOST_COVERS {
+        return false;
+    }
+    match own_charge(site, node, &Charge { d, ys, covers }) {
+        Some(sum) => is_reached(network, sum, d),
+        None => false,
+    }
+}
+
+/// The charge with these multipliers and covers, if it is no less than the network's cost.
+fn charged_by(
+    site: &Site<'_>,
+    node: &Node,
+    network: &Network,
+    scaled: Scaled,
+    covers: Vec<Cover>,
+) -> Option<Charged>
+    requires sound { IsSound (shape_of site.now) (node_of node.now) }
+    requires fit { AreFit site.now (node_of node.now) (covers_of covers.items) }
+    ensures { IfSome result (IsChargeOf site.now (node_of node.now) (cost_in network.now)) }
+{
+    scaled.are_in_range();
+    if !reaches(site, node, network, &scaled, &covers) {
+        return None;
+    }
+    Some(Charged {
+        scaled,
+        covers: Covers::from_vec(covers),
+    })
+}
+
+/// What is proposed, as far as it is fit, if its charge is no less than the network's cost.
+fn judged(
+    alloc: Global,
+    site: &Site<'_>,
+    node: &Node,
+    network: &Network,
+    proposal: &Proposal,
+) -> Result<Option<Charged>, AllocError>
+    requires sound { IsSound (shape_of site.now) (node_of node.now) }
+    ensures { IfOk result
+        (λ found. IfSome found (IsChargeOf site.now (node_of node.now) (cost_in network.now))) }
+{
+    let scaled = scaled_by(alloc, proposal.d, &proposal.ys)?;
+    let covers = fit_covers(alloc, site, node, &proposal.covers)?;
+    Ok(charged_by(site, node, network, scaled, covers))
+}
