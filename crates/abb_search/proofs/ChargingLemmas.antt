@@ -11,7 +11,7 @@ use Rattle.problem_rules.specs.Problem.{Problem}
 use Rattle.pgraph.specs.View.{node_of}
 use Rattle.unit_sets.specs.declared.node.Node as starts
 use Rattle.mixed_numbers.specs.declared.number.Mixed.{Mixed}
-use Rattle.tree_rules.specs.Leaf.{charged, IsUntried}
+use Rattle.tree_rules.specs.Leaf.{charged}
 use Rattle.tree_rules.specs.Claim as claims
 use Rattle.tree_rules.specs.Claim.{claimed_cost, ClaimPasses}
 use Rattle.search_tree.specs.Cells.{Cell, no_cell, cell_at}
@@ -74,7 +74,6 @@ module _ (Past : PastPlaces) (p : Problem) (s new : Growing) (at : ℕ) (c : Cha
           (record {
             was_open = was_open;
             what = charged (handed_in c);
-            shut = λ (u : IsUntried (charged (handed_in c))). cc;
             passes = is.passes;
             key = (cell_at old_cells at).key;
             new_is = here;

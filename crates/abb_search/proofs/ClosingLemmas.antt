@@ -36,7 +36,7 @@ use Rattle.abb_search.specs.Worth.{refutation_in, refutation_of, is_settled, is_
 use Rattle.abb_search.specs.Growing.{ready_at, IsGrowingFor, IsSettledAt, reached_by}
 use Rattle.abb_search.specs.Closing.{AreBeaten, ProvesLeaf, RefutesLeaf, ShutsLeaf, IsShutBy}
 use Rattle.abb_search.specs.Closing.{IsInRange, AreInRange, RefutedShut, hand_of, refuted_by}
-use Rattle.abb_search.specs.Closing.{shut_by}
+use Rattle.abb_search.specs.Closing.{shut_by, IsToldOf}
 use Rattle.abb_search.proofs.ReadyLemmas.{open_leaf, leaf_open}
 use Rattle.abb_search.proofs.WorthLemmas.{mixed_positive, worth_under, worth_reached}
 
@@ -223,6 +223,10 @@ ShutsAt p s cost j m = ShutsLeaf p (Some cost) (cell_at s.pool.payloads j) m
 abbrev pub RefutesAt : Growing → ℕ → Option Shut → Type 0
 RefutesAt s j m = (m ≡ refuted_by (refutation_of (hand_of s j)))
     × AreInRange (refutation_of (hand_of s j))
+
+-- and what is said of each
+abbrev pub TellsAt : Growing → ℕ → Option Shut → Type 0
+TellsAt s j m = IsToldOf (hand_of s j) m
 
 -- nothing is refuted
 pub none_refuted : (s : Growing)

@@ -134,7 +134,7 @@ module _ (p : Problem) (s : Growing) (t : IsTreeKept p s) (at place : ℕ) (tree
       place count s.budget) (sym of.nodes_are)
       (kept_is_spent p (node_of s.start) (claim_with s.best) (claimed_cost (claim_with s.best))
       t.last s.pool.payloads of.order t.kept of.is_preorder at place count s.budget h.way
-      of.stands h.can h.least h.may (λ j lt e. h.pending j lt e refl) h.count_is h.over)
+      of.stands h.can h.least h.may (λ j lt e. h.pending j lt e tt) h.count_is h.over)
 
   head_is : (order : List ℕ) → IsPreorder s.pool.payloads (0 ∷ []) order
       → slice_get order 0 ≡ Some 0

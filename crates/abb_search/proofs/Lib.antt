@@ -1,3 +1,4 @@
+pub mod AnewLemmas
 pub mod ChargingLemmas
 pub mod ClosingLemmas
 pub mod EndLemmas

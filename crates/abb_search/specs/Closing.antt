@@ -1,5 +1,7 @@
--- What shuts the open leaves, if a network costs no more than any of them, or if they are refuted.
-use Rattle.std.specs.Prelude.{◌≡◌, ℕ, ◌+◌, ℤ, ◌<◌, true, length, cond, List, Option, Some, None}
+-- What shuts the open leaves, if a network costs no more than any of them, or if they are refuted;
+-- and what is said of them if the budget is spent.
+use Rattle.std.specs.Prelude.{◌≡◌, ◌⊎◌, ℕ, ◌+◌, ℤ, ◌<◌, Bool, true, false, length, cond, List}
+use Rattle.std.specs.Prelude.{Option, Some, None}
 use Rattle.std.specs.Prelude.{slice_index_or}
 use Rattle.std.specs.List.{slice_get}
 use Rattle.link_lists.specs.Lists.{has}
@@ -12,7 +14,7 @@ use Rattle.tree_rules.specs.Ways.{Way, options_at}
 use Rattle.tree_rules.specs.Tree.{leaf}
 use Rattle.tree_rules.specs.Claim as claims
 use Rattle.tree_rules.specs.Claim.{CostOver}
-use Rattle.tree_rules.specs.Leaf.{IsRefuted, IsBounded, Scaled}
+use Rattle.tree_rules.specs.Leaf.{IsRefuted, IsBounded, IsLow, Scaled}
 use Rattle.tree_rules.specs.Lean.{MayUndercut}
 use Rattle.tree_rules.specs.Stops.{IsPending, IsNextCount}
 use Rattle.search_tree.specs.declared.shut.Shut.{Shut}
@@ -23,6 +25,8 @@ use Rattle.turn_laws.specs.Turns.{CanBranch, IsLeastOpen}
 use Rattle.search_tree.specs.Growth.{is_open, EndsOpen}
 use Rattle.slab.specs.Slab.{get}
 use Rattle.node_evaluation.specs.declared.looks.Ready.{Ready}
+use Rattle.node_evaluation.specs.declared.looks.Worth.{Worth}
+use Rattle.node_evaluation.specs.declared.looks.Worth.TheVariants as worths
 use Rattle.node_evaluation.specs.declared.evaluator.Proof.{Proof}
 use Rattle.node_evaluation.specs.declared.evaluator.Proof.TheVariants as proofs
 use Rattle.node_evaluation.specs.Evaluated.{PastPlaces, cost_over, cost_in}
@@ -45,7 +49,7 @@ hand_of s j =
     cond (is_open (cell_at s.pool.payloads j).end) (get s.ready (cell_at s.pool.payloads j).key)
     None
 
--- ---- what shuts a leaf
+-- ---- what a leaf ends with
 
 -- these multipliers prove that no relaxed flows of the node cost less than what is claimed
 pub record ProvesLeaf (p : Problem) (claimed : Option CostOver) (n : Node) (m : Scaled) : Type
@@ -59,29 +63,45 @@ pub record RefutesLeaf (p : Problem) (n : Node) (ys : List ℤ) : Type 0 where
   pub refuted : IsRefuted p n ys
   pub multipliers : AllInRange ys
 
-abbrev pub ShutsNode : Problem → Option CostOver → Node → Shut → Type 0
-ShutsNode p claimed n (shuts.Bounded m) = ProvesLeaf p claimed n m
-ShutsNode p claimed n (shuts.Refuted ys) = RefutesLeaf p n ys
+-- these multipliers bound the node from below
+pub record BoundsLeaf (p : Problem) (n : Node) (m : Scaled) : Type 0 where
+  pub low : IsLow p n m
+  pub scale : InRange m.d
+  pub multipliers : AllInRange m.ys
 
--- a cell that is no open leaf may go without
+-- A leaf of the node may end with this, and then it passes. In a partial tree it may be a bound
+-- with which the leaf stays open.
+abbrev pub EndsNode : Bool → Problem → Option CostOver → Node → Shut → Type 0
+EndsNode partial p claimed n (shuts.Bounded m) = ProvesLeaf p claimed n m
+EndsNode partial p claimed n (shuts.Refuted ys) = RefutesLeaf p n ys
+EndsNode partial p claimed n (shuts.Low m) = (partial ≡ true) × BoundsLeaf p n m
+
+-- this shuts a leaf of the cell's node; a cell that is no open leaf may go without
 abbrev pub ShutsLeaf : Problem → Option CostOver → Cell → Option Shut → Type 0
 ShutsLeaf p claimed c None = EndsOpen c.end → ⊥
-ShutsLeaf p claimed c (Some m) = ShutsNode p claimed (place_of c) m
+ShutsLeaf p claimed c (Some m) = EndsNode false p claimed (place_of c) m
 
 -- all open leaves are shut, each by the item at its number
 abbrev pub ShutAll : Problem → Growing → Option CostOver → List (Option Shut) → Type 0
 ShutAll p s claimed ms = (j : ℕ) → j < length s.pool.payloads
     → ShutsLeaf p claimed (cell_at s.pool.payloads j) (slice_index_or ms j None)
 
--- what shuts a leaf shuts its node; no leaf has to be shut
-abbrev pub ShutsIfSome : Problem → Option CostOver → Node → Option Shut → Type 0
-ShutsIfSome p claimed n None = Unit {0}
-ShutsIfSome p claimed n (Some m) = ShutsNode p claimed n m
+-- a leaf may end with this in a partial tree; none has to
+abbrev pub EndsIfSome : Problem → Option CostOver → Node → Option Shut → Type 0
+EndsIfSome p claimed n None = Unit {0}
+EndsIfSome p claimed n (Some m) = EndsNode true p claimed n m
 
--- some leaves may be shut, each by the item at its number
-abbrev pub ShutSome : Problem → Growing → Option CostOver → List (Option Shut) → Type 0
-ShutSome p s claimed ms = (j : ℕ) → j < length s.pool.payloads
-    → ShutsIfSome p claimed (place_of (cell_at s.pool.payloads j)) (slice_index_or ms j None)
+-- open leaves may end with the items at their numbers in a partial tree
+abbrev pub EndSome : Problem → Growing → Option CostOver → List (Option Shut) → Type 0
+EndSome p s claimed ms = (j : ℕ) → j < length s.pool.payloads
+    → EndsIfSome p claimed (place_of (cell_at s.pool.payloads j)) (slice_index_or ms j None)
+
+-- an open leaf that ends with this is still open
+abbrev pub LeavesOpen : Option Shut → Type 0
+LeavesOpen None = Unit {0}
+LeavesOpen (Some (shuts.Bounded m)) = ⊥
+LeavesOpen (Some (shuts.Refuted ys)) = ⊥
+LeavesOpen (Some (shuts.Low m)) = Unit {0}
 
 -- ---- if a network costs no more than any open leaf
 
@@ -121,20 +141,43 @@ RefutedShut s ms =
     → (slice_index_or ms j None ≡ refuted_by (refutation_of (hand_of s j)))
     × AreInRange (refutation_of (hand_of s j))
 
+-- ---- what is said of the open leaves
+
+-- nothing, or its bound
+abbrev pub IsBoundOrNone : Scaled → Option Shut → Type 0
+IsBoundOrNone low m =
+    (m ≡ None) ⊎ ((m ≡ Some (shuts.Low low)) × InRange low.d × AllInRange low.ys)
+
+-- if the leaf is refuted, its refutation
+abbrev pub IsToldAs : Worth → Option Shut → Type 0
+IsToldAs (worths.AtLeast b) m = IsBoundOrNone b.scaled m
+IsToldAs (worths.Settled b) m = IsBoundOrNone b.scaled m
+IsToldAs (worths.Refuted ys) m = (m ≡ Some (shuts.Refuted ys)) × AllInRange ys
+
+-- a node that is no open leaf has nothing
+abbrev pub IsToldOf : Option Ready → Option Shut → Type 0
+IsToldOf None m = m ≡ None
+IsToldOf (Some r) m = IsToldAs r.worth m
+
+abbrev pub AreTold : Growing → List (Option Shut) → Type 0
+AreTold s ms =
+    (j : ℕ) → j < length s.pool.payloads → IsToldOf (hand_of s j) (slice_index_or ms j None)
+
 -- ---- the budget is spent
 
--- With some open leaves shut, all others are pending. The leaf is one of these, and a least open
--- one. It may undercut the cost, and the nodes with its children are more than the budget.
+-- Open leaves end with the items, and all that are still open are pending. The leaf is one of
+-- these, and a least open one. It may undercut the cost, and the nodes with its children are more
+-- than the budget.
 pub record IsSpentFor (p : Problem) (undercut : Option CostOver) (s : Growing)
     (ms : List (Option Shut)) (at options : ℕ) : Type 0 where
-  pub shut : ShutSome p s undercut ms
-  pub stays : slice_index_or ms at None ≡ None
+  pub ends : EndSome p s undercut ms
+  pub stays : LeavesOpen (slice_index_or ms at None)
   pub way : Way
   pub can : CanBranch p s.pool.payloads at way
   pub least : IsLeastOpen p s.pool.payloads at
   pub may : MayUndercut p undercut (place_of (cell_at s.pool.payloads at))
   pub pending : (j : ℕ) → j < length s.pool.payloads → EndsOpen (cell_at s.pool.payloads j).end
-      → slice_index_or ms j None ≡ None → IsPending p (place_of (cell_at s.pool.payloads j))
+      → LeavesOpen (slice_index_or ms j None) → IsPending p (place_of (cell_at s.pool.payloads j))
   pub count_is : IsNextCount (shape_of p) (place_of (cell_at s.pool.payloads at)) options
   pub as_many : options
       ≡ length (options_at (shape_of p) (place_of (cell_at s.pool.payloads at)) way)

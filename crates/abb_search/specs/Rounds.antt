@@ -62,8 +62,8 @@ IsClosing Past p s undercut at (Some closing) = ClosingHolds Past p s undercut c
 -- how the search ends
 abbrev pub EndsWith : PastPlaces → Problem → Growing → Option CostOver → Ending → Type 0
 EndsWith Past p s undercut (endings.Whole proofs) = ShutAll p s undercut proofs.items
-EndsWith Past p s undercut (endings.Spent at options refuted) =
-    IsSpentFor p undercut s refuted.items at options
+EndsWith Past p s undercut (endings.Spent at options ends) =
+    IsSpentFor p undercut s ends.items at options
 EndsWith Past p s undercut (endings.Past h) = IsStoppedAt Past p s h.leaf h.stop
 
 -- the leaf is open, its worth is settled, and it has relaxed flows that cost at most any other open

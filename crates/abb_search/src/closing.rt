@@ -1,4 +1,5 @@
-//! What shuts the open leaves, if a network costs no more than any of them, or if they are refuted.
+//! What shuts the open leaves, if a network costs no more than any of them, or if they are refuted;
+//! and what is said of them if the budget is spent.
 ghost use Rattle.std.specs.Prelude.{◌≡◌, ◌<◌, ℕ, false, None, length, IfOk, Option, option_copied};
 ghost use Rattle.pns_rules.specs.Shape.{shape_of};
 ghost use Rattle.pns_rules.specs.Ends.{IsSound, IsReduced};
@@ -10,9 +11,10 @@ ghost use Rattle.abb_search.specs.Worth.{refutation_in, refutation_of};
 ghost use Rattle.abb_search.specs.Growing.{IsGrowingFor};
 ghost use Rattle.abb_search.specs.Closing.{AreBeaten, IsShutBy, AreShutBy, IsInRange, AreInRange};
 ghost use Rattle.abb_search.specs.Closing.{RefutedShut, hand_of, refuted_by, shut_by};
+ghost use Rattle.abb_search.specs.Closing.{IsBoundOrNone, IsToldAs, IsToldOf, AreTold};
 
 use crate::growing::{Growing, StoppedLeaf, node_at, reaches};
-use branch_tree::{Multipliers, Network};
+use branch_tree::{Multipliers, Network, Scaled};
 use node_evaluation::{Bound, Evaluator, PastStop, Proof, Ready, Workspace, Worth};
 use pgraph::Site;
 use search_tree::{Shut, copy_multipliers, copy_scaled};
@@ -230,4 +232,57 @@ pub fn shut_refuted(alloc: Global, growing: &Growing) -> Result<Vec<Option<Shut>
         proofs.push(shut)?;
     }
     Ok(proofs)
+}
+
+/// The bound of an open leaf that stays open, if bounds are wanted.
+fn low_of(alloc: Global, scaled: &Scaled, wanted: bool) -> Result<Option<Shut>, AllocError>
+    ensures { IfOk result (IsBoundOrNone scaled.now) }
+{
+    if !wanted {
+        return Ok(None);
+    }
+    scaled.are_in_range();
+    let copy = copy_scaled(alloc, scaled)?;
+    Ok(Some(Shut::Low(copy)))
+}
+
+/// What is said of an open leaf of this worth: its refutation, or its bound, if bounds are wanted.
+fn told_as(alloc: Global, worth: &Worth, bounds: bool) -> Result<Option<Shut>, AllocError>
+    ensures { IfOk result (IsToldAs worth.now) }
+{
+    match worth {
+        Worth::AtLeast(bound) => low_of(alloc, &bound.scaled, bounds),
+        Worth::Settled(bound) => low_of(alloc, &bound.scaled, bounds),
+        Worth::Refuted(ys) => {
+            ys.are_in_range();
+            let copy = copy_multipliers(alloc, ys)?;
+            Ok(Some(Shut::Refuted(copy)))
+        }
+    }
+}
+
+/// What is said of a node, if it is an open leaf.
+fn told_of(alloc: Global, ready: Option<&Ready>, bounds: bool) -> Result<Option<Shut>, AllocError>
+    ensures { IfOk result (IsToldOf (option_copied ready.entry)) }
+{
+    match ready {
+        None => Ok(None),
+        Some(ready) => told_as(alloc, &ready.worth, bounds),
+    }
+}
+
+/// What is said of the open leaves if the budget is spent, by their numbers: the refutations of
+/// those that are refuted, and the bounds of the others. A root that is alone has no bound. `Err`
+/// comes if memory is refused.
+pub fn tell_leaves(alloc: Global, growing: &Growing) -> Result<Vec<Option<Shut>>, AllocError>
+    requires { growing.now.nodes ≡ length growing.now.pool.payloads }
+    ensures { IfOk result (λ told. AreTold growing.now told.items) }
+{
+    let bounds = growing.nodes > 1;
+    let mut told = Vec::new(alloc);
+    'leaves: for leaf in 0..growing.nodes {
+        let one = told_of(alloc, hand_at(growing, leaf), bounds)?;
+        told.push(one)?;
+    }
+    Ok(told)
 }

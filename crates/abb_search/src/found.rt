@@ -29,8 +29,8 @@ pub(crate) fn is_sized(best: &Option<Network>)
     }
 }
 
-/// The tree of the nodes, and the place of a node in it. An open leaf is shut if `proofs` has
-/// something at its number.
+/// The tree of the nodes, and the place of a node in it. An open leaf ends with the item of
+/// `proofs` at its number, if there is one.
 pub(crate) fn shut_tree(
     alloc: Global,
     growing: &Growing,

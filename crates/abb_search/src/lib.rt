@@ -11,15 +11,18 @@
 //! least cost overflows keeps a lower bound as its value.
 //!
 //! After a leaf was branched, the leaf of least value is shut if a charge of it is found that is no
-//! less than the best network's cost, and then the next one.
+//! less than the best network's cost, and then the next one. A search that runs to the end does so
+//! only if it has not ended without charges after a few hundred nodes. Then it starts anew, with the
+//! best network so far or a cheaper one that is guessed.
 //!
 //! Modules: `growing` the tree and how a leaf is branched; `charging` leaves that a charge shuts;
 //! `settling` the worth of leaves; `closing` what shuts leaves at the end; `hand` what is stored
 //! for them; `root` the root; `outcome` answers; `found` the tree of an answer; `rounds` which leaf
-//! is next; `step` a turn; `turns` the object; `runs` the loop; `watching` progress; `whole` the
-//! search over the simplex method.
+//! is next; `step` a turn; `turns` the object; `runs` the loop; `watching` progress; `anew` the
+//! start with charges; `whole` the search over the simplex method.
 #![tactic(auto)]
 
+mod anew;
 mod charging;
 mod closing;
 mod found;
@@ -35,6 +38,7 @@ mod turns;
 mod watching;
 mod whole;
 
+pub use anew::search_flows;
 pub use growing::{Growing, StoppedLeaf, branch_leaf, choice_at, node_at, take_stop};
 pub use outcome::{Found, Turn};
 pub use root::look_at_root;

@@ -53,7 +53,7 @@ fn root_pool(alloc: Global, cell: Cell, value: Mixed) -> Result<Pool<Cell>, Allo
     Ok(pool)
 }
 
-fn copy_of(node: &Node) -> Node
+pub(crate) fn copy_of(node: &Node) -> Node
     ensures { result ≡ node.now }
 {
     *node

@@ -12,7 +12,7 @@ ghost use Rattle.abb_search.specs.Growing.{choice_of, ready_at};
 ghost use Rattle.abb_search.specs.Rounds.{IsBeating, IsClosing, ClosingHolds, ValueUndercuts};
 ghost use Rattle.abb_search.specs.Rounds.{IsNextLeaf, IsNext, RoundHolds, ends_at, undercut_of};
 
-use crate::closing::{Closing, close_all, shut_refuted};
+use crate::closing::{Closing, close_all, shut_refuted, tell_leaves};
 use crate::growing::{
     Growing, StoppedLeaf, choice_at, is_over, is_within, leads, reached_at, reaches,
 };
@@ -39,11 +39,12 @@ pub enum Ending {
     /// This shuts each leaf that is open, by its number.
     Whole(Vec<Option<Shut>>),
     /// The leaf would be branched next, into too many children. The worth of each open leaf is
-    /// settled, and this shuts those that are refuted, by their numbers.
+    /// settled, and open leaves end with these, by their numbers: each that is refuted with its
+    /// refutation, and others with their bounds.
     Spent {
         leaf: u32,
         options: u128,
-        refuted: Vec<Option<Shut>>,
+        ends: Vec<Option<Shut>>,
     },
     /// A number overflows at an open leaf.
     Past(StoppedLeaf),
@@ -136,11 +137,11 @@ fn spend<E: Evaluator>(
         let stopped = settle_from(workspace, site, growing, first)?;
         return Ok(ends_at(stopped));
     }
-    let refuted = shut_refuted(workspace.alloc, growing)?;
+    let ends = tell_leaves(workspace.alloc, growing)?;
     Ok(Some(Next::End(Ending::Spent {
         leaf,
         options,
-        refuted,
+        ends,
     })))
 }
 

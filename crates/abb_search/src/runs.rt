@@ -22,7 +22,7 @@ use progress::{Effort, Watch};
 use unit_sets::Node;
 
 /// Takes turns until the search ends, or there is no memory.
-fn run<E: Evaluator, W: Watch>(
+pub(crate) fn run<E: Evaluator, W: Watch>(
     workspace: &mut Workspace<E>,
     site: &Site<'_>,
     root: Growing,
@@ -33,6 +33,7 @@ fn run<E: Evaluator, W: Watch>(
     requires going { IsGoing E.past site.now root }
     ensures found { IsFoundBy E.past site.now (node_of root.start) root.budget result }
     ensures against { IsAgainst root.best result }
+    ensures own { E.values site.now workspace.new.evaluator }
     ensures makers { workspace.new.makers.makers ≡ workspace.old.makers.makers }
 {
     let mut growing = root;

@@ -90,9 +90,9 @@ fn found_by<E: Evaluator>(
         Ending::Spent {
             leaf,
             options,
-            refuted,
+            ends,
         } => {
-            let placed = shut_tree(alloc, growing, &refuted, leaf)?;
+            let placed = shut_tree(alloc, growing, &ends, leaf)?;
             Ok(Some(Found::Spent {
                 best: growing.best.take(),
                 tree: placed.tree,

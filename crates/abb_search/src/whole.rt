@@ -12,8 +12,8 @@ ghost use Rattle.abb_search.specs.Answers.{IsAgainst};
 ghost use Rattle.abb_search.specs.Found.{IsFound};
 ghost use Rattle.abb_search.specs.Searched.{opened};
 
+use crate::anew::search_flows;
 use crate::outcome::Found;
-use crate::runs::search_with;
 use crate::turns::SearchWith;
 use branch_tree::Network;
 use flow_evaluator::FlowEvaluator;
@@ -117,7 +117,7 @@ pub fn search_watched<W: Watch>(
     ensures against { IsAgainst best result }
 {
     match workspace_of(alloc, site) {
-        Ok(mut workspace) => search_with(&mut workspace, site, start, effort, best),
+        Ok(mut workspace) => search_flows(&mut workspace, site, start, effort, best),
         Err(_) => Found::Memory,
     }
 }

@@ -31,7 +31,7 @@ impl Built {
         Ok(Built { parts })
     }
 
-    fn by(&self, unit: usize) -> f64 {
+    pub(crate) fn by(&self, unit: usize) -> f64 {
         match self.parts.get(unit) {
             Some(part) => *part,
             None => 0.0,
@@ -113,7 +113,7 @@ fn try_set(
 }
 
 /// The units that make a material; none if the plant does not have it.
-fn makers_of(graph: &Graph, material: u32) -> UnitSet {
+pub(crate) fn makers_of(graph: &Graph, material: u32) -> UnitSet {
     if material < graph.material_count() {
         graph.producers(material)
     } else {
@@ -122,7 +122,7 @@ fn makers_of(graph: &Graph, material: u32) -> UnitSet {
 }
 
 /// The units that use a material; none if the plant does not have it.
-fn users_of(graph: &Graph, material: u32) -> UnitSet {
+pub(crate) fn users_of(graph: &Graph, material: u32) -> UnitSet {
     if material < graph.material_count() {
         graph.consumers(material)
     } else {

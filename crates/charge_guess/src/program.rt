@@ -45,6 +45,11 @@ impl Owed {
         Ok(Owed { amounts })
     }
 
+    /// How many units there are.
+    pub(crate) fn count(&self) -> usize {
+        self.amounts.len()
+    }
+
     pub(crate) fn by(&self, unit: usize) -> f64 {
         match self.amounts.get(unit) {
             Some(amount) => *amount,
@@ -113,7 +118,7 @@ pub(crate) fn put_columns(
     Ok(())
 }
 
-/// Adds the rows of the materials; the K-th row is that of the K-th material in `rows`.
+/// Adds the rows of the materials that the node has.
 pub(crate) fn put_rows(
     alloc: Global,
     tableau: &mut Tableau,
@@ -121,8 +126,7 @@ pub(crate) fn put_rows(
     node: &Node,
     standings: &[Standing],
     units: usize,
-) -> Result<Vec<usize>, AllocError> {
-    let mut rows = Vec::new(alloc);
+) -> Result<(), AllocError> {
     for (material, standing) in standings.iter().enumerate() {
         if *standing == Standing::Apart {
             continue;
@@ -149,7 +153,6 @@ pub(crate) fn put_rows(
                 high: float_of(ends.high) / (MILLION * MILLION),
             },
         )?;
-        rows.push(material)?;
     }
-    Ok(rows)
+    Ok(())
 }

@@ -1,5 +1,6 @@
 //! Whole numbers for the charge of a node.
 use crate::breach::{Built, Place, add_broken};
+use crate::knees::{Knee, add_knees};
 use crate::program::{Owed, float_of, is_in, put_columns, put_rows, share_of};
 use crate::tableau::{Ends, Outcome, Tableau, Variable, magnitude};
 use basis_guess::{Numbers, Standing};
@@ -60,6 +61,39 @@ impl ChargeGuess {
         })
     }
 
+    /// The program of the node without sets, and how many rows it has.
+    pub(crate) fn program(
+        &mut self,
+        alloc: Global,
+        node: &Node,
+    ) -> Result<(Tableau, usize), AllocError> {
+        let units = self.owed.count();
+        self.numbers.stand(node, &mut self.standings);
+        let mut tableau = Tableau::open(alloc);
+        put_columns(&mut tableau, &self.numbers, &self.owed, node, units)?;
+        tableau.make_room(alloc)?;
+        put_rows(
+            alloc,
+            &mut tableau,
+            &self.numbers,
+            node,
+            &self.standings,
+            units,
+        )?;
+        let rows = tableau.rows.len();
+        Ok((tableau, rows))
+    }
+
+    /// What the fixed cost of a free unit adds for a size of 1 at the program's own slope.
+    pub(crate) fn slope_of(&self, node: &Node, unit: usize) -> f64 {
+        self.owed.by(unit) * share_of(&self.numbers, node, unit)
+    }
+
+    /// What a unit owes if it is built.
+    pub(crate) fn owed_by(&self, unit: usize) -> f64 {
+        self.owed.by(unit)
+    }
+
     /// A proposal for the charge of the node, so that it reaches the cost over `d`. `Err` comes
     /// only when memory runs out.
     pub fn propose(
@@ -71,19 +105,8 @@ impl ChargeGuess {
         d: i128,
     ) -> Result<Option<Proposal>, AllocError> {
         let enough = enough_for(cost, d);
-        let units = site.problem().units().len();
-        self.numbers.stand(node, &mut self.standings);
-        let mut tableau = Tableau::open(alloc);
-        put_columns(&mut tableau, &self.numbers, &self.owed, node, units)?;
-        tableau.make_room(alloc)?;
-        let rows = put_rows(
-            alloc,
-            &mut tableau,
-            &self.numbers,
-            node,
-            &self.standings,
-            units,
-        )?;
+        let units = self.owed.count();
+        let (mut tableau, rows) = self.program(alloc, node)?;
         let mut shares = Vec::new(alloc);
         for unit in 0..units {
             let free = !is_in(node.inside, unit) && !is_in(node.outside, unit);
@@ -94,6 +117,8 @@ impl ChargeGuess {
             })?;
         }
         let mut covers = Vec::new(alloc);
+        let mut cover_rows = Vec::new(alloc);
+        let mut knees = Vec::new(alloc);
         for _ in 0..ROUNDS {
             match tableau.search(enough) {
                 Outcome::Nothing => return Ok(None),
@@ -109,16 +134,21 @@ impl ChargeGuess {
                 built: &built,
             };
             add_broken(place, &mut covers)?;
-            if covers.len() == known || covers.len() > MOST_SETS {
+            let more = add_knees(alloc, &mut tableau, &self.numbers, &self.standings, place)?;
+            if covers.len() > MOST_SETS || (covers.len() == known && more.is_empty()) {
                 break;
             }
+            for knee in more.iter() {
+                knees.push(*knee)?;
+            }
             for cover in covers.iter().skip(known) {
+                cover_rows.push(tableau.rows.len())?;
                 add_cover(alloc, &mut tableau, cover, &shares)?;
             }
         }
         let near = tableau.cost();
-        let ys = multipliers(alloc, &tableau, rows.len())?;
-        weigh(&tableau, rows.len(), &mut covers);
+        let ys = multipliers(alloc, &tableau, rows, &knees)?;
+        weigh(&tableau, &cover_rows, &mut covers);
         let mut kept = Vec::new(alloc);
         for cover in covers.iter() {
             if cover.weight > 0 {
@@ -169,11 +199,22 @@ fn push_built(
     Ok(())
 }
 
-/// A multiplier for each row of the node.
-fn multipliers(alloc: Global, tableau: &Tableau, rows: usize) -> Result<Vec<i128>, AllocError> {
+/// A multiplier for each row of the node: its own, with those of the material's other rows.
+fn multipliers(
+    alloc: Global,
+    tableau: &Tableau,
+    rows: usize,
+    knees: &[Knee],
+) -> Result<Vec<i128>, AllocError> {
     let mut ys = Vec::new(alloc);
     for row in 0..rows {
-        let y = tableau.cost_of(Variable::Sum(row)) * MILLION * SCALE_FLOAT;
+        let mut own = tableau.cost_of(Variable::Sum(row));
+        for knee in knees {
+            if knee.own == row {
+                own = own + tableau.cost_of(Variable::Sum(knee.row));
+            }
+        }
+        let y = own * MILLION * SCALE_FLOAT;
         let half = if y < 0.0 { -0.5 } else { 0.5 };
         ys.push(saturating_f64_to_i64(y + half) as i128)?;
     }
@@ -181,9 +222,9 @@ fn multipliers(alloc: Global, tableau: &Tableau, rows: usize) -> Result<Vec<i128
 }
 
 /// Gives each set its weight.
-fn weigh(tableau: &Tableau, rows: usize, covers: &mut [Cover]) {
-    for (k, cover) in covers.iter_mut().enumerate() {
-        let weight = tableau.cost_of(Variable::Sum(rows.saturating_add(k)));
+fn weigh(tableau: &Tableau, rows: &[usize], covers: &mut [Cover]) {
+    for (row, cover) in rows.iter().zip(covers) {
+        let weight = tableau.cost_of(Variable::Sum(*row));
         let whole = saturating_f64_to_i64(weight * MILLION * SCALE_FLOAT);
         cover.weight = if whole > 0 {
             (whole as i128).wrapping_mul(1_000_000_000_000)

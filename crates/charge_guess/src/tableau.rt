@@ -132,6 +132,18 @@ impl Tableau {
         sum
     }
 
+    /// Adds so much to the cost of each size, by the number of its unit. All sizes are outside the
+    /// basis.
+    pub(crate) fn raise_costs(&mut self, more: &[f64]) {
+        for column in self.columns.iter_mut() {
+            if let Variable::Size(unit) = column.variable {
+                if let Some(amount) = more.get(unit) {
+                    column.cost = column.cost + *amount;
+                }
+            }
+        }
+    }
+
     /// The value of a variable.
     pub(crate) fn value_of(&self, variable: Variable) -> f64 {
         for column in self.columns.iter() {

@@ -37,7 +37,7 @@ pub fn scale_of(places: u32) -> u64
 }
 
 /// The whole part of a quotient over 2 * 10^6 * half.
-fn whole_part(quotient: u128, half: u64) -> u128
+pub(crate) fn whole_part(quotient: u128, half: u64) -> u128
     requires { 0 < half }
     ensures { result ≡ quotient / (2000000 * half) }
 {

@@ -24,23 +24,33 @@ use flow_program::sets_of;
 use node_evaluation::{Charged, is_no_more};
 use pgraph::{Graph, Site};
 use std::alloc::{AllocError, Global};
-use unit_sets::Node;
+use unit_sets::{Node, UnitSet};
 
 /// When charges are proposed. It saves time, and nothing is promised of it.
 #[derive(Drop)]
 pub(crate) struct Charging {
     guess: Option<ChargeGuess>,
+    // So many charges are not proposed at first.
+    passed: u32,
     // How many charges were asked for.
     asked: u32,
     // How many were proposed in vain since one was found.
     vain: u32,
+    // How many nodes were looked at, and at which one a cheap network is looked for next.
+    looked: u32,
+    next: u32,
 }
 
-// So many charges are not proposed at first: a small search needs none.
+// So many charges are not proposed at first, unless another number is given: a small search needs
+// none.
 const FIRST: u32 = 75;
 
 // After so many in vain, only one in 8 is proposed.
 const MOST_VAIN: u32 = 40;
+
+// At this node a cheap network is looked for, and then at one whose number is half as much again,
+// and so on.
+const FIRST_HUNT: u32 = 8;
 
 // A million covers at most are kept.
 const MOST_COVERS: usize = 1_000_000;
@@ -50,15 +60,82 @@ impl Charging {
     pub(crate) fn none() -> Charging {
         Charging {
             guess: None,
+            passed: FIRST,
             asked: 0,
             vain: 0,
+            looked: 0,
+            next: FIRST_HUNT,
         }
+    }
+
+    /// From now on so many charges are not proposed at first.
+    pub(crate) fn pass_first(&mut self, count: u32) {
+        self.passed = count;
+        self.asked = 0;
+        self.vain = 0;
+        self.looked = 0;
+        self.next = FIRST_HUNT;
+    }
+
+    /// Counts a node that is looked at, and says whether a cheap network is to be looked for there.
+    /// None is, unless all charges are proposed.
+    pub(crate) fn is_hunt_due(&mut self) -> bool {
+        if self.passed > 0 {
+            return false;
+        }
+        self.looked = self.looked.saturating_add(1);
+        if self.looked < self.next {
+            return false;
+        }
+        let half = self.looked / 2;
+        self.next = self.looked.saturating_add(half).saturating_add(1);
+        true
     }
 
     /// Counts a charge that is asked for, and says whether it is to be proposed.
     fn is_due(&mut self) -> bool {
-        self.asked = self.asked.wrapping_add(1);
-        self.asked > FIRST && (self.vain < MOST_VAIN || self.asked % 8 == 0)
+        self.asked = self.asked.saturating_add(1);
+        self.asked > self.passed && (self.vain < MOST_VAIN || self.asked % 8 == 0)
+    }
+
+    /// Opens the guess, if it is not open yet.
+    fn open_guess(&mut self, alloc: Global, site: &Site<'_>) -> Result<(), AllocError> {
+        if self.guess.is_none() {
+            self.guess = Some(ChargeGuess::open(alloc, site)?);
+        }
+        Ok(())
+    }
+
+    /// The units of a network that is likely to be cheap at the node, if there is a guess. It
+    /// begins with those of a network that is known.
+    pub(crate) fn cheap_units(
+        &mut self,
+        alloc: Global,
+        site: &Site<'_>,
+        node: &Node,
+        known: UnitSet,
+    ) -> Result<Option<UnitSet>, AllocError> {
+        self.open_guess(alloc, site)?;
+        match &mut self.guess {
+            Some(guess) => guess.cheap_units(alloc, site.graph(), node, known),
+            None => Ok(None),
+        }
+    }
+
+    /// The units of a structure of the node after exchanges of those of the set, if there is a
+    /// guess.
+    pub(crate) fn exchanged_units(
+        &mut self,
+        alloc: Global,
+        site: &Site<'_>,
+        node: &Node,
+        known: UnitSet,
+    ) -> Result<Option<UnitSet>, AllocError> {
+        self.open_guess(alloc, site)?;
+        match &mut self.guess {
+            Some(guess) => guess.exchanged_units(alloc, site.graph(), node, known),
+            None => Ok(None),
+        }
     }
 
     /// What is proposed for the node, so that the charge reaches the network's cost.
@@ -69,9 +146,7 @@ impl Charging {
         node: &Node,
         network: &Network,
     ) -> Result<Option<Proposal>, AllocError> {
-        if self.guess.is_none() {
-            self.guess = Some(ChargeGuess::open(alloc, site)?);
-        }
+        self.open_guess(alloc, site)?;
         match &mut self.guess {
             Some(guess) => guess.propose(alloc, site, node, network.cost(), network.d()),
             None => Ok(None),

@@ -139,6 +139,13 @@ impl FlowEvaluator {
         })
     }
 
+    /// From now on so many charges are not proposed at first: with 0 all are, with `u32::MAX` none.
+    pub fn pass_first_charges(&mut self, count: u32)
+        ensures { self.new ≡ self.old }
+    {
+        self.charging.pass_first(count);
+    }
+
     /// Whether there is room for the nodes of the problem.
     fn has_room_for(&self, problem: &Problem) -> bool
         ensures units { IsTrue result → self.now.units ≡ length problem.now.units }
@@ -196,6 +203,71 @@ impl FlowEvaluator {
                 self.tries.keep_vain();
                 Ok(None)
             }
+        }
+    }
+
+    /// A network at the node whose units are guessed, if its flows are certified. The guess begins
+    /// with the units of a network that is known.
+    pub fn guessed_network(
+        &mut self,
+        alloc: Global,
+        site: &Site<'_>,
+        node: Node,
+        known: UnitSet,
+    ) -> Result<Option<Network>, AllocError>
+        requires own { IsFor site.now self.old }
+        requires sound { IsSound (shape_of site.now) (node_of node) }
+        ensures at_hand { IfOk result (λ found. IfSome found (IsAtHand site.now (node_of node))) }
+        ensures own { IsFor site.now self.new }
+    {
+        match self.charging.cheap_units(alloc, site, &node, known)? {
+            Some(units) => self.network_with(alloc, site, &node, units),
+            None => Ok(None),
+        }
+    }
+
+    /// A network at the node that has these units and as few more as it takes, if its flows are
+    /// certified.
+    fn network_with(
+        &mut self,
+        alloc: Global,
+        site: &Site<'_>,
+        node: &Node,
+        units: UnitSet,
+    ) -> Result<Option<Network>, AllocError>
+        requires own { IsFor site.now self.old }
+        requires sound { IsSound (shape_of site.now) (node_of node.now) }
+        ensures at_hand { IfOk result
+            (λ found. IfSome found (IsAtHand site.now (node_of node.now))) }
+        ensures own { IsFor site.now self.new }
+    {
+        match structure_with(site.graph(), node, units, UnitSet::empty()) {
+            Some(set) => self.network_of(alloc, site, node, set),
+            None => Ok(None),
+        }
+    }
+
+    /// A network at the node that was looked at or evaluated last, after exchanges of units, if its
+    /// flows are certified.
+    fn exchanged_network(
+        &mut self,
+        alloc: Global,
+        site: &Site<'_>,
+        node: &Node,
+    ) -> Result<Option<Network>, AllocError>
+        requires own { IsFor site.now self.old }
+        requires sound { IsSound (shape_of site.now) (node_of node.now) }
+        ensures at_hand { IfOk result
+            (λ found. IfSome found (IsAtHand site.now (node_of node.now))) }
+        ensures own { IsFor site.now self.new }
+    {
+        let running = running_units(site, node, self.sizes());
+        let Some(set) = structure_with(site.graph(), node, running.units, UnitSet::empty()) else {
+            return Ok(None);
+        };
+        match self.charging.exchanged_units(alloc, site, node, set)? {
+            Some(units) => self.network_with(alloc, site, node, units),
+            None => Ok(None),
         }
     }
 
@@ -387,6 +459,9 @@ impl Evaluator for FlowEvaluator {
         site: &Site<'_>,
         node: Node,
     ) -> Result<Option<Network>, AllocError> {
+        if self.charging.is_hunt_due() {
+            return self.exchanged_network(alloc, site, &node);
+        }
         if !self.tries.is_due() {
             return Ok(None);
         }

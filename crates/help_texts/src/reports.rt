@@ -47,20 +47,25 @@ pub fn report_page() -> &'static [u8]
 Says what the tree proves, and shows the network of its claim to people: units,
 materials and money in one year.
   FILE  the plant, PNS_problem_v1
-  TREE  a tree text, as solve prints it
+  TREE  a tree text, as solve prints it, or a ranking, as rank prints it
 Prints a line that begins with PROVED (check accepts the tree), NOT FINISHED
 (nodes are open) or NOT PROVED (node N fails, and why); then a table of units,
 one of materials and one of sums. Costs are above 0, incomes below; numbers with
 more than 6 digits show 6. limit names the bound that an amount is at: max, min,
 fixed (both), idle (built, but of size 0), or UNBOUNDED?, at 1000000000.
+NOT FINISHED says, if each open node has a bound, what no network costs less
+than (rounded down), and the gap to the best one in per cent (rounded up).
 If no network meets the bounds, those that clash follow: what the multipliers of
 the first ten refuted leaves use.
+Of a ranking a table of its networks comes first: what each costs above the best
+one, the units that it takes in (+) and leaves out (-) against it, and those of
+size 0. PROVED means then that rankcheck accepts; all after it is the best one.
 Ends with
   0   The whole text was printed. Line 1 says what is proved.
   1   refused claim WHY: the network of the claim breaks an axiom (axiom) or an
       exclusion (exclusion), or its sizes break a bound (flows), or its cost is
       wrong (cost), or a number is too large (sum). Is FILE the plant that TREE
-      was made for?
+      was made for? refused network K WHY: network K of a ranking fails so.
   10  tree line L KIND: line L of TREE has a fault; pns help KIND explains it.
       Print the text again.
   2, 3, 6, 7, 8, 12, 20: see pns help status
@@ -77,15 +82,18 @@ pub fn json_page() -> &'static [u8]
     b"pns json FILE TREE
 Says what pns report says, as one JSON object for programs.
   FILE  the plant, PNS_problem_v1
-  TREE  a tree text, as solve prints it
+  TREE  a tree text, as solve prints it, or a ranking, as rank prints it
 Prints the keys verdict (proved, not finished or not proved, then with the node
 that fails and why) and claim; if the claim has a network, also counts,
 payout_period, units, materials, money, paid_once and left_out. Each number is
 there twice: value has 17 digits, exact is a fraction; both are null if it
 overflows 128 bits. A line has one unit or one material.
+Of a ranking claim is ranking, asked says how many were wanted, and networks has
+place, cost, above, share_above, taken_in, left_out, idle of each. The keys from
+counts on are those of the best one.
 Ends with
   0   The whole text was printed. The verdict says what is proved.
-  1   refused claim WHY: as of pns report
+  1   refused claim WHY, refused network K WHY: as of pns report
   10  tree line L KIND: line L of TREE has a fault; pns help KIND explains it.
       Print the text again.
   2, 3, 6, 7, 8, 12, 20: see pns help status

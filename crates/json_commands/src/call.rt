@@ -1,19 +1,15 @@
-//! The command `json`.
-ghost use Rattle.std.specs.Prelude.{◌≡◌, ◌<◌, ◌^◌, length};
+//! The object of a tree.
+ghost use Rattle.std.specs.Prelude.{◌<◌, ◌^◌, length};
 ghost use Rattle.branch_tree.specs.View.{claim_of};
-ghost use Rattle.studio_rules.specs.Reading.{TwoFilesSay};
-ghost use Rattle.studio_rules.specs.TreeFile.{OnTree};
 ghost use Rattle.studio_rules.specs.Json.{JsonWork};
-ghost use Rattle.studio_rules.specs.Ending.{Ends, Says, Tells};
-ghost use Rattle.studio_rules.specs.Keeps.{Keeps};
+ghost use Rattle.studio_rules.specs.Ending.{Ends, Tells};
 
 use crate::text::json_text;
 use branch_tree::{Claim, Tree};
-use command_files::{problem_of, tree_of};
 use endings::say::{say_made, say_memory};
 use network_commands::say_refused;
 use pgraph::{Graph, Site};
-use pns_io::{Outputs, Shelf, Sink};
+use pns_io::{Outputs, Sink};
 use pns_problem::Problem;
 use std::alloc::Global;
 use studio_rules::Status;
@@ -40,7 +36,7 @@ fn say_judged<K: Sink, E: Sink>(
 }
 
 /// The same, once the problem's graph is made.
-fn say_stated<K: Sink, E: Sink>(
+pub fn say_stated<K: Sink, E: Sink>(
     alloc: Global,
     out: &mut Outputs<K, E>,
     problem: &Problem,
@@ -56,43 +52,4 @@ fn say_stated<K: Sink, E: Sink>(
     };
     let site = Site::of(problem, &graph);
     say_judged(alloc, out, &site, claim, tree)
-}
-
-fn say_tree<F: Shelf, K: Sink, E: Sink>(
-    alloc: Global,
-    problem: &Problem,
-    name: &str,
-    shelf: &mut F,
-    out: &mut Outputs<K, E>,
-) -> Status
-    ensures ends { Ends
-        (Says (OnTree JsonWork (F.state shelf.old).held name.now problem.now)
-        (λ other. other ≡ name.now) (F.state shelf.old) (F.state shelf.new)) out.old out.new
-        result }
-    ensures keeps { Keeps (F.state shelf.old) (F.state shelf.new) }
-{
-    match tree_of(alloc, shelf, out, name, problem) {
-        Ok((claim, tree)) => say_stated(alloc, out, problem, &claim, &tree),
-        Err(status) => status,
-    }
-}
-
-/// Prints for programs what the tree of the one file proves on the problem of the other, and the
-/// facts of the network that it claims.
-pub fn json<F: Shelf, K: Sink, E: Sink>(
-    alloc: Global,
-    file: &str,
-    tree: &str,
-    shelf: &mut F,
-    out: &mut Outputs<K, E>,
-) -> Status
-    ensures ends { Ends
-        (TwoFilesSay (OnTree JsonWork) file.now tree.now (F.state shelf.old) (F.state shelf.new))
-        out.old out.new result }
-    ensures keeps { Keeps (F.state shelf.old) (F.state shelf.new) }
-{
-    match problem_of(alloc, shelf, out, file) {
-        Ok(problem) => say_tree(alloc, &problem, tree, shelf, out),
-        Err(status) => status,
-    }
 }

@@ -15,7 +15,7 @@ pub(crate) fn verdict_word(verdict: Verdict) -> &'static str
 {
     match verdict {
         Verdict::Proved => "proved",
-        Verdict::Unfinished => "not finished",
+        Verdict::Unfinished { .. } => "not finished",
         Verdict::Fails { .. } => "not proved",
     }
 }
@@ -24,7 +24,7 @@ fn node_json(alloc: Global, verdict: Verdict) -> Result<Json, AllocError>
     ensures { IfOk result (λ json. json ≡ rules.node_json verdict) }
 {
     match verdict {
-        Verdict::Proved | Verdict::Unfinished => Json::null(alloc),
+        Verdict::Proved | Verdict::Unfinished { .. } => Json::null(alloc),
         Verdict::Fails { node, .. } => Json::count(alloc, u64::from(node)),
     }
 }
@@ -41,7 +41,7 @@ fn why_json(alloc: Global, verdict: Verdict) -> Result<Json, AllocError>
     ensures { IfOk result (λ json. json ≡ rules.why_json verdict) }
 {
     match verdict {
-        Verdict::Proved | Verdict::Unfinished => Json::null(alloc),
+        Verdict::Proved | Verdict::Unfinished { .. } => Json::null(alloc),
         Verdict::Fails { why, .. } => Json::string(alloc, why_word(why)),
     }
 }

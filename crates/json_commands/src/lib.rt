@@ -3,12 +3,14 @@
 //! It prints what a tree proves of its claim, and the facts of the network of the claim, as one
 //! JSON object. `Json` of `studio_rules` has its lines: the head, and then those of `json_text`.
 //!
-//! Modules: `head`, the verdict and the claim; `text`, the whole; `call`, the way from the files to
-//! the text.
+//! `report_commands` reads the files.
+//!
+//! Modules: `head`, the verdict and the claim; `text`, the whole; `call`, from the tree to the
+//! text.
 #![tactic(auto)]
 
 mod call;
 mod head;
 mod text;
 
-pub use call::json;
+pub use call::say_stated;

@@ -1,3 +1,4 @@
 pub mod Facts
 pub mod Json
+pub mod Ranked
 pub mod Value

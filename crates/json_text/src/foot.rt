@@ -46,12 +46,18 @@ fn total(problem: &Problem, network: &Network) -> Number
     claimed(network).times(&year(problem))
 }
 
-fn total_member(alloc: Global, site: &Site<'_>, network: &Network) -> Result<Json, AllocError>
+/// The cost of the network for one year, under the key.
+pub(crate) fn total_member(
+    alloc: Global,
+    key: &str,
+    problem: &Problem,
+    network: &Network,
+) -> Result<Json, AllocError>
     ensures { IfOk result
-        (λ json. json ≡ facts.number_member (codes "total") (facts.total site.now network.now)) }
+        (λ json. json ≡ facts.number_member key.now (facts.total problem.now network.now)) }
 {
-    let total = total(site.problem(), network);
-    let member = number_member(alloc, "total", &total)?;
+    let total = total(problem, network);
+    let member = number_member(alloc, key, &total)?;
     Ok(member)
 }
 
@@ -101,14 +107,18 @@ fn money_member(alloc: Global, site: &Site<'_>, network: &Network) -> Result<Jso
     let investment = units_member(alloc, "investment", what, site, network)?;
     let costs = materials_member(alloc, "material_costs", CostPart::Costs, site, network)?;
     let incomes = materials_member(alloc, "material_incomes", CostPart::Incomes, site, network)?;
-    let total = total_member(alloc, site, network)?;
+    let total = total_member(alloc, "total", site.problem(), network)?;
     let members = [fixed, proportional, investment, costs, incomes, total];
     let money = Json::object(alloc, &members)?;
     let member = Json::member(alloc, "money", &money)?;
     Ok(member)
 }
 
-fn names(alloc: Global, problem: &Problem, units: UnitSet) -> Result<Vec<Json>, AllocError>
+pub(crate) fn names(
+    alloc: Global,
+    problem: &Problem,
+    units: UnitSet,
+) -> Result<Vec<Json>, AllocError>
     ensures { IfOk result (λ names. names.items ≡ map (facts.unit_name problem.now) units) }
 {
     let mut names = Vec::new(alloc);

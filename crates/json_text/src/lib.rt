@@ -5,15 +5,17 @@
 //! network.
 //!
 //! Modules: `members`, values under their keys; `head`, `units`, `materials` and `foot`, the parts;
-//! `text`, the whole.
+//! `text`, the whole; `ranking`, the networks of a ranking.
 #![tactic(auto)]
 
 mod foot;
 mod head;
 mod materials;
 mod members;
+mod ranking;
 mod text;
 mod units;
 
-pub use members::{null_member, text_member};
+pub use members::{count_member, null_member, text_member};
+pub use ranking::{first_of, networks_member};
 pub use text::{bare_of, facts_of};

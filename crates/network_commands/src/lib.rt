@@ -8,17 +8,18 @@
 //! of a claim that is refused, and `Table`, `Graph` and `Report` have the texts.
 //!
 //! Modules: `claim`, which gives the network of a claim or refuses it; `network`, the way from the
-//! files to the text of a network; `table`, `graph` and `report`; `verdict_lines`, the text of a
-//! report.
+//! files to the text of a network; `table` and `graph`; `report`, the report of a tree, of which
+//! `report_commands` reads the files; `verdict_lines`, its text.
 #![tactic(auto)]
 
 mod claim;
 pub mod graph;
 mod network;
-pub mod report;
+mod report;
 pub mod table;
 mod verdict_lines;
 
 pub use claim::{network_of, say_refused};
 pub use network::NetworkText;
+pub use report::say_reported;
 pub use verdict_lines::verdict_text;

@@ -7,7 +7,8 @@ ghost use Rattle.tree_rules.specs.Claim.{ClaimPasses};
 ghost use Rattle.branch_tree.specs.View.{claim_of};
 ghost use Rattle.report_rules.specs.Verdict.{IsVerdict};
 ghost use Rattle.studio_rules.specs.Lines.{text_of};
-ghost use Rattle.studio_rules.specs.Report.{proved_line, unfinished_line, failing_line};
+ghost use Rattle.studio_rules.specs.Report.{proved_line, low_words, gap_behind};
+ghost use Rattle.studio_rules.specs.Report.{none_found_line, unfinished_line, failing_line};
 ghost use Rattle.studio_rules.specs.Report.{first_line};
 ghost use Rattle.studio_rules.specs.Report.{tables_of, verdict_lines};
 
@@ -16,8 +17,9 @@ use clash_tables::clashes_of;
 use pgraph::Site;
 use pns_problem::Problem;
 use refusal_words::why_word;
-use report_rules::Verdict;
-use report_tables::{push_total, report_of};
+use report_amounts::push_gap;
+use report_rules::{LowerBound, Verdict};
+use report_tables::{push_low, push_total, report_of};
 use std::alloc::{AllocError, Global};
 use tree_rules::Why;
 
@@ -43,32 +45,81 @@ fn push_proved(text: &mut String, problem: &Problem, claim: &Claim) -> Result<()
     }
 }
 
-fn push_best(text: &mut String, problem: &Problem, network: &Network) -> Result<(), AllocError>
+/// Appends the lower bound, if one is known.
+fn push_low_words(
+    text: &mut String,
+    problem: &Problem,
+    low: Option<LowerBound>,
+) -> Result<(), AllocError>
     ensures { OnOk result
-        (string_bytes text.new ≡ string_bytes text.old
-        ++ unfinished_line problem.now (claims.network network.now)) }
+        (string_bytes text.new ≡ string_bytes text.old ++ low_words problem.now low) }
 {
-    text.push_str("NOT FINISHED: best so far ")?;
-    push_total(text, problem, network)?;
+    let Some(low) = low else {
+        return Ok(());
+    };
+    text.push_str(", no network costs less than ")?;
+    push_low(text, problem, &low)?;
     Ok(())
 }
 
-fn push_none_found(text: &mut String, problem: &Problem) -> Result<(), AllocError>
+/// Appends its gap, if it is known.
+fn push_gap_behind(
+    text: &mut String,
+    network: &Network,
+    low: Option<LowerBound>,
+) -> Result<(), AllocError>
     ensures { OnOk result
-        (string_bytes text.new ≡ string_bytes text.old
-        ++ unfinished_line problem.now claims.unknown) }
+        (string_bytes text.new ≡ string_bytes text.old ++ gap_behind network.now low) }
 {
-    text.push_str("NOT FINISHED: no network found so far")
+    match low {
+        None => Ok(()),
+        Some(low) => push_gap(text, network, &low),
+    }
 }
 
-fn push_unfinished(text: &mut String, problem: &Problem, claim: &Claim) -> Result<(), AllocError>
+fn push_best(
+    text: &mut String,
+    problem: &Problem,
+    network: &Network,
+    low: Option<LowerBound>,
+) -> Result<(), AllocError>
     ensures { OnOk result
         (string_bytes text.new ≡ string_bytes text.old
-        ++ unfinished_line problem.now (claim_of claim.now)) }
+        ++ unfinished_line problem.now (claims.network network.now) low) }
+{
+    text.push_str("NOT FINISHED: best so far ")?;
+    push_total(text, problem, network)?;
+    push_low_words(text, problem, low)?;
+    push_gap_behind(text, network, low)?;
+    Ok(())
+}
+
+fn push_none_found(
+    text: &mut String,
+    problem: &Problem,
+    low: Option<LowerBound>,
+) -> Result<(), AllocError>
+    ensures { OnOk result
+        (string_bytes text.new ≡ string_bytes text.old ++ none_found_line problem.now low) }
+{
+    text.push_str("NOT FINISHED: no network found so far")?;
+    push_low_words(text, problem, low)?;
+    Ok(())
+}
+
+fn push_unfinished(
+    text: &mut String,
+    problem: &Problem,
+    claim: &Claim,
+    low: Option<LowerBound>,
+) -> Result<(), AllocError>
+    ensures { OnOk result
+        (string_bytes text.new ≡ string_bytes text.old
+        ++ unfinished_line problem.now (claim_of claim.now) low) }
 {
     match claim {
-        Claim::Network(network) => push_best(text, problem, network),
-        Claim::Infeasible | Claim::Unknown => push_none_found(text, problem),
+        Claim::Network(network) => push_best(text, problem, network, low),
+        Claim::Infeasible | Claim::Unknown => push_none_found(text, problem, low),
     }
 }
 
@@ -95,7 +146,7 @@ fn push_first(
 {
     match verdict {
         Verdict::Proved => push_proved(text, problem, claim),
-        Verdict::Unfinished => push_unfinished(text, problem, claim),
+        Verdict::Unfinished { low } => push_unfinished(text, problem, claim, low),
         Verdict::Fails { node, why } => push_failing(text, node, why),
     }
 }
@@ -130,7 +181,7 @@ fn clash_text(
 {
     match verdict {
         Verdict::Proved => clashes_of(alloc, site, tree),
-        Verdict::Unfinished | Verdict::Fails { .. } => Ok(Vec::new(alloc)),
+        Verdict::Unfinished { .. } | Verdict::Fails { .. } => Ok(Vec::new(alloc)),
     }
 }
 

@@ -23,7 +23,8 @@ use ranked_tree::RankText;
 use std::alloc::{AllocError, Global};
 use studio_rules::Status;
 
-fn network_line(alloc: Global, number: u32, why: RankWhy) -> Result<String, AllocError>
+/// The line on a network that fails.
+pub fn network_line(alloc: Global, number: u32, why: RankWhy) -> Result<String, AllocError>
     ensures { IfOk result (λ text. string_bytes text ≡ line (network_line number why)) }
 {
     let mut text = String::from_str(alloc, "refused network ")?;

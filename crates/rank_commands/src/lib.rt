@@ -12,4 +12,5 @@ mod judge;
 mod rank_file;
 mod words;
 
-pub use judge::{accepted_are_best, rankcheck};
+pub use judge::{accepted_are_best, network_line, rankcheck};
+pub use words::rank_why_word;

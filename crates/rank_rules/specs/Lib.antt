@@ -1,3 +1,4 @@
+pub mod Headed
 pub mod Leaf
 pub mod Marked
 pub mod Networks

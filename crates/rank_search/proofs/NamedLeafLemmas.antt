@@ -25,7 +25,8 @@ use Rattle.search_tree.specs.Shut.{shut_as, shut_leaf}
 use Rattle.search_tree.proofs.ShutLemmas.{proof_of}
 use Rattle.node_evaluation.specs.Looks.{is_charged_leaf, is_charged}
 use Rattle.abb_search.specs.declared.growing.Growing.{Growing}
-use Rattle.abb_search.specs.Closing.{ShutsNode, ShutsLeaf, ShutAll, ShutsIfSome, ShutSome}
+use Rattle.abb_search.specs.Closing.{EndsNode, ShutsLeaf, ShutAll, EndsIfSome, EndSome}
+use Rattle.abb_search.specs.Closing.{LeavesOpen}
 use Rattle.rank_search.specs.Found.{FoundAt, networks_of, undercut_by, IsOfLeaf, IsFoundThere}
 use Rattle.rank_search.specs.Found.{AreBest}
 use Rattle.rank_search.specs.Naming.{names_of}
@@ -35,10 +36,10 @@ use Rattle.rank_search.proofs.OrderLemmas.{leaf_told}
 
 -- ---- open leaves
 
--- an open leaf stays open in a partial tree, or the item at its number shuts it
+-- an open leaf stays open in a partial tree, or may end with the item at its number
 abbrev pub ClosesAt : Bool → Problem → Option CostOver → Node → Option Shut → Type 0
 ClosesAt partial p undercut n None = partial ≡ true
-ClosesAt partial p undercut n (Some m) = ShutsNode p undercut n m
+ClosesAt partial p undercut n (Some m) = EndsNode partial p undercut n m
 
 abbrev pub Closes : Bool → Problem → Option CostOver → List Cell → List (Option Shut) → Type 0
 Closes partial p undercut cells ms = (j : ℕ) → j < length cells
@@ -56,21 +57,22 @@ all_close p s undercut ms h j lt is =
     shuts_one p undercut (cell_at s.pool.payloads j) (proof_of ms j) is (h j lt)
 
 shuts_some : (p : Problem) (undercut : Option CostOver) (n : Node) (m : Option Shut)
-    → ShutsIfSome p undercut n m → ClosesAt true p undercut n m
+    → EndsIfSome p undercut n m → ClosesAt true p undercut n m
 shuts_some p undercut n None h = refl
 shuts_some p undercut n (Some m) h = h
 
 pub some_close : (p : Problem) (s : Growing) (undercut : Option CostOver) (ms : List (Option Shut))
-    → ShutSome p s undercut ms → Closes true p undercut s.pool.payloads ms
+    → EndSome p s undercut ms → Closes true p undercut s.pool.payloads ms
 some_close p s undercut ms h j lt is =
     shuts_some p undercut (place_of (cell_at s.pool.payloads j)) (proof_of ms j) (h j lt)
 
 -- ---- a leaf without a name
 
 shut_passes : (partial : Bool) (p : Problem) (undercut : Option CostOver) (n : Node) (m : Shut)
-    → ShutsNode p undercut n m → leaves.LeafPasses partial p undercut n (shut_as m)
+    → EndsNode partial p undercut n m → leaves.LeafPasses partial p undercut n (shut_as m)
 shut_passes partial p undercut n (shuts.Bounded m) h = h.bounded
 shut_passes partial p undercut n (shuts.Refuted ys) h = h.refuted
+shut_passes partial p undercut n (shuts.Low m) h = (h.0, h.1.low)
 
 plain_passes : (partial : Bool) (p : Problem) (claimed undercut : Option CostOver) (n : Node)
     (l : Leaf) (m : Option Shut) → leaves.LeafPasses true p claimed n l
@@ -122,21 +124,26 @@ pub still_open : (n : Option ℕ) (m : Option Shut) (l : Leaf)
     → IsOpenLeaf (named_leaf n (shut_leaf m l)) → IsUntried l
 still_open n m l h = shut_open m l (named_open n (shut_leaf m l) h)
 
-never_open : (m : Shut) → IsUntried (shut_as m) → ⊥
-never_open (shuts.Bounded m) h = let q : bounded m.d m.ys ≡ untried h.0 = h.1 in cc
-never_open (shuts.Refuted ys) h = let q : refuted ys ≡ untried h.0 = h.1 in cc
+left_open : (m : Shut) → IsUntried (shut_as m) → LeavesOpen (Some m)
+left_open (shuts.Bounded m) h = absurd (let q : bounded m.d m.ys ≡ untried h.0 = h.1 in cc)
+left_open (shuts.Refuted ys) h = absurd (let q : refuted ys ≡ untried h.0 = h.1 in cc)
+left_open (shuts.Low m) h = tt
 
--- nothing shuts one that is open in the answer
-pub told_unshut : (n : Option ℕ) (m : Option Shut) (low : Option Scaled)
-    → IsOpenLeaf (named_leaf n (shut_leaf m (untried low))) → m ≡ None
-told_unshut n None low h = refl
-told_unshut n (Some m) low h = absurd (never_open m (named_open n (shut_as m) h))
+-- the item leaves one open that is open in the answer
+pub told_left : (n : Option ℕ) (m : Option Shut) (low : Option Scaled)
+    → IsOpenLeaf (named_leaf n (shut_leaf m (untried low))) → LeavesOpen m
+told_left n None low h = tt
+told_left n (Some m) low h = left_open m (named_open n (shut_as m) h)
 
--- if nothing shuts it, an open leaf is open in the answer
-pub told_open : (n : Option ℕ) (low : Option Scaled)
-    → IsOpenLeaf (named_leaf n (shut_leaf None (untried low)))
-told_open None low = (low, refl)
-told_open (Some k) low = (low, refl)
+-- if the item leaves it open, an open leaf is open in the answer
+pub told_open : (n : Option ℕ) (m : Option Shut) (low : Option Scaled) → LeavesOpen m
+    → IsOpenLeaf (named_leaf n (shut_leaf m (untried low)))
+told_open None None low k = (low, refl)
+told_open (Some i) None low k = (low, refl)
+told_open n (Some (shuts.Bounded m)) low k = absurd k
+told_open n (Some (shuts.Refuted ys)) low k = absurd k
+told_open None (Some (shuts.Low m)) low k = (Some m, refl)
+told_open (Some i) (Some (shuts.Low m)) low k = (Some m, refl)
 
 -- ---- the networks by their numbers
 

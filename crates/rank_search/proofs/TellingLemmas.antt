@@ -33,7 +33,7 @@ use Rattle.search_tree.specs.declared.shut.Shut.TheVariants as shuts
 use Rattle.search_tree.specs.Cells.{Cell, place_of, cell_at, IsLinked}
 use Rattle.search_tree.specs.Growth.{as_shut, EndsOpen}
 use Rattle.search_tree.specs.Preorder.{IsPreorder, node_at, tree_of, told_tree}
-use Rattle.search_tree.specs.Shut.{shut_as, shut_leaf, shut_end, shut_cells}
+use Rattle.search_tree.specs.Shut.{shut_as, shut_end, shut_cells}
 use Rattle.search_tree.proofs.CountLemmas.{preorder_has_all}
 use Rattle.search_tree.proofs.PassLemmas.{passes, cells_stand, told_passes, aligned_start}
 use Rattle.search_tree.proofs.ShutLemmas.{proof_of, shut_at, shut_length, shut_linked}
@@ -42,7 +42,7 @@ use Rattle.node_evaluation.specs.Children.{claim_with}
 use Rattle.node_evaluation.specs.Looks.{KnowsCell}
 use Rattle.abb_search.specs.declared.growing.Growing.{Growing}
 use Rattle.abb_search.specs.Growing.{IsTreeKeptFor}
-use Rattle.abb_search.specs.Closing.{ShutsNode, IsSpentFor}
+use Rattle.abb_search.specs.Closing.{EndsNode, LeavesOpen, IsSpentFor}
 use Rattle.tree_rules.specs.Proved.{IsBelowLimit}
 use Rattle.abb_search.proofs.KnownLemmas.{AreKnown, known_end, knows_tree, few_nodes}
 use Rattle.rank_search.specs.Found.{FoundAt, networks_of, undercut_by, AreBest}
@@ -51,8 +51,8 @@ use Rattle.rank_rules.specs.Leaf.{IsOpenLeaf}
 use Rattle.rank_search.specs.Told.{IsTelling, IsSpentTelling}
 use Rattle.rank_search.proofs.FewLemmas.{few_with_next}
 use Rattle.rank_search.proofs.NamedLeafLemmas.{ClosesAt, Closes, leaf_passes, still_open, told_open}
-use Rattle.rank_search.proofs.NamedLeafLemmas.{told_unshut}
-use Rattle.rank_search.proofs.MarkLemmas.{named_leaf, marked_is, length-opened, opened_known}
+use Rattle.rank_search.proofs.NamedLeafLemmas.{told_left}
+use Rattle.rank_search.proofs.MarkLemmas.{marked_is, length-opened, opened_known}
 use Rattle.rank_search.proofs.MarkLemmas.{marks_numbered, marks_bare}
 use Rattle.rank_search.proofs.NameLemmas.{IsCountedName, counted_name}
 use Rattle.rank_search.proofs.NetworkLemmas.{each_there, knows_networks, networks_pass}
@@ -62,10 +62,11 @@ use Rattle.rank_search.proofs.ToldTreeLemmas.{told_is_lean, told_stands, told_is
 
 -- ---- numbers are known
 
-knows_by : (p : Problem) (undercut : Option CostOver) (n : Node) (m : Shut)
-    → ShutsNode p undercut n m → KnowsEnd p (leaf (shut_as m))
-knows_by p undercut n (shuts.Bounded m) h = (h.scale, h.multipliers)
-knows_by p undercut n (shuts.Refuted ys) h = h.multipliers
+knows_by : (p : Problem) (partial : Bool) (undercut : Option CostOver) (n : Node) (m : Shut)
+    → EndsNode partial p undercut n m → KnowsEnd p (leaf (shut_as m))
+knows_by p partial undercut n (shuts.Bounded m) h = (h.scale, h.multipliers)
+knows_by p partial undercut n (shuts.Refuted ys) h = h.multipliers
+knows_by p partial undercut n (shuts.Low m) h = (h.1.scale, h.1.multipliers)
 
 knows_shut : (p : Problem) (partial : Bool) (undercut : Option CostOver) (n : Node)
     (m : Option Shut) (e : End Leaf) → KnowsEnd p e → (EndsOpen e → ClosesAt partial p undercut n m)
@@ -79,7 +80,7 @@ knows_shut p partial undercut n (Some m) (leaf (refuted ys)) k h = k
 knows_shut p partial undercut n (Some m) (leaf (bounded d ys)) k h = k
 knows_shut p partial undercut n (Some m) (leaf (charged c)) k h = k
 knows_shut p partial undercut n (Some m) (leaf (untried low)) k h =
-    knows_by p undercut n m (h (low, refl))
+    knows_by p partial undercut n m (h (low, refl))
 
 module _ (p : Problem) (partial : Bool) (undercut : Option CostOver) (cells : List Cell)
     (known : AreKnown p cells) (ms : List (Option Shut))
@@ -252,8 +253,8 @@ module _ (p : Problem) (valid : IsValid p) (count : ℕ) (s : Growing) (fs : Lis
       few = few;
     }
 
-  -- ---- an open leaf that nothing shuts
-  module _ (there : wanted < length s.pool.payloads) (unshut : proof_of ms wanted ≡ None) where
+  -- ---- an open leaf that stays open
+  module _ (there : wanted < length s.pool.payloads) (left : LeavesOpen (proof_of ms wanted)) where
     stands_told : EndsOpen (cell_at s.pool.payloads wanted).end
         → IsOpenAt p IsOpenLeaf (node_of s.start) (told_tree told s.pool.payloads of.order) place
         (place_of (cell_at s.pool.payloads wanted))
@@ -262,10 +263,7 @@ module _ (p : Problem) (valid : IsValid p) (count : ℕ) (s : Growing) (fs : Lis
         (node_of s.start) s.pool.payloads linked t.kept.grown.fits of.order preorder told
         IsOpenLeaf still
         wanted place there of.stands is
-        (subst
-        (λ (m : Option Shut). IsOpenLeaf
-        (named_leaf (name_at names wanted) (shut_leaf m (untried is.0)))) (sym unshut)
-        (told_open (name_at names wanted) is.0))
+        (told_open (name_at names wanted) (proof_of ms wanted) is.0 left)
 
     pub stands_open : EndsOpen (cell_at s.pool.payloads wanted).end
         → IsOpenAt p IsOpenLeaf first_node (marked marks tree) place
@@ -282,7 +280,7 @@ module _ (p : Problem) (valid : IsValid p) (count : ℕ) (s : Growing) (fs : Lis
       pending : (j : ℕ) → j < length s.pool.payloads
           → (is : EndsOpen (cell_at s.pool.payloads j).end) → IsOpenLeaf (told j (untried is.0))
           → IsPending p (place_of (cell_at s.pool.payloads j))
-      pending j lt is o = h.pending j lt is (told_unshut (name_at names j) (proof_of ms j) is.0 o)
+      pending j lt is o = h.pending j lt is (told_left (name_at names j) (proof_of ms j) is.0 o)
 
       spent : IsSpent p IsOpenLeaf (undercut_by count fs) first_node (marked marks tree) place
           options s.budget

@@ -89,7 +89,7 @@ marks_of (Some m) = mark_of m ∷ []
 
 -- ---- what a walk over the cells finds
 
--- The nodes are those of all cells in preorder. Their open leaves are shut by the items at their
+-- The nodes are those of all cells in preorder. Their open leaves end with the items at their
 -- numbers, and their named leaves are open leaves with these marks. The cell `wanted` is the node
 -- `place` there.
 pub record IsNamedTree (cells : List Cell) (fs : List FoundAt) (proofs : List (Option Shut))

@@ -95,7 +95,7 @@ fn take_marks(
 }
 
 /// The tree of the nodes, and the place of a node in it. Leaves at which networks were found are
-/// named by these. An open leaf is shut if `proofs` has something at its number.
+/// named by these. An open leaf ends with the item of `proofs` at its number, if there is one.
 pub(crate) fn named_tree(
     alloc: Global,
     pool: &Pool<Cell>,

@@ -10,7 +10,7 @@ ghost use Rattle.rank_rules.specs.Marked.{marked};
 ghost use Rattle.ranked_tree.specs.View.{mark_of};
 ghost use Rattle.search_tree.specs.Cells.{place_of, cell_at, IsLinked};
 ghost use Rattle.search_tree.specs.Growth.{EndsOpen};
-ghost use Rattle.abb_search.specs.Closing.{ShutAll, ShutSome, IsSpentFor};
+ghost use Rattle.abb_search.specs.Closing.{ShutAll, EndSome, LeavesOpen, IsSpentFor};
 ghost use Rattle.abb_search.specs.Growing.{IsTreeKeptFor};
 ghost use Rattle.rank_search.specs.Found.{AreBest, networks_of, undercut_by};
 ghost use Rattle.rank_search.specs.Naming.{AreWithin, IsNamedTree};
@@ -118,7 +118,7 @@ pub fn tell_whole(
 }
 
 /// The answer of a search that stops before its end, and the place in its tree of a leaf that stays
-/// open. Others may be shut, each by the item at its number.
+/// open. Open leaves may be shut or get bounds, each by the item at its number.
 pub fn tell_stopped(
     alloc: Global,
     site: &Site<'_>,
@@ -131,8 +131,8 @@ pub fn tell_stopped(
     requires start { node_of growing.now.start ≡ first_node }
     requires best { AreBest site.now found.count growing.now.pool.payloads found.found }
     requires leaf { leaf < length growing.now.pool.payloads }
-    requires shut { ShutSome site.now growing.now (undercut_by found.count found.found) proofs.now }
-    requires stays { slice_index_or proofs.now leaf None ≡ None }
+    requires ends { EndSome site.now growing.now (undercut_by found.count found.found) proofs.now }
+    requires stays { LeavesOpen (slice_index_or proofs.now leaf None) }
     ensures networks { IfOk result (λ t. t.networks.items ≡ networks_of found.found) }
     ensures tells { IfOk result
         (λ t. IsTelling true site.now found.count t.networks.items t.tree

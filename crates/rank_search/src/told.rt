@@ -51,9 +51,9 @@ pub(crate) fn ranked_by<E: Evaluator>(
         Ending::Spent {
             leaf,
             options,
-            refuted,
+            ends,
         } => {
-            let told = tell_stopped(alloc, site, growing, found, &refuted, leaf)?;
+            let told = tell_stopped(alloc, site, growing, found, &ends, leaf)?;
             let next = told.place;
             Ok(Ranked::Spent(text_of(count, told, Tail::Spent { next, options })))
         }

@@ -2,6 +2,7 @@
 ghost use Rattle.std.specs.Prelude.{◌≡◌, ◌≤◌, IfOk};
 ghost use Rattle.tree_reading.specs.View.{line_of};
 ghost use Rattle.rank_rules.specs.Opened.{begins_by};
+ghost use Rattle.rank_rules.specs.Headed.{is_first_of_ranking};
 ghost use Rattle.rank_rules.specs.Read.{file_type_read, word_read, count_read, networks_read};
 
 use tree_reading::{Line, first_token, one_count, parts_of};
@@ -13,6 +14,13 @@ pub fn begins_by(word: &[u8], line: &Line) -> bool
 {
     let (token, _) = first_token(line.text);
     token == word
+}
+
+/// Whether it is the first line of a ranking.
+pub fn is_first_of_ranking(line: &Line) -> bool
+    ensures { result ≡ is_first_of_ranking (line_of line.now) }
+{
+    line.ended && line.text == b"file_type=PNS_rank_v1".as_slice()
 }
 
 /// The first line.

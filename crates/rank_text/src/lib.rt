@@ -25,4 +25,4 @@ mod read;
 
 pub use laws::{read_ranks_are_spelled, spelled_ranks_read};
 pub use print::print_rank;
-pub use read::read_rank;
+pub use read::{is_ranking, read_rank};

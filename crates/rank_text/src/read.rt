@@ -7,9 +7,10 @@ ghost use Rattle.text_lines.specs.Tells.{Tells};
 ghost use Rattle.ranked_tree.specs.Known.{KnowsNetwork};
 ghost use Rattle.rank_text.specs.Known.{KnowsText};
 ghost use Rattle.rank_rules.specs.Read.{behind_networks, rest_taken, read_text, earlier};
+ghost use Rattle.rank_rules.specs.Headed.{is_ranking};
 ghost use Rattle.rank_text.specs.Takes.{listed_taken};
 
-use crate::front::{count_line, file_type_line, networks_line};
+use crate::front::{count_line, file_type_line, is_first_of_ranking, networks_line};
 use crate::networks::read_networks;
 use crate::opening::{OpenText, open_lines};
 use branch_tree::Network;
@@ -154,5 +155,17 @@ pub fn read_rank(alloc: Global, problem: &Problem, bytes: &[u8]) -> Result<RankT
     match file_type_line(&line) {
         Err(kind) => Err(kind_at(front, kind)),
         Ok(()) => read_counted(alloc, problem, bytes, behind),
+    }
+}
+
+/// Whether the text is that of a ranking, by its first line.
+pub fn is_ranking(bytes: &[u8]) -> bool
+    requires { length bytes.now < 2 ^ 32 - 1 }
+    ensures { result ≡ is_ranking bytes.now }
+{
+    let front = Cut { at: 0, line: 1 };
+    match line_at(bytes, front) {
+        Some((line, _)) => is_first_of_ranking(&line),
+        None => false,
     }
 }

@@ -5,16 +5,21 @@
 //! is a fraction in lowest terms, with numerator and denominator of at most 127 bits. If a number
 //! that has to be formed for it has more bits, it is none, which is printed as `past`; so is each
 //! sum over it. `Number` of `report_rules` says how numbers are formed and printed: with six digits
-//! if they have more, or as a share in per cent.
+//! if they have more, or as a share in per cent. The gap to a lower bound is rounded up.
 //!
 //! Modules: `number`, such fractions; `amounts`, the numbers of units and their sums; `costs`,
-//! those of materials.
+//! those of materials; `gap`, the gap to a lower bound; `ranks`, what a network costs more than the
+//! first of a ranking.
 #![tactic(auto)]
 
 mod amounts;
 mod costs;
+mod gap;
 mod number;
+mod ranks;
 
 pub use amounts::{amount, share_of, size, unit_of, unit_sum};
 pub use costs::{cost, cost_sum, flow_at, material_of, net, price};
+pub use gap::push_gap;
 pub use number::Number;
+pub use ranks::{above_first, share_above};

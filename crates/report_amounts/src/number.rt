@@ -5,6 +5,7 @@ ghost use Rattle.integer_laws.specs.Range.{InRange};
 ghost use Rattle.report_rules.specs.Number.{of, nothing, lowest, kept, times, plus, above, below};
 ghost use Rattle.report_rules.specs.Number.{half_of, doubled_text, number_with, places_of};
 ghost use Rattle.report_rules.specs.Number.{number_text, thousandths_text, share_text};
+ghost use Rattle.report_rules.specs.Lower.{rounded_up, tenths_text, gap_words};
 
 use decimals::{places_behind, push_signed, scale_of};
 use frac128::Frac;
@@ -151,6 +152,18 @@ impl Number {
         }
     }
 
+    /// Appends a gap, of which this is the thousandths, in per cent. It is rounded up. Nothing is
+    /// appended if there is no number.
+    pub fn push_gap(&self, text: &mut String) -> Result<(), AllocError>
+        ensures { OnOk result
+            (string_bytes text.new ≡ string_bytes text.old ++ gap_words self.now) }
+    {
+        match self.fraction {
+            None => Ok(()),
+            Some(fraction) => push_gap_of(text, &fraction),
+        }
+    }
+
     /// Appends the share in per cent, or `past` if there is none.
     pub fn push_share(&self, text: &mut String) -> Result<(), AllocError>
         ensures { OnOk result
@@ -159,6 +172,27 @@ impl Number {
         let doubled = self.times(&Number::of(2000, 1));
         doubled.push_thousandths(text)
     }
+}
+
+/// A fraction of at least 0, rounded up.
+fn rounded_up(fraction: &Frac) -> u128
+    ensures { result ≡ rounded_up (record { num = fraction.now.num; den = fraction.now.den }) }
+{
+    let num = fraction.num().unsigned_abs();
+    let den = fraction.den().unsigned_abs();
+    let whole = num / den;
+    if num % den == 0 { whole } else { whole + 1 }
+}
+
+fn push_gap_of(text: &mut String, fraction: &Frac) -> Result<(), AllocError>
+    ensures { OnOk result
+        (string_bytes text.new ≡ string_bytes text.old
+        ++ gap_words (Some (record { num = fraction.now.num; den = fraction.now.den }))) }
+{
+    text.push_str(" (gap ")?;
+    push_tenths(text, rounded_up(fraction))?;
+    text.push_str(" %)")?;
+    Ok(())
 }
 
 fn product(left: &Frac, right: &Frac) -> Number
@@ -244,8 +278,7 @@ fn push_fraction(
 /// Tenths with their one place.
 fn push_tenths(text: &mut String, tenths: u128) -> Result<(), AllocError>
     ensures { OnOk result
-        (string_bytes text.new ≡ string_bytes text.old
-        ++ (decimal (tenths / 10) ++ 46 ∷ (48 + tenths % 10) ∷ [])) }
+        (string_bytes text.new ≡ string_bytes text.old ++ tenths_text tenths) }
 {
     let whole = tenths / 10;
     let rest = (tenths % 10) as u8;

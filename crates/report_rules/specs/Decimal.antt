@@ -2,7 +2,8 @@
 -- number with these places, halves away from 0. A `-` comes first if it is below 0, and there is no
 -- `-0`. Zeros at the end are not written. If the number of places is given, a `~` comes before all
 -- exactly if the fraction was rounded: so a text without `~` is the fraction. Else there are six
--- places, less one for each digit of the whole part, and no `~`.
+-- places, less one for each digit of the whole part, and no `~`. A lower bound has these places,
+-- but is rounded down.
 use Rattle.std.specs.Prelude.{◌==◌, ◌&&◌, ◌+◌, ◌*◌, ◌/◌, ◌%◌, ◌^◌, ◌++◌, ℕ, zero, suc, Bool, not}
 use Rattle.std.specs.Prelude.{List, [], ◌∷◌, ℤ, pos, unsigned_abs, int_lt, decimal, if◌then◌else◌}
 use Rattle.text_rules.specs.Printed.{places}
@@ -45,3 +46,14 @@ abbrev pub six_digits : ℤ → ℕ → List ℕ
 six_digits num den =
     signed_text (places_behind 6 (unsigned_abs num / den)) (int_lt num (pos 0))
     (rounded (places_behind 6 (unsigned_abs num / den)) num den)
+
+-- the same, rounded to the next number with these places that is not above it
+abbrev pub rounded_down : ℕ → ℤ → ℕ → ℕ
+rounded_down k num den =
+    unsigned_abs num * 10 ^ k / den
+    + (if int_lt num (pos 0) && not (is_exact k num den) then 1 else 0)
+
+abbrev pub six_digits_down : ℤ → ℕ → List ℕ
+six_digits_down num den =
+    signed_text (places_behind 6 (unsigned_abs num / den)) (int_lt num (pos 0))
+    (rounded_down (places_behind 6 (unsigned_abs num / den)) num den)

@@ -4,7 +4,10 @@ pub mod Clash
 pub mod Decimal
 pub mod Drawn
 pub mod Graph
+pub mod Lower
 pub mod Number
+pub mod RankVerdict
+pub mod Ranked
 pub mod Report
 pub mod Table
 pub mod Verdict

@@ -8,6 +8,7 @@ ghost use Rattle.report_rules.specs.declared.amount.UnitAmount.TheVariants.{Fixe
 ghost use Rattle.report_rules.specs.declared.amount.UnitAmount.TheVariants.{Investment};
 ghost use Rattle.report_rules.specs.declared.cost_part.CostPart.TheVariants.{Costs, Incomes};
 ghost use Rattle.report_rules.specs.Amounts.{unit_sum, cost_sum};
+ghost use Rattle.report_rules.specs.Lower.{low_cell};
 ghost use Rattle.report_rules.specs.Report.{money_heading, money_row, total_cell, total_words};
 ghost use Rattle.report_rules.specs.Report.{total_row, money_rows, money_lines};
 
@@ -15,11 +16,11 @@ use crate::cells::push_number;
 use crate::row::Row;
 use crate::tables::push_table_and_gap;
 use branch_tree::Network;
-use decimals::push_six_digits;
+use decimals::{push_six_digits, push_six_digits_down};
 use pgraph::Site;
 use pns_problem::Problem;
 use report_amounts::{Number, cost_sum, unit_sum};
-use report_rules::{CostPart, Sort, UnitAmount};
+use report_rules::{CostPart, LowerBound, Sort, UnitAmount};
 use std::alloc::{AllocError, Global};
 
 fn money_row(alloc: Global, words: &str, number: &Number) -> Result<Row, AllocError>
@@ -67,6 +68,17 @@ pub fn push_total(text: &mut String, problem: &Problem, network: &Network) -> Re
     network.is_sized();
     let half = 500_000_000_000 * problem.payout().unsigned_abs();
     push_six_digits(text, half, network.cost(), network.d())
+}
+
+/// The lower bound for one year, rounded down, with six digits if it has more.
+#[tactic(auto, unfolding(report_rules::specs::Lower::low_cell))]
+pub fn push_low(text: &mut String, problem: &Problem, low: &LowerBound) -> Result<(), AllocError>
+    ensures { OnOk result
+        (string_bytes text.new ≡ string_bytes text.old ++ low_cell problem.now low.now) }
+{
+    problem.is_valid();
+    let half = 500_000_000_000 * problem.payout().unsigned_abs();
+    push_six_digits_down(text, half, low.cost, low.d)
 }
 
 fn total_words(cost: i128) -> &'static str

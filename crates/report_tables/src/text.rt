@@ -85,7 +85,7 @@ fn push_head(text: &mut String, site: &Site<'_>, network: &Network) -> Result<()
 }
 
 /// Appends all lines.
-fn push_report(
+pub(crate) fn push_report(
     alloc: Global,
     text: &mut String,
     site: &Site<'_>,

@@ -7,7 +7,7 @@
 //!
 //! - `cell`: `Cell`
 //! - `growth`: a leaf becomes a branch, and its children are added
-//! - `shut`: what shuts an open leaf
+//! - `shut`: what an open leaf ends with in a tree
 //! - `walk`: the cells in preorder
 //! - `laws`: what holds of the tree if each cell fits
 #![tactic(auto)]

@@ -1,4 +1,4 @@
-//! What shuts an open leaf.
+//! What an open leaf ends with in a tree.
 ghost use Rattle.std.specs.Prelude.{◌≡◌, IfOk};
 ghost use Rattle.tree_rules.specs.Tree.{leaf};
 ghost use Rattle.branch_tree.specs.View.{end_of};
@@ -8,13 +8,15 @@ use branch_tree::{End, Multipliers, Scaled};
 use covers::Covers;
 use std::alloc::{AllocError, Global};
 
-/// What shuts an open leaf.
+/// What an open leaf ends with in a tree: what shuts it, or a bound with which it stays open.
 #[derive(Drop)]
 pub enum Shut {
     /// The leaf is bounded by these multipliers.
     Bounded(Scaled),
     /// The leaf is refuted by these multipliers.
     Refuted(Multipliers),
+    /// The leaf stays open, and these multipliers bound it from below.
+    Low(Scaled),
 }
 
 /// A copy of the multipliers of a refutation.
@@ -56,7 +58,7 @@ pub(crate) fn copy_low(alloc: Global, low: &Option<Scaled>) -> Result<Option<Sca
     }
 }
 
-/// The end of a leaf that is shut by this.
+/// The end of a leaf that ends with this.
 pub(crate) fn end_by(alloc: Global, shut: &Shut) -> Result<End, AllocError>
     ensures { IfOk result (λ e. end_of e ≡ leaf (shut_as shut.now)) }
 {
@@ -68,6 +70,10 @@ pub(crate) fn end_by(alloc: Global, shut: &Shut) -> Result<End, AllocError>
         Shut::Refuted(ys) => {
             let copy = copy_multipliers(alloc, ys)?;
             Ok(End::Refuted(copy))
+        }
+        Shut::Low(scaled) => {
+            let copy = copy_scaled(alloc, scaled)?;
+            Ok(End::Open(Some(copy)))
         }
     }
 }

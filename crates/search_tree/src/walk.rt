@@ -67,7 +67,7 @@ fn copy_end(alloc: Global, end: &End) -> Result<End, AllocError>
     }
 }
 
-/// A copy of the node's end; an open leaf is shut, if something shuts it.
+/// A copy of the node's end; an open leaf ends with what is given for it.
 fn copy_shut(alloc: Global, cell: &Cell, proof: Option<&Shut>) -> Result<End, AllocError>
     ensures { IfOk result (λ e. end_of e ≡ shut_end (option_copied proof.entry) cell.now.end) }
 {

@@ -53,7 +53,7 @@ proved_lines : (p : Problem) (claim : Claim) (tree : Tree) (v : Verdict) (lines 
     → Solves p claim tree → IsVerdict p claim tree v → lines ≡ verdict_lines p claim tree v
     → lines ≡ proved_line p claim ∷ tables_of p claim tree Proved
 proved_lines p claim tree Proved lines solves is e = e
-proved_lines p claim tree Unfinished lines solves is e = absurd (is.0 solves.proved.accepted)
+proved_lines p claim tree (Unfinished low) lines solves is e = absurd (is.0 solves.proved.accepted)
 proved_lines p claim tree (Fails node why) lines solves is e = absurd (is.0 solves.proved.accepted)
 
 pub shown_is_proved : ShownIsProved

@@ -13,7 +13,7 @@ ghost use Rattle.stability.specs.Desk.{IsDesk};
 
 use crate::case::Case;
 use crate::setting::set;
-use abb_search::{FlowWorkspace, Found, search_with, workspace_of};
+use abb_search::{FlowWorkspace, Found, search_flows, workspace_of};
 use branch_tree::Network;
 use pgraph::{Graph, Site};
 use pns_problem::Problem;
@@ -59,7 +59,7 @@ fn search_at<W: Watch>(
         outside: UnitSet::empty(),
     };
     match workspace.rebind(site) {
-        Ok(()) => search_with(workspace, site, start, effort, Some(network)),
+        Ok(()) => search_flows(workspace, site, start, effort, Some(network)),
         Err(_) => Found::Memory,
     }
 }

@@ -41,7 +41,7 @@ use Rattle.studio_rules.specs.Reading.{AreHeld, FileFault, GivesProblem, OnFile,
 use Rattle.studio_rules.specs.Reading.{file_limit}
 use Rattle.studio_rules.specs.Script.{ScriptFault, GivesScript, HasEditFault, OnScript}
 use Rattle.studio_rules.specs.Plan.{PlanFileFault, GivesPlan, OnPlan}
-use Rattle.studio_rules.specs.TreeFile.{TreeFault, GivesTree, OnTree, tree_limit}
+use Rattle.studio_rules.specs.TreeFile.{TreeFault, GivesTree, TreeSays, OnTree, tree_limit}
 use Rattle.studio_rules.specs.Max.{MaxWork}
 use Rattle.studio_rules.specs.Lint.{LintWork}
 use Rattle.studio_rules.specs.Axioms.{AxiomsWork, first_stranger}
@@ -56,6 +56,10 @@ use Rattle.studio_rules.specs.Network.{OnNetwork}
 use Rattle.studio_rules.specs.Table.{TableWork}
 use Rattle.studio_rules.specs.Report.{ReportWork}
 use Rattle.studio_rules.specs.Json.{JsonWork}
+use Rattle.studio_rules.specs.RankReport.{RankReportWork}
+use Rattle.studio_rules.specs.RankJson.{RankJsonWork}
+use Rattle.studio_rules.specs.TextFile.{by_kind, RankSays, EitherSays, OnEither}
+use Rattle.rank_rules.specs.Headed.{is_ranking}
 use Rattle.studio_rules.specs.Graph.{PlantGraphWork, NetworkGraphWork}
 use Rattle.studio_rules.specs.Expand.{ExpandWork}
 use Rattle.studio_rules.specs.Periods.{PeriodsWork}
@@ -79,12 +83,14 @@ use Rattle.studio_rules.specs.Answers.{AnswersTo, CommandAnswers, WordsSay}
 use Rattle.studio_rules.specs.Causes.{caused, FileCause, HasProblemFault, HasScriptFault}
 use Rattle.studio_rules.specs.Causes.{HasPlanFault, HasTreeFault, HasRankFault, HasPartFault}
 use Rattle.studio_rules.specs.Causes.{NoCause, TokenCause, MigrationCause, NameCause, InFile}
-use Rattle.studio_rules.specs.Causes.{InScript, InPlan, InRank, InTree, InParts, AtNode, CauseOf}
+use Rattle.studio_rules.specs.Causes.{InScript, InPlan, InRank, InTree, InEither, InParts}
+use Rattle.studio_rules.specs.Causes.{AtNode, CauseOf}
 use Rattle.studio_rules.specs.Causes.{AreTold, EndsExactly}
 use Rattle.studio.proofs.Accepted.{no_fault, one_problem}
 use Rattle.studio.proofs.Statuses.{max_status, lint_status, names_status, flows_status}
 use Rattle.studio.proofs.Statuses.{check_status, rankcheck_status, split_status, table_status}
 use Rattle.studio.proofs.Statuses.{report_status, json_status, network_status, solve_status}
+use Rattle.studio.proofs.Statuses.{rank_report_status, rank_json_status}
 use Rattle.studio.proofs.Statuses.{show_status, rank_status, search_status, plant_graph_status}
 use Rattle.studio.proofs.Statuses.{graph_status, periods_status, part_status, claim_status}
 use Rattle.studio.proofs.Statuses.{merge_fault_status, spot_status}
@@ -379,6 +385,12 @@ module _ (held : List ℕ → Told) (name : List ℕ) (p : Problem) where
       (λ file t given u v ls none does. absurd none) (held name) told status s lines
       (cause.0, cause.1, inl cause.2) h
 
+not_bad_rank : (p : Problem) (file : List ℕ) (t : Text) (s : Status) → GivesRanking p file t
+    → FileCause tree_limit BadTree (HasRankFault p) file s → ⊥
+not_bad_rank p file t s given (inl h) = let a = given.0 in let b =
+    h.1 in absurd (omega (arith, a, b))
+not_bad_rank p file t s given (inr h) = (rank_good p file t given).1 h.2
+
 -- ---- TREE, and what follows it whatever it claims
 
 pub tree_cause : (name : List ℕ) (p : Problem) (file : List ℕ) (s : Status)
@@ -433,6 +445,54 @@ module _ (work : Problem → Claim → Tree → Status → List (List ℕ) → T
       (subst (λ (b : List ℕ). TreeFault name p b s lines
       ⊎ ((claim : Claim) × (tree : Tree) × GivesTree p b claim tree
       × work p claim tree s lines)) same said)
+
+-- ---- a tree or a ranking, after which nothing is a cause
+
+module _ (on_tree : Problem → Claim → Tree → Status → List (List ℕ) → Type 0)
+    (on_rank : Problem → Text → Status → List (List ℕ) → Type 0) (p : Problem) where
+  module _ (tree_plain : (claim : Claim) (tree : Tree) (s : Status) (lines : List (List ℕ))
+      → Caused s → on_tree p claim tree s lines → ⊥)
+      (rank_plain : (t : Text) (s : Status) (lines : List (List ℕ)) → Caused s
+      → on_rank p t s lines → ⊥) where
+    kind_cause : (kind : Bool) (name file : List ℕ) (s : Status) (lines : List (List ℕ))
+        → Caused s
+        → by_kind kind (RankSays on_rank name p file s lines) (TreeSays on_tree name p file s lines)
+        → FileCause tree_limit BadTree
+        (λ bytes. by_kind kind (HasRankFault p bytes) (HasTreeFault p bytes)) file s
+    kind_cause true name file s lines c (inl h) = rank_cause name p file s lines h
+    kind_cause true name file s lines c (inr (t, gives, does)) =
+        absurd (rank_plain t s lines c does)
+    kind_cause false name file s lines c (inl h) = tree_cause name p file s lines h
+    kind_cause false name file s lines c (inr (claim, tree, gives, does)) =
+        absurd (tree_plain claim tree s lines c does)
+
+    either_only : (held : List ℕ → Told) (name : List ℕ)
+        → Only (OnEither on_tree on_rank held name p) (InEither held name p)
+    either_only held name s lines c (file, is, said) =
+        (file, is, kind_cause (is_ranking file) name file s lines c said)
+
+  kind_always : (kind : Bool) (name file : List ℕ) (status s : Status) (lines : List (List ℕ))
+      → FileCause tree_limit BadTree
+      (λ bytes. by_kind kind (HasRankFault p bytes) (HasTreeFault p bytes)) file status
+      → by_kind kind (RankSays on_rank name p file s lines) (TreeSays on_tree name p file s lines)
+      → s ≡ status
+  kind_always true name file status s lines why (inl h) =
+      one_cause tree_limit BadTree (HasRankFault p) file s status
+      (rank_cause name p file s lines h) why
+  kind_always true name file status s lines why (inr (t, gives, does)) =
+      absurd (not_bad_rank p file t status gives why)
+  kind_always false name file status s lines why (inl h) =
+      one_cause tree_limit BadTree (HasTreeFault p) file s status
+      (tree_cause name p file s lines h) why
+  kind_always false name file status s lines why (inr (claim, tree, gives, does)) =
+      absurd (not_bad_tree p file claim tree status gives why)
+
+  either_always : (held : List ℕ → Told) (name : List ℕ) → IsSome (held name)
+      → Always (OnEither on_tree on_rank held name p) (InEither held name p)
+  either_always held name told status s lines (file, is, why) (other, there, said) =
+      let same : other ≡ file = same_file (held name) file other told is there in
+      kind_always (is_ranking file) name file status s lines why
+      (subst (λ (b : List ℕ). EitherSays on_tree on_rank name p b s lines) same said)
 
 -- ---- the words of a node
 
@@ -721,15 +781,17 @@ module _ (held : List ℕ → Told) where
       (λ claim its s lines c h. unclaimed_plain p s lines c
       (network_status NetworkGraphWork graph_status p claim its s lines h)))
   command_only (Reporting file tree) =
-      file_only held file (OnTree ReportWork held tree) (InTree NoCause held tree)
-      (λ p. tree_only ReportWork NoCause held tree p
+      file_only held file (OnEither ReportWork RankReportWork held tree) (InEither held tree)
+      (λ p. either_only ReportWork RankReportWork p
       (λ claim its s lines c h. unclaimed_plain p s lines c
-      (report_status p claim its s lines h)))
+      (report_status p claim its s lines h))
+      (λ t s lines c h. unclaimed_plain p s lines c (rank_report_status p t s lines h)) held tree)
   command_only (Json file tree) =
-      file_only held file (OnTree JsonWork held tree) (InTree NoCause held tree)
-      (λ p. tree_only JsonWork NoCause held tree p
+      file_only held file (OnEither JsonWork RankJsonWork held tree) (InEither held tree)
+      (λ p. either_only JsonWork RankJsonWork p
       (λ claim its s lines c h. unclaimed_plain p s lines c
-      (json_status p claim its s lines h)))
+      (json_status p claim its s lines h))
+      (λ t s lines c h. unclaimed_plain p s lines c (rank_json_status p t s lines h)) held tree)
   command_only (Ranging file tree kind name budget) =
       file_only held file (OnTree (StableWork kind name budget) held tree)
       (InTree (NameCause kind name) held tree)
@@ -828,9 +890,13 @@ module _ (held : List ℕ → Told) where
       beside_tree file tree (OnNetwork NetworkGraphWork) (told file (inl refl))
       (told tree (inr refl))
   command_always once (Reporting file tree) told =
-      beside_tree file tree ReportWork (told file (inl refl)) (told tree (inr refl))
+      file_always held file (OnEither ReportWork RankReportWork held tree) (InEither held tree)
+      (λ p valid. either_always ReportWork RankReportWork p held tree (told tree (inr refl)))
+      (told file (inl refl))
   command_always once (Json file tree) told =
-      beside_tree file tree JsonWork (told file (inl refl)) (told tree (inr refl))
+      file_always held file (OnEither JsonWork RankJsonWork held tree) (InEither held tree)
+      (λ p valid. either_always JsonWork RankJsonWork p held tree (told tree (inr refl)))
+      (told file (inl refl))
   command_always once (Ranging file tree kind name budget) told =
       file_always held file (OnTree (StableWork kind name budget) held tree)
       (InTree (NameCause kind name) held tree)

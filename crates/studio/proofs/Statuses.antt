@@ -1,7 +1,8 @@
 -- The statuses with which a call may end.
 use Rattle.std.specs.List.{Contains}
 use Rattle.std.proofs.Common.{Bool, sym, ◌∙◌, ◌≡◌, ◌⊎◌, ◌<◌, ◌≤◌, ◌∷◌, [], Some, None, IsSomeAnd}
-use Rattle.std.proofs.Common.{refl, inl, inr, List, ℕ, Option, subst, ap, arith, length}
+use Rattle.std.proofs.Common.{true, false, refl, inl, inr, List, ℕ, Option, subst, ap, arith}
+use Rattle.std.proofs.Common.{length}
 use Rattle.problem_rules.specs.Problem.{Problem}
 use Rattle.edit_rules.specs.Edit.{Edit}
 use Rattle.pns_rules.specs.declared.verdict.Verdict.{Verdict}
@@ -29,7 +30,7 @@ use Rattle.plan_rules.specs.Plan.{Plan}
 use Rattle.studio_rules.specs.Edits.{EditWork, UndoWork}
 use Rattle.tree_rules.specs.Claim.{Claim, Network}
 use Rattle.tree_rules.specs.Accepted.{Tree}
-use Rattle.studio_rules.specs.TreeFile.{TreeFault, OnTree, tree_limit}
+use Rattle.studio_rules.specs.TreeFile.{TreeFault, TreeSays, OnTree, tree_limit}
 use Rattle.studio_rules.specs.Check.{CheckWork}
 use Rattle.rank_rules.specs.Text.{Text}
 use Rattle.studio_rules.specs.Rank as rankings
@@ -39,6 +40,10 @@ use Rattle.studio_rules.specs.Network.{OnNetwork, ClaimRefusal}
 use Rattle.studio_rules.specs.Table.{TableWork}
 use Rattle.studio_rules.specs.Report.{ReportWork}
 use Rattle.studio_rules.specs.Json.{JsonWork}
+use Rattle.studio_rules.specs.RankReport.{RankReportWork}
+use Rattle.studio_rules.specs.RankJson.{RankJsonWork}
+use Rattle.studio_rules.specs.TextFile.{by_kind, RankSays, EitherSays, OnEither}
+use Rattle.rank_rules.specs.Headed.{is_ranking}
 use Rattle.studio_rules.specs.Graph.{PlantGraphWork, NetworkGraphWork}
 use Rattle.studio_rules.specs.Split.{SplitWork}
 use Rattle.studio_rules.specs.PartFile.{PartFault, FirstFault, are_several}
@@ -201,6 +206,18 @@ json_status p claim tree Done lines h = inl refl
 json_status p claim tree BadClaim lines h = inr refl
 json_status p claim tree s lines h = absurd h
 
+pub rank_report_status : (p : Problem) (t : Text) (s : Status) (lines : List (List ℕ))
+    → RankReportWork p t s lines → (s ≡ Done) ⊎ (s ≡ BadClaim)
+rank_report_status p t Done lines h = inl refl
+rank_report_status p t BadClaim lines h = inr refl
+rank_report_status p t s lines h = absurd h
+
+pub rank_json_status : (p : Problem) (t : Text) (s : Status) (lines : List (List ℕ))
+    → RankJsonWork p t s lines → (s ≡ Done) ⊎ (s ≡ BadClaim)
+rank_json_status p t Done lines h = inl refl
+rank_json_status p t BadClaim lines h = inr refl
+rank_json_status p t s lines h = absurd h
+
 -- a claim is refused, or the work on its network is done
 pub network_status : (work : Problem → Network → Status → List (List ℕ) → Type 0)
     → ((p : Problem) (w : Network) (s : Status) (lines : List (List ℕ)) → work p w s lines
@@ -281,6 +298,51 @@ trees_status end work status held name p s lines (file, is, inr rest) short =
       | inl q ↦ inl q
       | inr q ↦ inr (inl q)
     ]
+
+-- a tree or a ranking; both works end with the same statuses
+module _ (on_tree : Problem → Claim → Tree → Status → List (List ℕ) → Type 0)
+    (on_rank : Problem → Text → Status → List (List ℕ) → Type 0)
+    (tree_ends : (p : Problem) (claim : Claim) (tree : Tree) (s : Status) (lines : List (List ℕ))
+    → on_tree p claim tree s lines → (s ≡ Done) ⊎ (s ≡ BadClaim))
+    (rank_ends : (p : Problem) (t : Text) (s : Status) (lines : List (List ℕ))
+    → on_rank p t s lines → (s ≡ Done) ⊎ (s ≡ BadClaim)) where
+  -- the statuses of one file
+  by_kind_status : (kind : Bool) (name : List ℕ) (p : Problem) (file : List ℕ) (s : Status)
+      (lines : List (List ℕ))
+      → by_kind kind (RankSays on_rank name p file s lines) (TreeSays on_tree name p file s lines)
+      → (s ≡ Done) ⊎ ((s ≡ BadClaim)
+      ⊎ ((s ≡ BadTree) ⊎ ((s ≡ TooLong) × (tree_limit < length file))))
+  by_kind_status true name p file s lines (inl fault) =
+      inr (inr (rank_file_status name p file s lines fault))
+  by_kind_status true name p file s lines (inr (t, gives, work)) =
+      elim (rank_ends p t s lines work) [ inl q ↦ inl q | inr q ↦ inr (inl q) ]
+  by_kind_status false name p file s lines (inl fault) =
+      inr (inr (tree_status name p file s lines fault))
+  by_kind_status false name p file s lines (inr (claim, tree, gives, work)) =
+      elim (tree_ends p claim tree s lines work) [ inl q ↦ inl q | inr q ↦ inr (inl q) ]
+
+  either_status : (held : List ℕ → Told) (name : List ℕ) (p : Problem) (s : Status)
+      (lines : List (List ℕ)) → OnEither on_tree on_rank held name p s lines
+      → IsToldAnd (held name) (λ told. length told ≤ tree_limit)
+      → IsOneOf (Done ∷ BadClaim ∷ BadProblem ∷ BadTree ∷ Memory ∷ []) s
+  either_status held name p s lines (file, is, said) short =
+      elim (by_kind_status (is_ranking file) name p file s lines said) [
+        | inl q ↦ inl q
+        | inr (inl q) ↦ inr (inl q)
+        | inr (inr (inl q)) ↦ inr (inr (inr (inl q)))
+        | inr (inr (inr q)) ↦ absurd (within_limit (held name) tree_limit file short is q.1)
+      ]
+
+  -- none of them is that of words without a form
+  either_not_usage : (held : List ℕ → Told) (name : List ℕ) (p : Problem)
+      (lines : List (List ℕ)) → OnEither on_tree on_rank held name p Usage lines → ⊥
+  either_not_usage held name p lines (file, is, said) =
+      elim (by_kind_status (is_ranking file) name p file Usage lines said) [
+        | inl q ↦ cc
+        | inr (inl q) ↦ cc
+        | inr (inr (inl q)) ↦ cc
+        | inr (inr (inr q)) ↦ let e = q.0 in cc
+      ]
 
 -- ---- networks drawn and reported
 
@@ -548,8 +610,8 @@ command_status held (Reporting name tree) s lines (file, is, inl fault) short =
           q.1)
     ]
 command_status held (Reporting name tree) s lines (file, is, inr work) short =
-    trees_status BadClaim ReportWork report_status held tree work.0 s lines work.2
-    (short tree tree_limit (inr (refl, refl)))
+    either_status ReportWork RankReportWork report_status rank_report_status held tree work.0 s
+    lines work.2 (short tree tree_limit (inr (refl, refl)))
 command_status held (Json name tree) s lines (file, is, inl fault) short =
     elim (fault_status name file s lines fault) [
       | inl q ↦ inr (inr (inl q))
@@ -559,8 +621,8 @@ command_status held (Json name tree) s lines (file, is, inl fault) short =
           q.1)
     ]
 command_status held (Json name tree) s lines (file, is, inr work) short =
-    trees_status BadClaim JsonWork json_status held tree work.0 s lines work.2
-    (short tree tree_limit (inr (refl, refl)))
+    either_status JsonWork RankJsonWork json_status rank_json_status held tree work.0 s lines
+    work.2 (short tree tree_limit (inr (refl, refl)))
 command_status held (Splitting name tree) s lines (file, is, inl fault) short =
     elim (fault_status name file s lines fault) [
       | inl q ↦ inr (inr (inl q))
@@ -836,16 +898,14 @@ answer_status held (Table name tree) lines (file, is, inr (p, given, (bytes, the
     elim (network_status TableWork table_status p rest.0 rest.1 Usage lines rest.3)
     [ inl q ↦ cc | inr q ↦ cc ]
 answer_status held (Reporting name tree) lines (file, is, inl fault) = absurd fault
-answer_status held (Reporting name tree) lines
-    (file, is, inr (p, given, (bytes, there, inl fault))) = absurd fault
-answer_status held (Reporting name tree) lines
-    (file, is, inr (p, given, (bytes, there, inr rest))) =
-    elim (report_status p rest.0 rest.1 Usage lines rest.3) [ inl q ↦ cc | inr q ↦ cc ]
+answer_status held (Reporting name tree) lines (file, is, inr (p, given, said)) =
+    absurd
+    (either_not_usage ReportWork RankReportWork report_status rank_report_status held tree p lines
+    said)
 answer_status held (Json name tree) lines (file, is, inl fault) = absurd fault
-answer_status held (Json name tree) lines (file, is, inr (p, given, (bytes, there, inl fault))) =
-    absurd fault
-answer_status held (Json name tree) lines (file, is, inr (p, given, (bytes, there, inr rest))) =
-    elim (json_status p rest.0 rest.1 Usage lines rest.3) [ inl q ↦ cc | inr q ↦ cc ]
+answer_status held (Json name tree) lines (file, is, inr (p, given, said)) =
+    absurd
+    (either_not_usage JsonWork RankJsonWork json_status rank_json_status held tree p lines said)
 answer_status held (Splitting name tree) lines (file, is, inl fault) = absurd fault
 answer_status held (Splitting name tree) lines
     (file, is, inr (p, given, (bytes, there, inl fault))) = absurd fault

@@ -38,6 +38,9 @@ use Rattle.studio_rules.specs.Network.{OnNetwork}
 use Rattle.studio_rules.specs.Table.{TableWork}
 use Rattle.studio_rules.specs.Report.{ReportWork}
 use Rattle.studio_rules.specs.Json.{JsonWork}
+use Rattle.studio_rules.specs.TextFile.{OnEither}
+use Rattle.studio_rules.specs.RankReport.{RankReportWork}
+use Rattle.studio_rules.specs.RankJson.{RankJsonWork}
 use Rattle.studio_rules.specs.Graph.{PlantGraphWork, NetworkGraphWork}
 use Rattle.studio_rules.specs.Split.{SplitWork}
 use Rattle.studio_rules.specs.Merge.{MergeWork}
@@ -108,9 +111,9 @@ CommandAnswers held (Drawing file) status lines = OnFile PlantGraphWork held fil
 CommandAnswers held (DrawingNetwork file tree) status lines =
     OnFile (OnTree (OnNetwork NetworkGraphWork) held tree) held file status lines
 CommandAnswers held (Reporting file tree) status lines =
-    OnFile (OnTree ReportWork held tree) held file status lines
+    OnFile (OnEither ReportWork RankReportWork held tree) held file status lines
 CommandAnswers held (Json file tree) status lines =
-    OnFile (OnTree JsonWork held tree) held file status lines
+    OnFile (OnEither JsonWork RankJsonWork held tree) held file status lines
 CommandAnswers held (Merging file tree parts) status lines =
     OnFile (OnTree (MergeWork held parts) held tree) held file status lines
 CommandAnswers held (Telling text) status lines = (status ≡ Done) × (text ≡ text_of lines)

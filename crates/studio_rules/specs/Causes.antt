@@ -16,12 +16,14 @@ use Rattle.tree_rules.specs.Accepted.{Tree}
 use Rattle.tree_text_rules.specs.declared.TreeKind.{TreeKind}
 use Rattle.tree_text_rules.specs.Read as trees
 use Rattle.rank_rules.specs.Read as ranks
+use Rattle.rank_rules.specs.Headed.{is_ranking}
 use Rattle.part_rules.specs.Part.{Part}
 use Rattle.part_rules.specs.Read.{PartReads}
 use Rattle.stability_rules.specs.declared.spot.SpotKind.{SpotKind}
 use Rattle.studio_rules.specs.Reading.{AreHeld, GivesProblem, Reads, file_limit}
 use Rattle.studio_rules.specs.Script.{HasEditFault}
 use Rattle.studio_rules.specs.TreeFile.{GivesTree, tree_limit}
+use Rattle.studio_rules.specs.TextFile.{by_kind}
 use Rattle.studio_rules.specs.Listing.{IsBadToken}
 use Rattle.studio_rules.specs.PartFile.{GivesPart}
 use Rattle.studio_rules.specs.Start.{IsStart}
@@ -67,6 +69,10 @@ HasTreeFault p file = (line : ℕ) × (kind : TreeKind) × (trees.read_text p fi
 
 abbrev pub HasRankFault : Problem → List ℕ → Type 0
 HasRankFault p file = (line : ℕ) × (kind : TreeKind) × (ranks.read_text p file ≡ Err (line, kind))
+
+-- of a tree, or of a ranking if it is one by its first line
+abbrev pub HasEitherFault : Problem → List ℕ → Type 0
+HasEitherFault p file = by_kind (is_ranking file) (HasRankFault p file) (HasTreeFault p file)
 
 abbrev pub HasPartFault : Problem → List ℕ → Type 0
 HasPartFault p file = (line : ℕ) × (kind : TreeKind) × PartReads p file (Err (line, kind))
@@ -119,6 +125,11 @@ InTree behind held name p status =
     × (FileCause tree_limit BadTree (HasTreeFault p) file status
     ⊎ ((claim : Claim) × (tree : Tree) × GivesTree p file claim tree × behind p status))
 
+-- a tree or a ranking
+abbrev pub InEither : (List ℕ → Told) → List ℕ → Problem → Status → Type 0
+InEither held name p status = (file : List ℕ) × AreHeld (held name) file
+    × FileCause tree_limit BadTree (HasEitherFault p) file status
+
 abbrev pub InParts : (List ℕ → Told) → List (List ℕ) → Problem → Status → Type 0
 InParts held [] p status = ⊥
 InParts held (name ∷ names) p status =
@@ -151,8 +162,8 @@ CauseOf held (Splitting file tree) status = InFile (InTree NoCause held tree) he
 CauseOf held (Expanding file plan) status = InFile (InPlan held plan) held file status
 CauseOf held (Drawing file) status = InFile NoCause held file status
 CauseOf held (DrawingNetwork file tree) status = InFile (InTree NoCause held tree) held file status
-CauseOf held (Reporting file tree) status = InFile (InTree NoCause held tree) held file status
-CauseOf held (Json file tree) status = InFile (InTree NoCause held tree) held file status
+CauseOf held (Reporting file tree) status = InFile (InEither held tree) held file status
+CauseOf held (Json file tree) status = InFile (InEither held tree) held file status
 CauseOf held (Ranging file tree kind name budget) status =
     InFile (InTree (NameCause kind name) held tree) held file status
 CauseOf held (Planning file plan budget) status = InFile (InPlan held plan) held file status

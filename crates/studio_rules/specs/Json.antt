@@ -18,18 +18,18 @@ use Rattle.studio_rules.specs.declared.status.Status.TheVariants.{Done, BadClaim
 
 abbrev pub verdict_word : Verdict → List ℕ
 verdict_word Proved = codes "proved"
-verdict_word Unfinished = codes "not finished"
+verdict_word (Unfinished low) = codes "not finished"
 verdict_word (Fails node why) = codes "not proved"
 
 -- the node that fails, counted from 0 in preorder, and its cause
 abbrev pub node_json : Verdict → List ℕ
 node_json Proved = null
-node_json Unfinished = null
+node_json (Unfinished low) = null
 node_json (Fails node why) = decimal node
 
 abbrev pub why_json : Verdict → List ℕ
 why_json Proved = null
-why_json Unfinished = null
+why_json (Unfinished low) = null
 why_json (Fails node why) = quoted (why_word why)
 
 abbrev pub claim_word : Claim → List ℕ

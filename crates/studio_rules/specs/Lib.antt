@@ -36,7 +36,9 @@ pub mod PlanPages
 pub mod Printed
 pub mod ProgramPages
 pub mod Rank
+pub mod RankJson
 pub mod RankPages
+pub mod RankReport
 pub mod RankWords
 pub mod Rankcheck
 pub mod Reading
@@ -44,8 +46,8 @@ pub mod RefusalWords
 pub mod Report
 pub mod ReportPages
 pub mod Script
-pub mod Seconds
 pub mod SearchPages
+pub mod Seconds
 pub mod Show
 pub mod Solve
 pub mod Split
@@ -54,6 +56,7 @@ pub mod Start
 pub mod StructurePages
 pub mod Summary
 pub mod Table
+pub mod TextFile
 pub mod TopicPages
 pub mod TreeFile
 pub mod Trial

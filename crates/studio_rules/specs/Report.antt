@@ -1,13 +1,16 @@
--- `report FILE TREE`: what the tree proves of its claim, in a line, and then the network of the
--- claim in tables for people; or, if it proves that no network meets the bounds, those that clash.
-use Rattle.std.specs.Prelude.{◌≡◌, ◌++◌, ℕ, true, List, [], ◌∷◌, codes, decimal}
+-- `report FILE TREE`: what the tree proves of its claim, in a line, with the lower bound if it is
+-- not finished, and then the network of the claim in tables for people; or, if it proves that no
+-- network meets the bounds, those that clash.
+use Rattle.std.specs.Prelude.{◌≡◌, ◌++◌, ℕ, true, List, [], ◌∷◌, Option, Some, None, codes, decimal}
 use Rattle.problem_rules.specs.Problem.{Problem}
 use Rattle.tree_rules.specs.declared.why.Why.{Why}
-use Rattle.tree_rules.specs.Claim.{Claim, network, infeasible, unknown, ClaimFails}
+use Rattle.tree_rules.specs.Claim.{Claim, Network, network, infeasible, unknown, ClaimFails}
 use Rattle.tree_rules.specs.Accepted.{Tree}
 use Rattle.report_rules.specs.declared.verdict.Verdict.{Verdict}
 use Rattle.report_rules.specs.declared.verdict.Verdict.TheVariants.{Proved, Unfinished, Fails}
+use Rattle.report_rules.specs.declared.lower_bound.LowerBound.{LowerBound}
 use Rattle.report_rules.specs.Verdict.{IsVerdict}
+use Rattle.report_rules.specs.Lower.{low_cell, gap_text}
 use Rattle.report_rules.specs.Report.{total_cell, report_lines}
 use Rattle.report_rules.specs.Clash.{clash_lines}
 use Rattle.studio_rules.specs.RefusalWords.{why_word, claim_line}
@@ -24,17 +27,30 @@ proved_line p (network w) =
 proved_line p infeasible = codes "PROVED: no network meets the bounds"
 proved_line p unknown = codes "PROVED: no network meets the bounds"
 
-abbrev pub unfinished_line : Problem → Claim → List ℕ
-unfinished_line p (network w) = codes "NOT FINISHED: best so far " ++ total_cell p w
-unfinished_line p infeasible = codes "NOT FINISHED: no network found so far"
-unfinished_line p unknown = codes "NOT FINISHED: no network found so far"
+-- the lower bound, if one is known; its gap follows if a network is claimed
+abbrev pub low_words : Problem → Option LowerBound → List ℕ
+low_words p None = []
+low_words p (Some b) = codes ", no network costs less than " ++ low_cell p b
+
+abbrev pub gap_behind : Network → Option LowerBound → List ℕ
+gap_behind w None = []
+gap_behind w (Some b) = gap_text w b
+
+abbrev pub none_found_line : Problem → Option LowerBound → List ℕ
+none_found_line p low = codes "NOT FINISHED: no network found so far" ++ low_words p low
+
+abbrev pub unfinished_line : Problem → Claim → Option LowerBound → List ℕ
+unfinished_line p (network w) low =
+    codes "NOT FINISHED: best so far " ++ total_cell p w ++ low_words p low ++ gap_behind w low
+unfinished_line p infeasible low = none_found_line p low
+unfinished_line p unknown low = none_found_line p low
 
 abbrev pub failing_line : ℕ → Why → List ℕ
 failing_line node why = codes "NOT PROVED: node " ++ decimal node ++ 32 ∷ why_word why
 
 abbrev pub first_line : Problem → Claim → Verdict → List ℕ
 first_line p claim Proved = proved_line p claim
-first_line p claim Unfinished = unfinished_line p claim
+first_line p claim (Unfinished low) = unfinished_line p claim low
 first_line p claim (Fails node why) = failing_line node why
 
 -- ---- all
@@ -43,7 +59,7 @@ first_line p claim (Fails node why) = failing_line node why
 abbrev pub tables_of : Problem → Claim → Tree → Verdict → List (List ℕ)
 tables_of p (network w) tree verdict = report_lines p w
 tables_of p infeasible tree Proved = clash_lines p tree
-tables_of p infeasible tree Unfinished = []
+tables_of p infeasible tree (Unfinished low) = []
 tables_of p infeasible tree (Fails node why) = []
 tables_of p unknown tree verdict = []
 

@@ -42,20 +42,25 @@ report_page =
     codes "Says what the tree proves, and shows the network of its claim to people: units," ∷
     codes "materials and money in one year." ∷
     codes "  FILE  the plant, PNS_problem_v1" ∷
-    codes "  TREE  a tree text, as solve prints it" ∷
+    codes "  TREE  a tree text, as solve prints it, or a ranking, as rank prints it" ∷
     codes "Prints a line that begins with PROVED (check accepts the tree), NOT FINISHED" ∷
     codes "(nodes are open) or NOT PROVED (node N fails, and why); then a table of units," ∷
     codes "one of materials and one of sums. Costs are above 0, incomes below; numbers with" ∷
     codes "more than 6 digits show 6. limit names the bound that an amount is at: max, min," ∷
     codes "fixed (both), idle (built, but of size 0), or UNBOUNDED?, at 1000000000." ∷
+    codes "NOT FINISHED says, if each open node has a bound, what no network costs less" ∷
+    codes "than (rounded down), and the gap to the best one in per cent (rounded up)." ∷
     codes "If no network meets the bounds, those that clash follow: what the multipliers of" ∷
     codes "the first ten refuted leaves use." ∷
+    codes "Of a ranking a table of its networks comes first: what each costs above the best" ∷
+    codes "one, the units that it takes in (+) and leaves out (-) against it, and those of" ∷
+    codes "size 0. PROVED means then that rankcheck accepts; all after it is the best one." ∷
     codes "Ends with" ∷
     codes "  0   The whole text was printed. Line 1 says what is proved." ∷
     codes "  1   refused claim WHY: the network of the claim breaks an axiom (axiom) or an" ∷
     codes "      exclusion (exclusion), or its sizes break a bound (flows), or its cost is" ∷
     codes "      wrong (cost), or a number is too large (sum). Is FILE the plant that TREE" ∷
-    codes "      was made for?" ∷
+    codes "      was made for? refused network K WHY: network K of a ranking fails so." ∷
     codes "  10  tree line L KIND: line L of TREE has a fault; pns help KIND explains it." ∷
     codes "      Print the text again." ∷
     codes "  2, 3, 6, 7, 8, 12, 20: see pns help status" ∷
@@ -68,15 +73,18 @@ json_page =
     codes "pns json FILE TREE" ∷
     codes "Says what pns report says, as one JSON object for programs." ∷
     codes "  FILE  the plant, PNS_problem_v1" ∷
-    codes "  TREE  a tree text, as solve prints it" ∷
+    codes "  TREE  a tree text, as solve prints it, or a ranking, as rank prints it" ∷
     codes "Prints the keys verdict (proved, not finished or not proved, then with the node" ∷
     codes "that fails and why) and claim; if the claim has a network, also counts," ∷
     codes "payout_period, units, materials, money, paid_once and left_out. Each number is" ∷
     codes "there twice: value has 17 digits, exact is a fraction; both are null if it" ∷
     codes "overflows 128 bits. A line has one unit or one material." ∷
+    codes "Of a ranking claim is ranking, asked says how many were wanted, and networks has" ∷
+    codes "place, cost, above, share_above, taken_in, left_out, idle of each. The keys from" ∷
+    codes "counts on are those of the best one." ∷
     codes "Ends with" ∷
     codes "  0   The whole text was printed. The verdict says what is proved." ∷
-    codes "  1   refused claim WHY: as of pns report" ∷
+    codes "  1   refused claim WHY, refused network K WHY: as of pns report" ∷
     codes "  10  tree line L KIND: line L of TREE has a fault; pns help KIND explains it." ∷
     codes "      Print the text again." ∷
     codes "  2, 3, 6, 7, 8, 12, 20: see pns help status" ∷

@@ -177,15 +177,22 @@ module _ (p : Problem) (valid : IsValid p) (start : Node) (claim new_claim : Cla
     of_use = of_use;
   }
 
--- ---- open leaves are shut
-shut_leaf : (p : Problem) (last : Option Node) (n : Node) (l : Leaf) → (IsUntried l → ⊥)
-    → LeafIsKept p last n l
-shut_leaf p last n (dead y) h = tt
-shut_leaf p last n (clash k) h = tt
-shut_leaf p last n (refuted ys) h = tt
-shut_leaf p last n (bounded d ys) h = tt
-shut_leaf p last n (charged c) h = tt
-shut_leaf p last n (untried low) h = absurd (h (low, refl))
+-- ---- open leaves get other ends
+
+-- what is kept of an open leaf is kept of any leaf
+kept_leaf : (p : Problem) (last : Option Node) (n : Node) (l : Leaf)
+    → LeafIsKept p last n (untried None) → LeafIsKept p last n l
+kept_leaf p last n (dead y) h = tt
+kept_leaf p last n (clash k) h = tt
+kept_leaf p last n (refuted ys) h = tt
+kept_leaf p last n (bounded d ys) h = tt
+kept_leaf p last n (charged c) h = tt
+kept_leaf p last n (untried low) h = h
+
+shut_leaf : (p : Problem) (last : Option Node) (n : Node) (e : End Leaf) (l : Leaf) → EndsOpen e
+    → EndIsKept p last n e → LeafIsKept p last n l
+shut_leaf p last n e l o k =
+    kept_leaf p last n l (subst (λ (x : End Leaf). EndIsKept p last n x) o.1 k)
 
 pub shutting_is_kept : (p : Problem) (start : Node) (claim : Claim) (undercut : Option CostOver)
     (last : Option Node) (old new : List Cell) → IsKeptFor p start claim undercut last old
@@ -211,7 +218,8 @@ shutting_is_kept p start claim undercut last old new kept s = record {
         | inl e
             ↦ subst (λ (c : Cell). EndIsKept p last (place_of c) c.end) (sym e) (kept.ends j less)
         | inr t ↦ subst (λ (c : Cell). EndIsKept p last (place_of c) c.end) (sym t.new_is)
-            (shut_leaf p last (place_of (cell_at old j)) t.what t.shut)
+            (shut_leaf p last (place_of (cell_at old j)) (cell_at old j).end t.what t.was_open
+            (kept.ends j less))
       ];
   claim_positive = kept.claim_positive;
   undercut_positive = kept.undercut_positive;

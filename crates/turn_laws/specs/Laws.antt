@@ -42,7 +42,7 @@ BranchingIsKept =
     → IsBranched old children new at w
     → IsKeptFor p start new_claim new_undercut (Some (place_of (cell_at old at))) new
 
--- open leaves are shut
+-- open leaves are shut, or get bounds
 abbrev pub ShuttingIsKept : Type 0
 ShuttingIsKept =
     (p : Problem) (start : Node) (claim : Claim) (undercut : Option CostOver) (last : Option Node)

@@ -1,4 +1,4 @@
--- The steps of a turn: a leaf is branched, or open leaves are shut.
+-- The steps of a turn: a leaf is branched, or open leaves get other ends.
 use Rattle.std.specs.Prelude.{◌≡◌, ◌⊎◌, ℕ, ◌+◌, ◌<◌, true, List, length, map, Option}
 use Rattle.problem_rules.specs.Problem.{Problem}
 use Rattle.pns_rules.specs.Shape.{shape_of}
@@ -6,7 +6,7 @@ use Rattle.pns_rules.specs.Nodes.{Node}
 use Rattle.pns_rules.specs.Ends.{IsSound, IsDead, IsNever, IsReduced}
 use Rattle.tree_rules.specs.Ways.{Way, width, MayBranch, options_at, child_at, IsDecision}
 use Rattle.tree_rules.specs.Tree.{End, branch, leaf}
-use Rattle.tree_rules.specs.Leaf.{Leaf, IsUntried, LeafPasses}
+use Rattle.tree_rules.specs.Leaf.{Leaf, LeafPasses}
 use Rattle.tree_rules.specs.Claim.{CostOver}
 use Rattle.tree_rules.specs.Lean.{IsNoDearer}
 use Rattle.search_tree.specs.Cells.{Cell, place_of, cell_at}
@@ -68,18 +68,17 @@ pub record IsBranched (old children new : List Cell) (at : ℕ) (w : Way) : Type
   pub children_are : (k : ℕ) → k < length children
       → cell_at new (length old + k) ≡ cell_at children k
 
--- ---- open leaves are shut
+-- ---- open leaves get other ends
 
--- an open leaf is shut as another leaf that passes
+-- an open leaf is shut as another leaf that passes, or stays open with a bound that does
 pub record IsShut (p : Problem) (claimed : Option CostOver) (old new : Cell) : Type 0 where
   pub was_open : EndsOpen old.end
   pub what : Leaf
-  pub shut : IsUntried what → ⊥
   pub passes : LeafPasses true p claimed (place_of old) what
   pub key : ℕ
   pub new_is : new ≡ with_end old old.first (leaf what) key
 
--- each cell stays or is shut
+-- each cell stays or gets such an end
 pub record AreShut (p : Problem) (claimed : Option CostOver) (old new : List Cell) : Type 0 where
   pub len : length new ≡ length old
   pub each : (j : ℕ) → j < length old → (cell_at new j ≡ cell_at old j)

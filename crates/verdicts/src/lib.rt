@@ -4,9 +4,10 @@
 //! `Verdict` of `report_rules` says when a verdict is the one of a claim and its tree. If the claim
 //! passes, [`verdict_of`] gives this verdict. It is `Proved` if and only if the tree is accepted.
 //!
-//! Modules: `verdict`.
+//! Modules: `verdict`; `lower`, the lower bound of a tree with open leaves.
 #![tactic(auto)]
 
+mod lower;
 mod verdict;
 
 pub use verdict::{Unjudged, verdict_of};

@@ -6,6 +6,7 @@ ghost use Rattle.branch_tree.specs.View.{claim_of};
 ghost use Rattle.report_rules.specs.Verdict.{IsVerdict};
 ghost use Rattle.verdicts.specs.Unjudged.{IsUnjudged};
 
+use crate::lower::lower_bound;
 use branch_tree::{Claim, Tree};
 use cert_check::{check_from, check_tree};
 use pgraph::Site;
@@ -41,7 +42,10 @@ fn partial_verdict(
         outside: UnitSet::empty(),
     };
     match check_from(alloc, site, &start, true, claim, tree) {
-        Ok(_) => Ok(Verdict::Unfinished),
+        Ok(leaves) => {
+            let low = lower_bound(site, claim, tree, &leaves);
+            Ok(Verdict::Unfinished { low })
+        }
         Err(Refusal::Node { node, why }) => Ok(Verdict::Fails { node, why }),
         Err(Refusal::Claim(why)) => Err(Unjudged::Claim(why)),
         Err(Refusal::Memory) => Err(Unjudged::Memory),

@@ -15,8 +15,8 @@ first_put_off-requires-clause-counted g c = c.requires.growing.1.tree.counted
 pub first_put_off-requires-clause-open : goal.first_put_off-requires-clause-open
 first_put_off-requires-clause-open g c = c.requires.growing.1.are_open
 
-pub shut_refuted-requires : goal.shut_refuted-requires
-shut_refuted-requires g c = c.requires.growing.1.tree.counted
+pub tell_leaves-requires : goal.tell_leaves-requires
+tell_leaves-requires g c = c.requires.growing.1.tree.counted
 
 pub settle_from-requires-clause-growing : goal.settle_from-requires-clause-growing
 settle_from-requires-clause-growing g c = c.requires.growing
@@ -42,11 +42,11 @@ returns-clause-holds g c = λ undercut growing next.
     c.is_pool.ensures.leaves m refl in
     let over =
     subst (λ n. s.budget < length s.pool.payloads + n) c.requires.options c.requires.over in
-    subst (λ n. IsSpentFor p undercut s c.in_ok-refuted.refuted.items at n) (sym c.requires.options)
+    subst (λ n. IsSpentFor p undercut s c.in_ok-ends.ends.items at n) (sym c.requires.options)
     (spent_for p c.problem.ensures.valid s growing at next.is_open c.is_pool.ensures.payloads
     c.is_pool.ensures.leaves undercut growing.tree.kept.undercut_positive
-    next.settled next.least next.undercuts c.in_default.ensures.none c.in_ok-refuted.refuted.items
-    c.in_ok-refuted.ensures m choice over)
+    next.settled next.least next.undercuts c.in_default.ensures.none c.in_ok-ends.ends.items
+    c.in_ok-ends.ensures m choice over)
 
 pub returns-clause-same : goal.returns-clause-same
 returns-clause-same g c = same_refl g.E.Evaluator.past c.args.site.now c.args.growing.now

@@ -70,7 +70,7 @@ returns-in_ok-placed-in-Spent-clause-holds g c =
       stop = s.stop;
     } in
     let w = c.in_ok-placed-in-Spent.placed in
-    let ms = c.in-Spent.refuted.items in
+    let ms = c.in-Spent.ends.items in
     let f =
     subst (λ (x : Ending). EndsWith g.E.Evaluator.past p s (claimed_cost (claim_with s.best)) x)
     c.in-Spent.is c.requires.ends in
@@ -79,7 +79,7 @@ returns-in_ok-placed-in-Spent-clause-holds g c =
     (λ (b : Option claims.Network). IsEnd g.E.Evaluator.past p s new
     (founds.Spent b w.tree w.place count)) (sym c.take-in-Spent.ensures.value)
     (ends_with g.E.Evaluator.past p s new (founds.Spent s.best w.tree w.place count) t
-    (spent_found p (spent p s t ms at count f) (closed_tree p s t ms f.shut) at w.place w.tree of
+    (spent_found p (spent p s t ms at count f) (closed_tree p s t ms f.ends) at w.place w.tree of
     c.in_ok-placed-in-Spent.ensures.sized c.problem.ensures.valid count s.budget s.start refl
     refl
     (spent_here p s t ms at count f))

@@ -32,6 +32,7 @@ returns c =
     (λ e. e ∙ ap (λ (z : ℤ). old ++ signed_text k (int_lt z (pos 0)) c.nearest-rounded.result)
     (to_z-of_z w128 c.args.number f)
     ∙ ap (λ (t : List ℕ). old ++ t)
-    (six_text h c.args.number (unsigned_abs c.args.d) k c.nearest-rounded.result c.requires.half
-    (omega (arith, ints, c.requires.d)) c.places_behind-places.ensures.few places near))
+    (six_text h c.args.number (unsigned_abs c.args.d) k c.requires.half
+    (omega (arith, ints, c.requires.d)) c.places_behind-places.ensures.few places
+    c.nearest-rounded.result near))
     c.push_signed.ensures

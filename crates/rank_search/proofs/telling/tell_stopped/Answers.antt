@@ -28,7 +28,7 @@ returns-clause-tells c =
     (is_telling p c.problem.ensures.valid c.args.found.count s fs c.requires.kept c.requires.start
     c.requires.best c.args.proofs.now c.args.leaf t.place t.tree (map mark_of t.marks.items) of
     true
-    (some_close p s (undercut_by c.args.found.count fs) c.args.proofs.now c.requires.shut) sized
+    (some_close p s (undercut_by c.args.found.count fs) c.args.proofs.now c.requires.ends) sized
     c.tell.ensures.asked))
     c.tell.ensures.networks c.tell.ensures.tree c.tell.ensures.sized
 

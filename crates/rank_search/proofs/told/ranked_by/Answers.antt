@@ -1,7 +1,7 @@
 use Rattle.std.specs.Prelude.{slice_index_or}
-use Rattle.std.proofs.Common.{◌≡◌, List, Option, None, refl, sym, subst, map}
+use Rattle.std.proofs.Common.{◌≡◌, List, Option, None, sym, subst, map}
 use Rattle.search_tree.specs.declared.shut.Shut.{Shut}
-use Rattle.abb_search.specs.Closing.{ShutAll, ShutSome, IsSpentFor}
+use Rattle.abb_search.specs.Closing.{ShutAll, EndSome, LeavesOpen, IsSpentFor}
 use Rattle.abb_search.specs.declared.rounds.Ending.{Ending}
 use Rattle.abb_search.specs.Rounds.{EndsWith}
 use Rattle.rank_search.specs.Found.{undercut_by}
@@ -22,16 +22,16 @@ tell_whole-requires-clause-shut g c =
     (λ (e : Ending). EndsWith g.E.Evaluator.past c.args.site.now c.args.growing.now
     (undercut_by found.count found.found) e) c.in-Whole.is c.requires.ends)
 
-pub tell_stopped-requires-clause-shut : goal.tell_stopped-requires-clause-shut
-tell_stopped-requires-clause-shut g c =
+pub tell_stopped-requires-clause-ends : goal.tell_stopped-requires-clause-ends
+tell_stopped-requires-clause-ends g c =
     let found = c.args.found in
     let ends =
     subst
     (λ (e : Ending). EndsWith g.E.Evaluator.past c.args.site.now c.args.growing.now
     (undercut_by found.count found.found) e) c.in-Spent.is c.requires.ends in
     subst
-    (λ (ms : List (Option Shut)). ShutSome c.args.site.now c.args.growing.now
-    (undercut_by found.count found.found) ms) (sym c.deref-in-Spent.ensures.value) ends.shut
+    (λ (ms : List (Option Shut)). EndSome c.args.site.now c.args.growing.now
+    (undercut_by found.count found.found) ms) (sym c.deref-in-Spent.ensures.value) ends.ends
 
 pub tell_stopped-requires-clause-stays : goal.tell_stopped-requires-clause-stays
 tell_stopped-requires-clause-stays g c =
@@ -39,7 +39,7 @@ tell_stopped-requires-clause-stays g c =
     subst
     (λ (e : Ending). EndsWith g.E.Evaluator.past c.args.site.now c.args.growing.now
     (undercut_by c.args.found.count c.args.found.found) e) c.in-Spent.is c.requires.ends in
-    subst (λ (ms : List (Option Shut)). slice_index_or ms c.in-Spent.leaf None ≡ None)
+    subst (λ (ms : List (Option Shut)). LeavesOpen (slice_index_or ms c.in-Spent.leaf None))
     (sym c.deref-in-Spent.ensures.value) ends.stays
 
 pub returns-in_ok-told-in-Spent : goal.returns-in_ok-told-in-Spent
@@ -64,11 +64,11 @@ returns-in_ok-told-in-Spent g c =
     c.in_ok-told-in-Spent.ensures.tells
     (c.in_ok-told-in-Spent.ensures.spent c.in-Spent.options spent))
 
-pub tell_stopped-requires-in-Past-clause-shut : goal.tell_stopped-requires-in-Past-clause-shut
-tell_stopped-requires-in-Past-clause-shut g c = λ j lt. tt
+pub tell_stopped-requires-in-Past-clause-ends : goal.tell_stopped-requires-in-Past-clause-ends
+tell_stopped-requires-in-Past-clause-ends g c = λ j lt. tt
 
 pub tell_stopped-requires-in-Past-clause-stays : goal.tell_stopped-requires-in-Past-clause-stays
-tell_stopped-requires-in-Past-clause-stays g c = refl
+tell_stopped-requires-in-Past-clause-stays g c = tt
 
 pub returns-in_ok-told-in-Past : goal.returns-in_ok-told-in-Past
 returns-in_ok-told-in-Past g c =

@@ -11,5 +11,5 @@ returns-in-Ok-clause-found g c =
     let start : node_of (record { inside = c.empty.result; outside = c.empty-2.result })
     ≡ first_node =
     λ i. record { inside = has (c.empty.ensures i); outside = has (c.empty-2.ensures i) } in
-    subst (λ (n : Node). IsFound c.args.site.now n c.args.effort.budget c.search_with.result) start
-    c.search_with.ensures.found
+    subst (λ (n : Node). IsFound c.args.site.now n c.args.effort.budget c.search_flows.result) start
+    c.search_flows.ensures.found

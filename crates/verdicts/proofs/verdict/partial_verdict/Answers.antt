@@ -1,43 +1,49 @@
-use Rattle.std.proofs.Common.{◌≡◌, true, Result, IfOk, subst, sym}
-use Rattle.number_sets.specs.Sets.{has}
+use Rattle.std.proofs.Common.{◌≡◌, true, List, subst, ap, ◌∙◌, [], ◌∷◌}
+use Rattle.pns_rules.specs.Shape.{shape_of}
 use Rattle.pns_rules.specs.Nodes.{Node}
-use Rattle.pgraph.specs.View.{node_of}
+use Rattle.part_rules.specs.OpenLeaves.{open_leaves}
+use Rattle.cert_check.specs.declared.open_leaf.OpenLeaf.{OpenLeaf}
+use Rattle.cert_check.specs.OpenLeaves.{leaves_at}
 use Rattle.tree_rules.specs.Claim.{ClaimPasses}
-use Rattle.tree_rules.specs.Accepted.{first_node, Proves, NodeIsFault}
+use Rattle.tree_rules.specs.Accepted.{Proves, NodeIsFault}
 use Rattle.branch_tree.specs.View.{claim_of}
-use Rattle.report_rules.specs.declared.verdict.Verdict.{Verdict}
-use Rattle.report_rules.specs.Verdict.{IsVerdict}
-use Rattle.verdicts.specs.declared.verdict.Unjudged.{Unjudged}
-use Rattle.verdicts.proofs.verdict.partial_verdict.Goals.{in-Ok, in-Err-Node, in-Err-Claim}
-use Rattle.verdicts.proofs.verdict.partial_verdict.Goals.{in-Err-Memory}
+use Rattle.pgraph.specs.View.{node_of}
+use Rattle.verdicts.proofs.LowerLemmas.{at_first}
 use Rattle.verdicts.proofs.verdict.partial_verdict.Goals as goal
 
-pub returns-clause-verdict : goal.returns-clause-verdict
-returns-clause-verdict c =
+pub lower_bound-low-requires-clause-partial : goal.lower_bound-low-requires-clause-partial
+lower_bound-low-requires-clause-partial c =
+    subst (λ (n : Node). Proves true c.args.site.now n (claim_of c.args.claim.now) c.args.tree.now)
+    (at_first c.empty.result c.empty-2.result c.empty.ensures c.empty-2.ensures)
+    c.in-Ok.ensures.proves
+
+pub lower_bound-low-requires-clause-leaves : goal.lower_bound-low-requires-clause-leaves
+lower_bound-low-requires-clause-leaves c =
+    ap (λ (ls : List OpenLeaf). leaves_at ls) c.deref.ensures.value ∙ c.in-Ok.ensures.leaves
+    ∙ ap (λ (n : Node). open_leaves (shape_of c.args.site.now) (n ∷ []) c.args.tree.now 0)
+    (at_first c.empty.result c.empty-2.result c.empty.ensures c.empty-2.ensures)
+
+pub returns-in-Ok-clause-verdict : goal.returns-in-Ok-clause-verdict
+returns-in-Ok-clause-verdict c = (
+  c.requires.refused,
+  subst (λ (n : Node). Proves true c.args.site.now n (claim_of c.args.claim.now) c.args.tree.now)
+      (at_first c.empty.result c.empty-2.result c.empty.ensures c.empty-2.ensures)
+      c.in-Ok.ensures.proves,
+  c.lower_bound-low.ensures,
+)
+
+pub returns-in-Err-Node-clause-verdict : goal.returns-in-Err-Node-clause-verdict
+returns-in-Err-Node-clause-verdict c =
     let p = c.args.site.now in
     let claim = claim_of c.args.claim.now in
     let tree = c.args.tree.now in
-    let start : node_of (record { inside = c.empty.result; outside = c.empty-2.result })
-    ≡ first_node =
-    λ i. record { inside = has (c.empty.ensures i); outside = has (c.empty-2.ensures i) } in
-    let V : Result Verdict Unjudged → Type 0 = λ a. IfOk a (λ v. IsVerdict p claim tree v) in
-    elim c.match-check_from.branch [
-      | in-Ok w
-          ↦ subst V (sym w.result-is) (
-            c.requires.refused,
-            subst (λ (n : Node). Proves true p n claim tree) start w.in-Ok.ensures.proves,
-          )
-      | in-Err-Node w ↦
-          let fails : ClaimPasses true p claim
-          × NodeIsFault true p
-          (node_of (record { inside = c.empty.result; outside = c.empty-2.result })) claim tree
-          w.in-Err-Node.node w.in-Err-Node.why =
-          (rw w.in-Err-Node.field-0-is at w.in-Err-Node.ensures.refuses) in
-          subst V (sym w.result-is) (
-            c.requires.refused,
-            subst (λ (n : Node). ClaimPasses true p claim
-                × NodeIsFault true p n claim tree w.in-Err-Node.node w.in-Err-Node.why) start fails,
-          )
-      | in-Err-Claim w ↦ subst V (sym w.result-is) tt
-      | in-Err-Memory w ↦ subst V (sym w.result-is) tt
-    ]
+    let fails : ClaimPasses true p claim
+    × NodeIsFault true p
+    (node_of (record { inside = c.empty.result; outside = c.empty-2.result })) claim tree
+    c.in-Err-Node.node c.in-Err-Node.why =
+    (rw c.in-Err-Node.field-0-is at c.in-Err-Node.ensures.refuses) in (
+      c.requires.refused,
+      subst (λ (n : Node). ClaimPasses true p claim
+          × NodeIsFault true p n claim tree c.in-Err-Node.node c.in-Err-Node.why)
+          (at_first c.empty.result c.empty-2.result c.empty.ensures c.empty-2.ensures) fails,
+    )

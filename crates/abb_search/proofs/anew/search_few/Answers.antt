@@ -1,0 +1,25 @@
+use Rattle.pgraph.specs.View.{node_of}
+use Rattle.tree_rules.specs.Past.{IsPastAt}
+use Rattle.abb_search.proofs.StepLemmas.{passes_positive, best_passes, against_after}
+use Rattle.abb_search.proofs.RootLemmas.{root_after, root_positive}
+use Rattle.std.proofs.Common.{true, arith}
+use Rattle.abb_search.proofs.anew.search_few.Goals as goal
+
+pub run-requires-clause-going : goal.run-requires-clause-going
+run-requires-clause-going g c =
+    let given = best_passes c.args.site.now c.args.best c.requires.passes in
+    root_after IsPastAt c.args.site.now c.copy_of-node.result 300 c.args.best
+    given c.in-Ok.root c.in-Ok.ensures.root (omega arith)
+
+pub returns-in-Ok-clause-against : goal.returns-in-Ok-clause-against
+returns-in-Ok-clause-against g c =
+    let p = c.args.site.now in
+    let best = c.args.best in
+    let root = c.in-Ok.root in
+    let looked = c.in-Ok.ensures.root in
+    let positive =
+    root_positive IsPastAt p c.copy_of-node.result 300 best
+    (best_passes p best c.requires.passes) root looked (omega arith) in
+    against_after IsPastAt p (node_of root.start) root.budget best root.best
+    c.run.result c.run.ensures.found (passes_positive true p best c.requires.passes) positive
+    looked.fallen c.run.ensures.against

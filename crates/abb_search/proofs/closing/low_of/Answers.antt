@@ -1,0 +1,14 @@
+use Rattle.std.proofs.Common.{Some, ap, inl, inr, refl}
+use Rattle.tree_rules.specs.Leaf.{Scaled}
+use Rattle.search_tree.specs.declared.shut.Shut.TheVariants as shuts
+use Rattle.abb_search.proofs.closing.low_of.Goals as goal
+
+pub returns-then-not-wanted : goal.returns-then-not-wanted
+returns-then-not-wanted c = inl refl
+
+pub returns : goal.returns
+returns c = inr (
+  ap (λ (m : Scaled). Some (shuts.Low m)) c.in_ok-copy.ensures,
+  c.are_in_range.ensures.scale,
+  c.are_in_range.ensures.multipliers,
+)

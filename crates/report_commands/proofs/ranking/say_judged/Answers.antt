@@ -1,0 +1,51 @@
+use Rattle.std.proofs.Common.{◌∷◌, [], refl, inl, ℕ, List, codes}
+use Rattle.rank_rules.specs.Ranked.{NetworkIsFault}
+use Rattle.rank_rules.specs.Text.{ranking_of}
+use Rattle.studio_rules.specs.Lines.{line, text_of}
+use Rattle.studio_rules.specs.RankWords.{network_line}
+use Rattle.studio_rules.specs.Ending.{Ends, Tells, Only, OrMemory}
+use Rattle.studio_rules.specs.declared.status.Status.{Status}
+use Rattle.studio_rules.specs.declared.status.Status.TheVariants.{Done, BadClaim, Memory}
+use Rattle.endings.proofs.Ending.{Ends-map, only_in, only_or_memory_in, one_line}
+use Rattle.report_commands.specs.Works.{RankWork, rank_lines}
+use Rattle.report_commands.proofs.Works.{done, refused}
+use Rattle.report_commands.proofs.ranking.say_judged.Goals as goal
+
+pub returns-in-Ok : goal.returns-in-Ok
+returns-in-Ok g c =
+    let form = c.args.form in
+    let p = c.args.site.now in
+    let t = c.args.ranking.now in
+    let Q : Status → List ℕ → Type 0 = Tells (RankWork form p t) in
+    let lines : List (List ℕ) = rank_lines form p (ranking_of t) c.in-Ok.verdict in
+    Ends-map _ Q c.args.out.now _ _
+    (only_or_memory_in Q Done (text_of lines)
+    (lines, done form p t c.in-Ok.verdict c.in-Ok.ensures.verdict, refl) ([], inl refl, refl))
+    (c.say_made.ensures lines c.text_of.ensures)
+
+pub returns-in-Err-Network : goal.returns-in-Err-Network
+returns-in-Err-Network g c =
+    let form = c.args.form in
+    let p = c.args.site.now in
+    let t = c.args.ranking.now in
+    let Q : Status → List ℕ → Type 0 = Tells (RankWork form p t) in
+    let fails : NetworkIsFault p (ranking_of t) c.in-Err-Network.number c.in-Err-Network.why =
+    (rw c.in-Err-Network.field-0-is at c.in-Err-Network.ensures.unjudged) in
+    let told : List ℕ = network_line c.in-Err-Network.number c.in-Err-Network.why in
+    let said : Ends (OrMemory (Only BadClaim (line told))) c.args.out.now c.say_network.new.out
+    c.say_network.result = (rw c.in-Err-Network.field-0-is at c.say_network.ensures) in
+    Ends-map (OrMemory (Only BadClaim (line told))) Q c.args.out.now c.say_network.new.out
+    c.say_network.result
+    (only_or_memory_in Q BadClaim (line told) (
+      told ∷ [],
+      refused form p t c.in-Err-Network.number c.in-Err-Network.why fails,
+      one_line told,
+    ) ([], inl refl, refl))
+    said
+
+pub returns-in-Err-Memory : goal.returns-in-Err-Memory
+returns-in-Err-Memory g c =
+    let Q : Status → List ℕ → Type 0 =
+    Tells (RankWork c.args.form c.args.site.now c.args.ranking.now) in
+    Ends-map _ Q c.args.out.now _ _ (only_in Q Memory (line (codes "memory")) ([], inl refl, refl))
+    c.say_memory.ensures

@@ -1,0 +1,103 @@
+//! The object of a ranking.
+ghost use Rattle.std.specs.Prelude.{◌≡◌, [], IfOk, codes};
+ghost use Rattle.rank_rules.specs.Networks.{ArePassing};
+ghost use Rattle.rank_rules.specs.Text.{ranking_of};
+ghost use Rattle.json_rules.specs.Facts as facts;
+ghost use Rattle.json_rules.specs.Json.{member};
+ghost use Rattle.json_rules.specs.Ranked as ranked;
+ghost use Rattle.studio_rules.specs.Lines.{text_of};
+ghost use Rattle.studio_rules.specs.RankJson as rules;
+
+use json_pieces::Json;
+use json_text::{count_member, first_of, networks_member, text_member};
+use pgraph::Site;
+use rank_commands::rank_why_word;
+use ranked_tree::RankText;
+use report_rules::RankVerdict;
+use std::alloc::{AllocError, Global};
+
+fn verdict_word(verdict: RankVerdict) -> &'static str
+    ensures { result.now ≡ rules.rank_verdict_word verdict }
+{
+    match verdict {
+        RankVerdict::Proved => "proved",
+        RankVerdict::Unfinished { .. } => "not finished",
+        RankVerdict::Fails { .. } => "not proved",
+    }
+}
+
+fn node_json(alloc: Global, verdict: RankVerdict) -> Result<Json, AllocError>
+    ensures { IfOk result (λ json. json ≡ rules.rank_node_json verdict) }
+{
+    match verdict {
+        RankVerdict::Proved => Json::null(alloc),
+        RankVerdict::Unfinished { node } => Json::count(alloc, u64::from(node)),
+        RankVerdict::Fails { node, .. } => Json::count(alloc, u64::from(node)),
+    }
+}
+
+/// The node that is open or fails, under its key.
+fn node_member(alloc: Global, verdict: RankVerdict) -> Result<Json, AllocError>
+    ensures { IfOk result (λ json. json ≡ member (codes "node") (rules.rank_node_json verdict)) }
+{
+    let node = node_json(alloc, verdict)?;
+    Json::member(alloc, "node", &node)
+}
+
+fn why_json(alloc: Global, verdict: RankVerdict) -> Result<Json, AllocError>
+    ensures { IfOk result (λ json. json ≡ rules.rank_why_json verdict) }
+{
+    match verdict {
+        RankVerdict::Proved => Json::null(alloc),
+        RankVerdict::Unfinished { .. } => Json::string(alloc, "open"),
+        RankVerdict::Fails { why, .. } => Json::string(alloc, rank_why_word(why)),
+    }
+}
+
+/// The cause, under its key.
+fn why_member(alloc: Global, verdict: RankVerdict) -> Result<Json, AllocError>
+    ensures { IfOk result (λ json. json ≡ member (codes "why") (rules.rank_why_json verdict)) }
+{
+    let why = why_json(alloc, verdict)?;
+    Json::member(alloc, "why", &why)
+}
+
+/// How many networks were asked for, under its key.
+fn asked_member(alloc: Global, ranking: &RankText) -> Result<Json, AllocError>
+    ensures { IfOk result (λ json. json ≡ facts.count_member (codes "asked") ranking.now.count) }
+{
+    count_member(alloc, "asked", u64::from(ranking.count()))
+}
+
+/// The networks, best first, under their key.
+fn listed_member(alloc: Global, site: &Site<'_>, ranking: &RankText) -> Result<Json, AllocError>
+    ensures { IfOk result
+        (λ json. json ≡ ranked.networks_member site.now ranking.now.networks) }
+{
+    ranking.is_counted();
+    let listed = networks_member(alloc, site.problem(), ranking.networks())?;
+    Ok(listed)
+}
+
+/// What the tree proves, the networks, and the facts of the first.
+pub(crate) fn rank_object(
+    alloc: Global,
+    site: &Site<'_>,
+    ranking: &RankText,
+    verdict: RankVerdict,
+) -> Result<Vec<u8>, AllocError>
+    requires listed { ArePassing site.now [] ranking.now.networks }
+    ensures { IfOk result
+        (λ bytes. bytes.items
+        ≡ text_of (rules.rank_json_lines site.now (ranking_of ranking.now) verdict)) }
+{
+    let stated = text_member(alloc, "verdict", verdict_word(verdict))?;
+    let node = node_member(alloc, verdict)?;
+    let why = why_member(alloc, verdict)?;
+    let claimed = text_member(alloc, "claim", "ranking")?;
+    let asked = asked_member(alloc, ranking)?;
+    let listed = listed_member(alloc, site, ranking)?;
+    let head = [stated, node, why, claimed, asked, listed];
+    let bytes = first_of(alloc, &head, site, ranking.networks())?;
+    Ok(bytes)
+}

@@ -1,0 +1,137 @@
+//! From the ranking to its text.
+ghost use Rattle.std.specs.Prelude.{◌≡◌, ◌<◌, ◌≤◌, ◌^◌, [], ℕ, List, IfOk, length};
+ghost use Rattle.rank_rules.specs.Networks.{ArePassing};
+ghost use Rattle.rank_rules.specs.Text.{ranking_of};
+ghost use Rattle.report_commands.specs.Works.{RankWork, rank_lines};
+ghost use Rattle.studio_rules.specs.Lines.{line, text_of};
+ghost use Rattle.studio_rules.specs.RankWords.{network_line};
+ghost use Rattle.studio_rules.specs.TextFile.{RankSays};
+ghost use Rattle.studio_rules.specs.Ending.{Ends, Tells, Only, OrMemory};
+ghost use Rattle.studio_rules.specs.declared.status.Status.TheVariants.{BadClaim};
+
+use crate::form::Form;
+use crate::object::rank_object;
+use crate::report::rank_report;
+use command_files::say_tree_fault;
+use endings::say::{say_made, say_memory, tell_made};
+use messages::{Format, Notes, Source, refused};
+use pgraph::{Graph, Site};
+use pns_io::{Outputs, Sink};
+use pns_problem::Problem;
+use rank_commands::network_line;
+use rank_rules::RankWhy;
+use rank_text::read_rank;
+use rank_verdicts::{RankUnjudged, rank_verdict_of};
+use ranked_tree::RankText;
+use report_rules::RankVerdict;
+use std::alloc::{AllocError, Global};
+use studio_rules::Status;
+use tree_reading::TreeFault;
+
+/// The text of a ranking in this form.
+fn text_of(
+    alloc: Global,
+    form: Form,
+    site: &Site<'_>,
+    ranking: &RankText,
+    verdict: RankVerdict,
+) -> Result<Vec<u8>, AllocError>
+    requires listed { ArePassing site.now [] ranking.now.networks }
+    ensures { IfOk result
+        (λ bytes. bytes.items
+        ≡ text_of (rank_lines form site.now (ranking_of ranking.now) verdict)) }
+{
+    match form {
+        Form::Report => rank_report(alloc, site, ranking, verdict),
+        Form::Json => rank_object(alloc, site, ranking, verdict),
+    }
+}
+
+// What follows the line on a network that fails.
+fn notes_on(alloc: Global, why: RankWhy) -> Notes {
+    match why {
+        RankWhy::Plain(cause) => refused(alloc, cause),
+        RankWhy::Order | RankWhy::Named => Notes::new(alloc),
+    }
+}
+
+/// Prints which network fails first, and why.
+fn say_network<K: Sink, E: Sink>(
+    alloc: Global,
+    out: &mut Outputs<K, E>,
+    number: u32,
+    why: RankWhy,
+) -> Status
+    ensures { Ends (OrMemory (Only BadClaim (line (network_line number why)))) out.old out.new
+        result }
+{
+    let notes = notes_on(alloc, why);
+    tell_made(
+        out,
+        network_line(alloc, number, why),
+        notes.bytes(),
+        Status::BadClaim,
+    )
+}
+
+/// Prints what the tree proves, and the networks; or the first network that fails.
+fn say_judged<K: Sink, E: Sink>(
+    alloc: Global,
+    form: Form,
+    out: &mut Outputs<K, E>,
+    site: &Site<'_>,
+    ranking: &RankText,
+) -> Status
+    requires few { length ranking.now.tree < 2 ^ 32 }
+    ensures { Ends (Tells (RankWork form site.now ranking.now)) out.old out.new result }
+{
+    match rank_verdict_of(alloc, site, ranking) {
+        Ok(verdict) => say_made(out, text_of(alloc, form, site, ranking, verdict)),
+        Err(RankUnjudged::Network { number, why }) => say_network(alloc, out, number, why),
+        Err(RankUnjudged::Memory) => say_memory(out),
+    }
+}
+
+/// The same, once the problem's graph is made.
+fn say_ranked<K: Sink, E: Sink>(
+    alloc: Global,
+    form: Form,
+    out: &mut Outputs<K, E>,
+    problem: &Problem,
+    ranking: &RankText,
+) -> Status
+    requires few { length ranking.now.tree < 2 ^ 32 }
+    ensures { Ends (Tells (RankWork form problem.now ranking.now)) out.old out.new result }
+{
+    let Ok(graph) = Graph::of(alloc, problem) else {
+        return say_memory(out);
+    };
+    let site = Site::of(problem, &graph);
+    say_judged(alloc, form, out, &site, ranking)
+}
+
+/// Prints the ranking of the bytes of a file, or their first fault.
+pub(crate) fn say_ranking<K: Sink, E: Sink>(
+    alloc: Global,
+    form: Form,
+    out: &mut Outputs<K, E>,
+    problem: &Problem,
+    bytes: &[u8],
+) -> Status
+    requires { length bytes.now ≤ 268435456 }
+    ensures { (name : List ℕ)
+        → Ends (Tells (RankSays (RankWork form) name problem.now bytes.now)) out.old out.new
+        result }
+{
+    match read_rank(alloc, problem, bytes) {
+        Ok(ranking) => say_ranked(alloc, form, out, problem, &ranking),
+        Err(TreeFault::At { line, kind }) => {
+            let source = Source {
+                text: bytes,
+                format: Format::Rank,
+            };
+            say_tree_fault(alloc, out, source, line, kind)
+        }
+        Err(TreeFault::Memory) => say_memory(out),
+    }
+}

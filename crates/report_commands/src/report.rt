@@ -1,0 +1,56 @@
+//! The report of a ranking.
+ghost use Rattle.std.specs.Prelude.{◌≡◌, ◌++◌, ◌∷◌, [], IfOk, length};
+ghost use Rattle.rank_rules.specs.Networks.{ArePassing};
+ghost use Rattle.rank_rules.specs.Text.{ranking_of};
+ghost use Rattle.studio_rules.specs.Lines.{text_of};
+ghost use Rattle.studio_rules.specs.RankReport.{rank_first_line, rank_report_lines};
+
+use crate::words::push_first_line;
+use pgraph::Site;
+use ranked_tree::RankText;
+use report_rules::RankVerdict;
+use report_tables::ranking_of;
+use std::alloc::{AllocError, Global};
+
+/// How many networks there are.
+fn found_in(text: &RankText) -> u32
+    ensures { result ≡ length text.now.networks }
+{
+    text.is_counted();
+    text.networks().len() as u32
+}
+
+/// The first line, with its line feed.
+fn first_text(
+    alloc: Global,
+    count: u32,
+    found: u32,
+    verdict: RankVerdict,
+) -> Result<Vec<u8>, AllocError>
+    ensures { IfOk result
+        (λ bytes. bytes.items ≡ rank_first_line count found verdict ++ 10 ∷ []) }
+{
+    let mut text = String::new(alloc);
+    push_first_line(&mut text, count, found, verdict)?;
+    text.push('\n')?;
+    Ok(text.into_bytes())
+}
+
+/// What the tree proves, and after it the table of the networks and the report of the first.
+pub(crate) fn rank_report(
+    alloc: Global,
+    site: &Site<'_>,
+    ranking: &RankText,
+    verdict: RankVerdict,
+) -> Result<Vec<u8>, AllocError>
+    requires listed { ArePassing site.now [] ranking.now.networks }
+    ensures { IfOk result
+        (λ bytes. bytes.items
+        ≡ text_of (rank_report_lines site.now (ranking_of ranking.now) verdict)) }
+{
+    ranking.is_counted();
+    let mut bytes = first_text(alloc, ranking.count(), found_in(ranking), verdict)?;
+    let tables = ranking_of(alloc, site, ranking.networks())?;
+    bytes.extend_from_slice(&tables)?;
+    Ok(bytes)
+}

@@ -1,0 +1,2 @@
+mod LowerRows
+mod WorkedRanking

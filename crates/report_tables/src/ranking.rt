@@ -1,0 +1,277 @@
+//! The table of a ranking.
+ghost use Rattle.std.specs.Prelude.{◌≡◌, ◌<◌, ◌+◌, ◌^◌, ◌++◌, ◌∷◌, [], IfOk, OnOk, length};
+ghost use Rattle.std.specs.Prelude.{decimal, string_bytes};
+ghost use Rattle.pns_problem.specs.Printing.{printed};
+ghost use Rattle.tree_rules.specs.Claim.{IsFeasible};
+ghost use Rattle.report_rules.specs.Report.{total_cell, report_lines};
+ghost use Rattle.report_rules.specs.Ranked.{share_above_cell, with_word, signed_names, change_cell};
+ghost use Rattle.report_rules.specs.Ranked.{with_idle, idle_names, idle_cell, ranking_row};
+ghost use Rattle.report_rules.specs.Ranked.{ranking_rows};
+ghost use Rattle.report_rules.specs.Ranked.{ranking_table, ranking_lines};
+ghost use Rattle.report_tables.specs.First.{IsFirstFeasible};
+
+use crate::cells::{push_number, push_words};
+use crate::money::push_total;
+use crate::row::Row;
+use crate::tables::push_table_and_gap;
+use crate::text::push_report;
+use branch_tree::Network;
+use pgraph::Site;
+use pns_problem::Problem;
+use pns_tables::size_at;
+use report_amounts::{above_first, share_above};
+use report_rules::Sort;
+use std::alloc::{AllocError, Global};
+use unit_sets::UnitSet;
+
+const HEADING: [&str; 6] = ["place", "cost", "above", "above %", "change", "idle"];
+
+fn push_place(alloc: Global, row: &mut Row, place: u32) -> Result<(), AllocError>
+    ensures { OnOk result (row.new ≡ row.old ++ decimal place ∷ []) }
+{
+    let cell = format!(in alloc; "{place}")?;
+    row.push(cell)
+}
+
+fn push_cost(
+    alloc: Global,
+    row: &mut Row,
+    problem: &Problem,
+    network: &Network,
+) -> Result<(), AllocError>
+    ensures { OnOk result (row.new ≡ row.old ++ total_cell problem.now network.now ∷ []) }
+{
+    let mut cell = String::new(alloc);
+    push_total(&mut cell, problem, network)?;
+    row.push(cell)
+}
+
+/// What the network costs more than the first in per cent, or `-` if that costs nothing.
+#[tactic(auto, unfolding(report_rules::specs::Ranked::share_above_cell))]
+fn push_share_above(
+    alloc: Global,
+    row: &mut Row,
+    first: &Network,
+    network: &Network,
+) -> Result<(), AllocError>
+    ensures { OnOk result (row.new ≡ row.old ++ share_above_cell first.now network.now ∷ []) }
+{
+    if first.cost() == 0 {
+        return push_words(alloc, row, "-");
+    }
+    let mut cell = String::new(alloc);
+    share_above(first, network).push_share(&mut cell)?;
+    row.push(cell)
+}
+
+/// Appends a sign and a word, and before them a space if the text is not empty.
+fn push_word(text: &mut String, sign: &str, word: &str) -> Result<(), AllocError>
+    ensures { OnOk result
+        (string_bytes text.new ≡ with_word (string_bytes text.old) (sign.now ++ word.now)) }
+{
+    if !text.is_empty() {
+        text.push(' ')?;
+    }
+    text.push_str(sign)?;
+    text.push_str(word)
+}
+
+/// Appends the names of the units, each with the sign before it.
+fn push_signed(
+    text: &mut String,
+    sign: &str,
+    problem: &Problem,
+    units: UnitSet,
+) -> Result<(), AllocError>
+    ensures { OnOk result
+        (string_bytes text.new ≡ signed_names problem.now sign.now (string_bytes text.old) units) }
+{
+    for u in units {
+        push_word(text, sign, problem.unit_name(u))?;
+    }
+    Ok(())
+}
+
+/// The units that the network takes in and leaves out against the first.
+fn push_change(
+    alloc: Global,
+    row: &mut Row,
+    problem: &Problem,
+    first: &Network,
+    network: &Network,
+) -> Result<(), AllocError>
+    ensures { OnOk result
+        (row.new ≡ row.old ++ change_cell problem.now first.now network.now ∷ []) }
+{
+    let mut cell = String::new(alloc);
+    push_signed(
+        &mut cell,
+        "+",
+        problem,
+        network.units().minus(first.units()),
+    )?;
+    push_signed(
+        &mut cell,
+        "-",
+        problem,
+        first.units().minus(network.units()),
+    )?;
+    row.push(cell)
+}
+
+/// Appends the name of the unit if its size is 0.
+#[tactic(auto, unfolding(report_rules::specs::Ranked::with_idle))]
+fn push_if_idle(
+    text: &mut String,
+    problem: &Problem,
+    network: &Network,
+    u: u32,
+) -> Result<(), AllocError>
+    ensures { OnOk result
+        (string_bytes text.new ≡ with_idle problem.now network.now (string_bytes text.old) u) }
+{
+    if size_at(network, u) == 0 {
+        push_word(text, "", problem.unit_name(u))
+    } else {
+        Ok(())
+    }
+}
+
+/// Appends the names of those units whose size is 0.
+fn push_idle_of(
+    text: &mut String,
+    problem: &Problem,
+    network: &Network,
+    units: UnitSet,
+) -> Result<(), AllocError>
+    ensures { OnOk result
+        (string_bytes text.new ≡ idle_names problem.now network.now (string_bytes text.old)
+        units) }
+{
+    for u in units {
+        push_if_idle(text, problem, network, u)?;
+    }
+    Ok(())
+}
+
+/// The units of size 0.
+fn push_idle(
+    alloc: Global,
+    row: &mut Row,
+    problem: &Problem,
+    network: &Network,
+) -> Result<(), AllocError>
+    ensures { OnOk result (row.new ≡ row.old ++ idle_cell problem.now network.now ∷ []) }
+{
+    let mut cell = String::new(alloc);
+    push_idle_of(&mut cell, problem, network, network.units())?;
+    row.push(cell)
+}
+
+fn ranking_row(
+    alloc: Global,
+    problem: &Problem,
+    first: &Network,
+    place: u32,
+    network: &Network,
+) -> Result<Row, AllocError>
+    ensures { IfOk result (λ row. row ≡ ranking_row problem.now first.now place network.now) }
+{
+    let mut row = Row::new(alloc);
+    push_place(alloc, &mut row, place)?;
+    push_cost(alloc, &mut row, problem, network)?;
+    push_number(alloc, &mut row, &above_first(problem, first, network))?;
+    push_share_above(alloc, &mut row, first, network)?;
+    push_change(alloc, &mut row, problem, first, network)?;
+    push_idle(alloc, &mut row, problem, network)?;
+    Ok(row)
+}
+
+/// The place of the network of this number, counted from 0.
+fn place_of(at: usize) -> u32
+    requires { at + 1 < 2 ^ 32 }
+    ensures { result ≡ at + 1 }
+{
+    at as u32 + 1
+}
+
+fn ranking_rows(
+    alloc: Global,
+    problem: &Problem,
+    first: &Network,
+    networks: &[Network],
+) -> Result<Vec<Row>, AllocError>
+    requires { length networks.now < 2 ^ 32 }
+    ensures { IfOk result
+        (λ rows. rows.items ≡ ranking_rows problem.now first.now 1 networks.now) }
+{
+    let mut rows = Vec::new(alloc);
+    'rows: for i in 0..networks.len() {
+        let row = ranking_row(alloc, problem, first, place_of(i), &networks[i])?;
+        rows.push(row)?;
+    }
+    Ok(rows)
+}
+
+/// Appends the table and an empty line.
+fn push_ranking(
+    alloc: Global,
+    text: &mut String,
+    problem: &Problem,
+    first: &Network,
+    networks: &[Network],
+) -> Result<(), AllocError>
+    requires { length networks.now < 2 ^ 32 }
+    ensures { OnOk result
+        (string_bytes text.new ≡ string_bytes text.old
+        ++ printed (ranking_table problem.now first.now networks.now)) }
+{
+    let heading = Row::of_words(alloc, &HEADING)?;
+    let rows = ranking_rows(alloc, problem, first, networks)?;
+    let sorts = [
+        Sort::Numbers,
+        Sort::Sums,
+        Sort::Numbers,
+        Sort::Numbers,
+        Sort::Words,
+        Sort::Words,
+    ];
+    push_table_and_gap(alloc, text, &sorts, &heading, &rows)?;
+    Ok(())
+}
+
+/// The table, and after it the report of the first network.
+fn ranked_text(
+    alloc: Global,
+    site: &Site<'_>,
+    first: &Network,
+    networks: &[Network],
+) -> Result<Vec<u8>, AllocError>
+    requires few { length networks.now < 2 ^ 32 }
+    requires feasible { IsFeasible site.now first.now }
+    ensures { IfOk result
+        (λ bytes. bytes.items
+        ≡ printed (ranking_table site.now first.now networks.now
+        ++ report_lines site.now first.now)) }
+{
+    let mut text = String::new(alloc);
+    push_ranking(alloc, &mut text, site.problem(), first, networks)?;
+    push_report(alloc, &mut text, site, first)?;
+    Ok(text.into_bytes())
+}
+
+/// The table of the networks, best first, and the report of the first; nothing if there is none.
+pub fn ranking_of(
+    alloc: Global,
+    site: &Site<'_>,
+    networks: &[Network],
+) -> Result<Vec<u8>, AllocError>
+    requires few { length networks.now < 2 ^ 32 }
+    requires feasible { IsFirstFeasible site.now networks.now }
+    ensures { IfOk result (λ bytes. bytes.items ≡ printed (ranking_lines site.now networks.now)) }
+{
+    match networks.split_first() {
+        Some((first, _)) => ranked_text(alloc, site, first, networks),
+        None => Ok(Vec::new(alloc)),
+    }
+}

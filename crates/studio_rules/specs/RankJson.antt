@@ -1,0 +1,54 @@
+-- `json FILE TEXT` on a ranking: what its tree proves of the networks, the networks, and the facts
+-- of the first, as one JSON object for programs.
+use Rattle.std.specs.Prelude.{◌≡◌, ℕ, List, [], ◌∷◌, codes, decimal}
+use Rattle.problem_rules.specs.Problem.{Problem}
+use Rattle.rank_rules.specs.Ranked.{Ranking}
+use Rattle.rank_rules.specs.Text.{Text, ranking_of}
+use Rattle.report_rules.specs.declared.rank_verdict.RankVerdict.{RankVerdict}
+use Rattle.report_rules.specs.declared.rank_verdict.RankVerdict.TheVariants.{Proved, Unfinished}
+use Rattle.report_rules.specs.declared.rank_verdict.RankVerdict.TheVariants.{Fails}
+use Rattle.report_rules.specs.RankVerdict.{IsRankVerdict}
+use Rattle.json_rules.specs.Json.{quoted, null, member}
+use Rattle.json_rules.specs.Facts.{text_member, count_member}
+use Rattle.json_rules.specs.Ranked.{networks_member, lines_behind}
+use Rattle.studio_rules.specs.RankWords.{rank_why_word}
+use Rattle.studio_rules.specs.RankReport.{NetworkRefusal}
+use Rattle.studio_rules.specs.declared.status.Status.{Status}
+use Rattle.studio_rules.specs.declared.status.Status.TheVariants.{Done, BadClaim}
+
+abbrev pub rank_verdict_word : RankVerdict → List ℕ
+rank_verdict_word Proved = codes "proved"
+rank_verdict_word (Unfinished node) = codes "not finished"
+rank_verdict_word (Fails node why) = codes "not proved"
+
+-- the node that is open or fails, counted from 0 in preorder
+abbrev pub rank_node_json : RankVerdict → List ℕ
+rank_node_json Proved = null
+rank_node_json (Unfinished node) = decimal node
+rank_node_json (Fails node why) = decimal node
+
+abbrev pub rank_why_json : RankVerdict → List ℕ
+rank_why_json Proved = null
+rank_why_json (Unfinished node) = quoted (codes "open")
+rank_why_json (Fails node why) = quoted (rank_why_word why)
+
+-- with how many networks were asked for, and those that were found
+abbrev pub rank_head : Problem → Ranking → RankVerdict → List (List ℕ)
+rank_head p r verdict =
+    text_member (codes "verdict") (rank_verdict_word verdict)
+    ∷ member (codes "node") (rank_node_json verdict)
+    ∷ member (codes "why") (rank_why_json verdict) ∷ text_member (codes "claim") (codes "ranking")
+    ∷ count_member (codes "asked") r.count ∷ networks_member p r.networks ∷ []
+
+abbrev pub rank_json_lines : Problem → Ranking → RankVerdict → List (List ℕ)
+rank_json_lines p r verdict = lines_behind (rank_head p r verdict) p r.networks
+
+-- the verdict is that on the tree: `proved` exactly if `rankcheck` accepts the ranking
+abbrev pub RankJsonSays : Problem → Ranking → List (List ℕ) → Type 0
+RankJsonSays p r lines = (verdict : RankVerdict) × IsRankVerdict p r verdict
+    × (lines ≡ rank_json_lines p r verdict)
+
+abbrev pub RankJsonWork : Problem → Text → Status → List (List ℕ) → Type 0
+RankJsonWork p t Done lines = RankJsonSays p (ranking_of t) lines
+RankJsonWork p t BadClaim lines = NetworkRefusal p (ranking_of t) lines
+RankJsonWork p t status lines = ⊥

@@ -1,0 +1,38 @@
+-- TEXT is a ranking if its first line says so. Any other file is judged as a tree.
+use Rattle.std.specs.Prelude.{◌⊎◌, ℕ, Bool, true, false, List}
+use Rattle.text_rules.specs.Outside.{Told}
+use Rattle.problem_rules.specs.Problem.{Problem}
+use Rattle.tree_rules.specs.Claim.{Claim}
+use Rattle.tree_rules.specs.Accepted.{Tree}
+use Rattle.rank_rules.specs.Text.{Text}
+use Rattle.rank_rules.specs.Headed.{is_ranking}
+use Rattle.studio_rules.specs.Reading.{OnSecond}
+use Rattle.studio_rules.specs.TreeFile.{TreeSays}
+use Rattle.studio_rules.specs.Rankcheck.{RankFault, GivesRanking}
+use Rattle.studio_rules.specs.declared.status.Status.{Status}
+
+-- the first of two facts if the file is a ranking, and else the second
+abbrev pub by_kind : Bool → Type 0 → Type 0 → Type 0
+by_kind true ranked plain = ranked
+by_kind false ranked plain = plain
+
+-- The status and lines of the work on a problem and the ranking of a file: those of a file that
+-- gives none, else those of the work.
+abbrev pub RankSays : (Problem → Text → Status → List (List ℕ) → Type 0) → List ℕ → Problem
+    → List ℕ → Status → List (List ℕ) → Type 0
+RankSays work name p file status lines =
+    RankFault name p file status lines
+    ⊎ ((t : Text) × GivesRanking p file t × work p t status lines)
+
+-- the same of a file that is a tree or a ranking, with a work for each
+abbrev pub EitherSays : (Problem → Claim → Tree → Status → List (List ℕ) → Type 0)
+    → (Problem → Text → Status → List (List ℕ) → Type 0) → List ℕ → Problem → List ℕ → Status
+    → List (List ℕ) → Type 0
+EitherSays on_tree on_rank name p file status lines =
+    by_kind (is_ranking file) (RankSays on_rank name p file status lines)
+    (TreeSays on_tree name p file status lines)
+
+abbrev pub OnEither : (Problem → Claim → Tree → Status → List (List ℕ) → Type 0)
+    → (Problem → Text → Status → List (List ℕ) → Type 0) → (List ℕ → Told) → List ℕ → Problem
+    → Status → List (List ℕ) → Type 0
+OnEither on_tree on_rank held name = OnSecond (EitherSays on_tree on_rank name) held name
