@@ -12,8 +12,8 @@
 //!
 //! After a leaf was branched, the leaf of least value is shut if a charge of it is found that is no
 //! less than the best network's cost, and then the next one. A search that runs to the end does so
-//! only if it has not ended without charges after a few hundred nodes. Then it starts anew, with the
-//! best network so far or a cheaper one that is guessed.
+//! only if it has not ended without charges after a few hundred nodes. Then it starts anew, with
+//! the best network so far or a cheaper one that is guessed.
 //!
 //! Modules: `growing` the tree and how a leaf is branched; `charging` leaves that a charge shuts;
 //! `settling` the worth of leaves; `closing` what shuts leaves at the end; `hand` what is stored

@@ -142,7 +142,7 @@ fn units_of(found: Option<Priced>) -> Option<UnitSet> {
 }
 
 impl ChargeGuess {
-    /// What the greatest structure within the set costs.
+    /// What the greatest structure within the set costs, if a program may be solved for it.
     fn priced(
         &mut self,
         alloc: Global,
@@ -152,6 +152,9 @@ impl ChargeGuess {
         let Some(units) = spot.within(set) else {
             return Ok(None);
         };
+        if !self.may_solve() {
+            return Ok(None);
+        }
         spot.graph.is_proper();
         let node = Node {
             inside: units,

@@ -26,7 +26,14 @@ pub struct ChargeGuess {
     numbers: Numbers,
     owed: Owed,
     standings: Vec<Standing>,
+    // How many programs may still be solved for cheap networks.
+    left: u32,
 }
+
+// So many programs may be solved for cheap networks, and so many more after each proposal.
+const FIRST_PROGRAMS: u32 = 1500;
+
+const MORE_PROGRAMS: u32 = 4;
 
 // The scale of multipliers and weights.
 const SCALE: i128 = 1 << 20;
@@ -58,7 +65,17 @@ impl ChargeGuess {
             numbers,
             owed,
             standings,
+            left: FIRST_PROGRAMS,
         })
+    }
+
+    /// Whether one more program may be solved for a cheap network; it is counted.
+    pub(crate) fn may_solve(&mut self) -> bool {
+        if self.left == 0 {
+            return false;
+        }
+        self.left = self.left.saturating_sub(1);
+        true
     }
 
     /// The program of the node without sets, and how many rows it has.
@@ -104,6 +121,7 @@ impl ChargeGuess {
         cost: i128,
         d: i128,
     ) -> Result<Option<Proposal>, AllocError> {
+        self.left = self.left.saturating_add(MORE_PROGRAMS);
         let enough = enough_for(cost, d);
         let units = self.owed.count();
         let (mut tableau, rows) = self.program(alloc, node)?;
