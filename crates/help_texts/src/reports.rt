@@ -47,7 +47,7 @@ pub fn report_page() -> &'static [u8]
 Says what the tree proves, and shows the network of its claim to people: units,
 materials and money in one year.
   FILE  the plant, PNS_problem_v1
-  TREE  a tree text, as solve prints it, or a ranking, as rank prints it
+  TREE  a tree text, as solve prints it, or a rank text, as rank prints it
 Prints a line that begins with PROVED (check accepts the tree), NOT FINISHED
 (nodes are open) or NOT PROVED (node N fails, and why); then a table of units,
 one of materials and one of sums. Costs are above 0, incomes below; numbers with
@@ -82,15 +82,15 @@ pub fn json_page() -> &'static [u8]
     b"pns json FILE TREE
 Says what pns report says, as one JSON object for programs.
   FILE  the plant, PNS_problem_v1
-  TREE  a tree text, as solve prints it, or a ranking, as rank prints it
+  TREE  a tree text, as solve prints it, or a rank text, as rank prints it
 Prints the keys verdict (proved, not finished or not proved, then with the node
 that fails and why) and claim; if the claim has a network, also counts,
 payout_period, units, materials, money, paid_once and left_out. Each number is
 there twice: value has 17 digits, exact is a fraction; both are null if it
 overflows 128 bits. A line has one unit or one material.
-Of a ranking claim is ranking, asked says how many were wanted, and networks has
-place, cost, above, share_above, taken_in, left_out, idle of each. The keys from
-counts on are those of the best one.
+Of a rank text claim is ranking or alternatives, asked says how many were
+wanted, and networks has place, cost, above, share_above, taken_in, left_out,
+idle of each. The keys from counts on are those of the best one.
 Ends with
   0   The whole text was printed. The verdict says what is proved.
   1   refused claim WHY, refused network K WHY: as of pns report

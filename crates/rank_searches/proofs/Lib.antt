@@ -1,2 +1,3 @@
+mod Alternates
 mod Marks
 pub mod Rankings

@@ -62,6 +62,12 @@ fn why_member(alloc: Global, verdict: RankVerdict) -> Result<Json, AllocError>
     Json::member(alloc, "why", &why)
 }
 
+fn claim_word(distinct: bool) -> &'static str
+    ensures { result.now ≡ rules.claim_word distinct }
+{
+    if distinct { "alternatives" } else { "ranking" }
+}
+
 /// How many networks were asked for, under its key.
 fn asked_member(alloc: Global, ranking: &RankText) -> Result<Json, AllocError>
     ensures { IfOk result (λ json. json ≡ facts.count_member (codes "asked") ranking.now.count) }
@@ -86,7 +92,7 @@ pub(crate) fn rank_object(
     ranking: &RankText,
     verdict: RankVerdict,
 ) -> Result<Vec<u8>, AllocError>
-    requires listed { ArePassing site.now [] ranking.now.networks }
+    requires listed { ArePassing ranking.now.distinct site.now [] ranking.now.networks }
     ensures { IfOk result
         (λ bytes. bytes.items
         ≡ text_of (rules.rank_json_lines site.now (ranking_of ranking.now) verdict)) }
@@ -94,7 +100,7 @@ pub(crate) fn rank_object(
     let stated = text_member(alloc, "verdict", verdict_word(verdict))?;
     let node = node_member(alloc, verdict)?;
     let why = why_member(alloc, verdict)?;
-    let claimed = text_member(alloc, "claim", "ranking")?;
+    let claimed = text_member(alloc, "claim", claim_word(ranking.is_distinct()))?;
     let asked = asked_member(alloc, ranking)?;
     let listed = listed_member(alloc, site, ranking)?;
     let head = [stated, node, why, claimed, asked, listed];

@@ -36,7 +36,7 @@ fn text_of(
     ranking: &RankText,
     verdict: RankVerdict,
 ) -> Result<Vec<u8>, AllocError>
-    requires listed { ArePassing site.now [] ranking.now.networks }
+    requires listed { ArePassing ranking.now.distinct site.now [] ranking.now.networks }
     ensures { IfOk result
         (λ bytes. bytes.items
         ≡ text_of (rank_lines form site.now (ranking_of ranking.now) verdict)) }
@@ -51,7 +51,7 @@ fn text_of(
 fn notes_on(alloc: Global, why: RankWhy) -> Notes {
     match why {
         RankWhy::Plain(cause) => refused(alloc, cause),
-        RankWhy::Order | RankWhy::Named => Notes::new(alloc),
+        RankWhy::Order | RankWhy::Contains | RankWhy::Named | RankWhy::Over => Notes::new(alloc),
     }
 }
 

@@ -52,6 +52,7 @@ use Rattle.studio_rules.specs.Flows.{FlowsWork}
 use Rattle.studio_rules.specs.Check.{CheckWork}
 use Rattle.studio_rules.specs.Rankcheck.{RankFault, GivesRanking, OnRank, RankcheckWork}
 use Rattle.studio_rules.specs.Rank.{RankWork}
+use Rattle.studio_rules.specs.Alternates.{AlternatesWork}
 use Rattle.studio_rules.specs.Network.{OnNetwork}
 use Rattle.studio_rules.specs.Table.{TableWork}
 use Rattle.studio_rules.specs.Report.{ReportWork}
@@ -75,6 +76,7 @@ use Rattle.studio_rules.specs.Stable.{spot_named, NamedWork, StableWork}
 use Rattle.studio_rules.specs.Command.{Command, Max, Axioms, Flows, Listing, Linting, Make}
 use Rattle.studio_rules.specs.Command.{Migrate}
 use Rattle.studio_rules.specs.Command.{Editing, Undoing, Checking, RankChecking, Solving, Showing}
+use Rattle.studio_rules.specs.Command.{Alternatives}
 use Rattle.studio_rules.specs.Command.{Ranking, Trial, Telling, Table, Splitting, Expanding}
 use Rattle.studio_rules.specs.Command.{Drawing, DrawingNetwork, Reporting, Json, Ranging}
 use Rattle.studio_rules.specs.Command.{Planning}
@@ -92,6 +94,7 @@ use Rattle.studio.proofs.Statuses.{check_status, rankcheck_status, split_status,
 use Rattle.studio.proofs.Statuses.{report_status, json_status, network_status, solve_status}
 use Rattle.studio.proofs.Statuses.{rank_report_status, rank_json_status}
 use Rattle.studio.proofs.Statuses.{show_status, rank_status, search_status, plant_graph_status}
+use Rattle.studio.proofs.Statuses.{alternatives_status}
 use Rattle.studio.proofs.Statuses.{graph_status, periods_status, part_status, claim_status}
 use Rattle.studio.proofs.Statuses.{merge_fault_status, spot_status}
 
@@ -828,6 +831,9 @@ module _ (held : List ℕ → Told) where
   command_only (Ranking file count budget) =
       file_only held file (RankWork count budget) NoCause
       (λ p s lines c h. stops_plain p s lines c (rank_status count budget p s lines h))
+  command_only (Alternatives file count budget) =
+      file_only held file (AlternatesWork count budget) NoCause
+      (λ p s lines c h. stops_plain p s lines c (alternatives_status count budget p s lines h))
   command_only (Trial number units budget) =
       λ s lines c h. stops_plain (generated number units) s lines c
       (search_status budget (generated number units) s lines h)
@@ -929,6 +935,8 @@ module _ (held : List ℕ → Told) where
   command_always once (Showing file budget) told = alone file (ShowWork budget) (told file refl)
   command_always once (Ranking file count budget) told =
       alone file (RankWork count budget) (told file refl)
+  command_always once (Alternatives file count budget) told =
+      alone file (AlternatesWork count budget) (told file refl)
   command_always once (Trial number units budget) told = λ status s lines none h. absurd none
   command_always once (Telling text) told = λ status s lines none h. absurd none
 

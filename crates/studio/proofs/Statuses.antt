@@ -12,6 +12,7 @@ use Rattle.io_rules.specs.State.{ShelfState, OutputsState}
 use Rattle.studio_rules.specs.Command.{Command, Max, Axioms, Flows, Listing, Linting, Make}
 use Rattle.studio_rules.specs.Command.{Migrate}
 use Rattle.studio_rules.specs.Command.{Editing, Undoing, Checking, RankChecking, Solving, Showing}
+use Rattle.studio_rules.specs.Command.{Alternatives}
 use Rattle.studio_rules.specs.Command.{Ranking, Trial, Telling, command_of, IsFileOf, IsFileWord}
 use Rattle.studio_rules.specs.Command.{Table, Splitting, Expanding, Drawing, DrawingNetwork}
 use Rattle.studio_rules.specs.Command.{Reporting, Json, Ranging, Planning, Parting}
@@ -35,6 +36,7 @@ use Rattle.studio_rules.specs.Check.{CheckWork}
 use Rattle.rank_rules.specs.Text.{Text}
 use Rattle.studio_rules.specs.Rank as rankings
 use Rattle.studio_rules.specs.Rank.{RankWork}
+use Rattle.studio_rules.specs.Alternates.{AlternatesHold, AlternatesWork}
 use Rattle.studio_rules.specs.Rankcheck.{RankFault, RankcheckWork, FilesListBest, AcceptedAreBest}
 use Rattle.studio_rules.specs.Network.{OnNetwork, ClaimRefusal}
 use Rattle.studio_rules.specs.Table.{TableWork}
@@ -243,6 +245,10 @@ show_status budget p s lines h = tail_status h.0.tail s h.2.0
 pub rank_status : (count budget : ℕ) (p : Problem) (s : Status) (lines : List (List ℕ))
     → RankWork count budget p s lines → (s ≡ Done) ⊎ ((s ≡ Spent) ⊎ (s ≡ Past))
 rank_status count budget p s lines h = tail_status h.0.tail s h.1
+
+pub alternatives_status : (count budget : ℕ) (p : Problem) (s : Status) (lines : List (List ℕ))
+    → AlternatesWork count budget p s lines → (s ≡ Done) ⊎ ((s ≡ Spent) ⊎ (s ≡ Past))
+alternatives_status count budget p s lines h = tail_status h.0.tail s h.1
 
 pub search_status : (budget : ℕ) (p : Problem) (s : Status) (lines : List (List ℕ))
     → SummaryWork budget p s lines → (s ≡ Done) ⊎ ((s ≡ Spent) ⊎ (s ≡ Past))
@@ -826,6 +832,18 @@ command_status held (Ranking name count budget) s lines (file, is, inr work) sho
       | inl q ↦ inl q
       | inr o ↦ elim o [ inl q ↦ inr (inl q) | inr q ↦ inr (inr (inl q)) ]
     ]
+command_status held (Alternatives name count budget) s lines (file, is, inl fault) short =
+    elim (fault_status name file s lines fault) [
+      | inl q ↦ inr (inr (inr (inl q)))
+      | inr q
+          ↦ absurd
+          (within_limit (held name) file_limit file (short name file_limit (refl, refl)) is q.1)
+    ]
+command_status held (Alternatives name count budget) s lines (file, is, inr work) short =
+    elim (alternatives_status count budget work.0 s lines work.2) [
+      | inl q ↦ inl q
+      | inr o ↦ elim o [ inl q ↦ inr (inl q) | inr q ↦ inr (inr (inl q)) ]
+    ]
 command_status held (Trial number units budget) s lines h short =
     elim (search_status budget (generated number units) s lines h) [
       | inl q ↦ inl q
@@ -981,6 +999,10 @@ answer_status held (Ranking name count budget) lines (file, is, inl fault) = abs
 answer_status held (Ranking name count budget) lines (file, is, inr work) =
     elim (rank_status count budget work.0 Usage lines work.2)
     [ inl q ↦ cc | inr o ↦ elim o [ inl q ↦ cc | inr q ↦ cc ] ]
+answer_status held (Alternatives name count budget) lines (file, is, inl fault) = absurd fault
+answer_status held (Alternatives name count budget) lines (file, is, inr work) =
+    elim (alternatives_status count budget work.0 Usage lines work.2)
+    [ inl q ↦ cc | inr o ↦ elim o [ inl q ↦ cc | inr q ↦ cc ] ]
 answer_status held (Trial number units budget) lines h =
     elim (search_status budget (generated number units) Usage lines h)
     [ inl q ↦ cc | inr o ↦ elim o [ inl q ↦ cc | inr q ↦ cc ] ]
@@ -1020,6 +1042,7 @@ memory_status (Merging file tree parts) = inr (inr (inr (inr (inr (inl refl)))))
 memory_status (Solving file budget) = inr (inr (inr (inr (inl refl))))
 memory_status (Showing file budget) = inr (inr (inr (inr (inl refl))))
 memory_status (Ranking file count budget) = inr (inr (inr (inr (inl refl))))
+memory_status (Alternatives file count budget) = inr (inr (inr (inr (inl refl))))
 memory_status (Trial number units budget) = inr (inr (inr (inl refl)))
 memory_status (Telling text) = inr (inl refl)
 
@@ -1051,6 +1074,17 @@ pub rank_finished : (count budget : ℕ) (p : Problem) (s : Status) (lines : Lis
 rank_finished count budget p s lines can (t, e, holds, text) = at t.tail e holds
   where
     at : (tail : Tail) → s ≡ status_of tail → rankings.Holds count budget p t tail
+        → IsNotStopped s
+    at whole e holds = ((λ q. cc), (λ q. cc))
+    at (spent next options) e holds = absurd (can.enough holds.2)
+    at (past node nonbasic place) e holds = let h =
+        holds.1 in absurd (can.in_range h.node nonbasic place h.sound h.reduced h.past.past)
+
+pub alternatives_finished : (count budget : ℕ) (p : Problem) (s : Status) (lines : List (List ℕ))
+    → CanFinish budget p → AlternatesWork count budget p s lines → IsNotStopped s
+alternatives_finished count budget p s lines can (t, e, holds, text) = at t.tail e holds
+  where
+    at : (tail : Tail) → s ≡ status_of tail → AlternatesHold count budget p t tail
         → IsNotStopped s
     at whole e holds = ((λ q. cc), (λ q. cc))
     at (spent next options) e holds = absurd (can.enough holds.2)
@@ -1126,6 +1160,8 @@ missing_says held (Merging file tree parts) name s lines first gone h = let same
     cc in nothing_held (held file) h.0 (ap held same ∙ gone) h.1
 missing_says held (Ranking file count budget) name s lines first gone h = let same : file ≡ name =
     cc in nothing_held (held file) h.0 (ap held same ∙ gone) h.1
+missing_says held (Alternatives file count budget) name s lines first gone h =
+    let same : file ≡ name = cc in nothing_held (held file) h.0 (ap held same ∙ gone) h.1
 missing_says held (Solving file budget) name s lines first gone h = let same : file ≡ name =
     cc in nothing_held (held file) h.0 (ap held same ∙ gone) h.1
 missing_says held (Showing file budget) name s lines first gone h = let same : file ≡ name =

@@ -9,7 +9,7 @@ use Rattle.studio_rules.specs.Command.{Undoing, Checking, RankChecking, Solving,
 use Rattle.studio_rules.specs.Command.{Trial, Telling}
 use Rattle.studio_rules.specs.Command.{Table, Splitting, Expanding, Drawing, DrawingNetwork}
 use Rattle.studio_rules.specs.Command.{Reporting, Json, Ranging, Planning, Parting, PartingAgainst}
-use Rattle.studio_rules.specs.Command.{Merging}
+use Rattle.studio_rules.specs.Command.{Merging, Alternatives}
 use Rattle.problem_rules.specs.Generated.{generated}
 use Rattle.problem_rules.specs.Problem.{Problem}
 use Rattle.tree_rules.specs.Claim.{Network, network}
@@ -34,6 +34,7 @@ use Rattle.studio_rules.specs.TreeFile.{OnTree, GivesTree, tree_limit}
 use Rattle.studio_rules.specs.Check.{CheckWork}
 use Rattle.studio_rules.specs.Rankcheck.{OnRank}
 use Rattle.studio_rules.specs.Rank.{RankWork}
+use Rattle.studio_rules.specs.Alternates.{AlternatesWork}
 use Rattle.studio_rules.specs.Network.{OnNetwork}
 use Rattle.studio_rules.specs.Table.{TableWork}
 use Rattle.studio_rules.specs.Report.{ReportWork}
@@ -76,6 +77,8 @@ SearchAnswers held (Showing file budget) status lines =
     OnFile (ShowWork budget) held file status lines
 SearchAnswers held (Ranking file count budget) status lines =
     OnFile (RankWork count budget) held file status lines
+SearchAnswers held (Alternatives file count budget) status lines =
+    OnFile (AlternatesWork count budget) held file status lines
 SearchAnswers held (Trial number units budget) status lines =
     TrialWork number units budget status lines
 SearchAnswers held command status lines = ⊥
@@ -161,6 +164,7 @@ first_file (Merging file tree parts) = Some file
 first_file (Solving file budget) = Some file
 first_file (Showing file budget) = Some file
 first_file (Ranking file count budget) = Some file
+first_file (Alternatives file count budget) = Some file
 first_file command = None
 
 -- the command reads the file, which is to hold no more bytes
@@ -229,6 +233,7 @@ statuses_of (Merging file tree parts) =
 statuses_of (Solving file budget) = Done ∷ Spent ∷ Past ∷ BadProblem ∷ Memory ∷ []
 statuses_of (Showing file budget) = Done ∷ Spent ∷ Past ∷ BadProblem ∷ Memory ∷ []
 statuses_of (Ranking file count budget) = Done ∷ Spent ∷ Past ∷ BadProblem ∷ Memory ∷ []
+statuses_of (Alternatives file count budget) = Done ∷ Spent ∷ Past ∷ BadProblem ∷ Memory ∷ []
 statuses_of (Trial number units budget) = Done ∷ Spent ∷ Past ∷ Memory ∷ []
 statuses_of command = Done ∷ Memory ∷ []
 
@@ -256,6 +261,7 @@ abbrev pub SearchCanFinish : (List ℕ → Told) → Command → Type 0
 SearchCanFinish held (Solving name budget) = OnGiven (CanFinish budget) held name
 SearchCanFinish held (Showing name budget) = OnGiven (CanFinish budget) held name
 SearchCanFinish held (Ranking name count budget) = OnGiven (CanFinish budget) held name
+SearchCanFinish held (Alternatives name count budget) = OnGiven (CanFinish budget) held name
 SearchCanFinish held (Trial number units budget) = CanFinish budget (generated number units)
 SearchCanFinish held (Parting name inside outside budget) = OnGiven (CanFinish budget) held name
 SearchCanFinish held (PartingAgainst name inside outside budget tree) =

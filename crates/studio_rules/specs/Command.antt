@@ -40,7 +40,7 @@ pub data Command : Type 0 where
   Merging : List ℕ → List ℕ → List (List ℕ) → Command
   Solving : List ℕ → ℕ → Command
   Showing : List ℕ → ℕ → Command
-  Ranking : List ℕ → ℕ → ℕ → Command
+  Ranking Alternatives : List ℕ → ℕ → ℕ → Command
   Trial : ℕ → ℕ → ℕ → Command
   Telling : List ℕ → Command
 
@@ -125,6 +125,11 @@ abbrev pub ranked_by : List ℕ → Option ℕ → Option ℕ → Option Command
 ranked_by file (Some count) (Some budget) = Some (Ranking file count budget)
 ranked_by file count budget = None
 
+-- and so are the best of those that differ
+abbrev pub alternatives_by : List ℕ → Option ℕ → Option ℕ → Option Command
+alternatives_by file (Some count) (Some budget) = Some (Alternatives file count budget)
+alternatives_by file count budget = None
+
 -- KIND: what is varied, a price or a cost
 abbrev pub kind_of : List ℕ → Option SpotKind
 kind_of kind =
@@ -163,6 +168,8 @@ on_file word file second =
     else if bytes_eq word (codes "solve") then option_map (Solving file) (budget_of second)
     else if bytes_eq word (codes "show") then option_map (Showing file) (budget_of second)
     else if bytes_eq word (codes "rank") then ranked_by file (rank_count_of second)
+    (Some full_budget)
+    else if bytes_eq word (codes "alternatives") then alternatives_by file (rank_count_of second)
     (Some full_budget)
     else if are_files (file ∷ second ∷ []) then with_file word file second
     else None
@@ -251,6 +258,8 @@ form_of (word ∷ first ∷ second ∷ third ∷ []) =
     (Planning first second) (budget_of third)
     else if bytes_eq word (codes "rank") && is_file_word first then ranked_by first
     (rank_count_of second) (budget_of third)
+    else if bytes_eq word (codes "alternatives") && is_file_word first then alternatives_by first
+    (rank_count_of second) (budget_of third)
     else if bytes_eq word (codes "part") && is_file_word first then Some
     (Parting first second third full_budget)
     else None
@@ -292,6 +301,7 @@ IsFileOf (Merging file tree parts) name = (name ≡ file) ⊎ ((name ≡ tree) �
 IsFileOf (Solving file budget) name = name ≡ file
 IsFileOf (Showing file budget) name = name ≡ file
 IsFileOf (Ranking file count budget) name = name ≡ file
+IsFileOf (Alternatives file count budget) name = name ≡ file
 IsFileOf command name = ⊥
 
 -- The numbers of a command are within the bounds of its words. A text of the program is one of
@@ -306,6 +316,8 @@ AreWithin (Planning file plan budget) = (1 ≤ budget) × (budget ≤ 1000000)
 AreWithin (Parting file inside outside budget) = (1 ≤ budget) × (budget ≤ 1000000)
 AreWithin (PartingAgainst file inside outside budget tree) = (1 ≤ budget) × (budget ≤ 1000000)
 AreWithin (Ranking file count budget) =
+    ((1 ≤ count) × (count ≤ 1000)) × ((1 ≤ budget) × (budget ≤ 1000000))
+AreWithin (Alternatives file count budget) =
     ((1 ≤ count) × (count ≤ 1000)) × ((1 ≤ budget) × (budget ≤ 1000000))
 AreWithin (Trial number units budget) =
     ((1 ≤ units) × (units ≤ 128)) × ((1 ≤ budget) × (budget ≤ 1000000))

@@ -1,3 +1,4 @@
+pub mod Alternates
 pub mod Answers
 pub mod Axioms
 pub mod Best

@@ -42,7 +42,7 @@ report_page =
     codes "Says what the tree proves, and shows the network of its claim to people: units," ∷
     codes "materials and money in one year." ∷
     codes "  FILE  the plant, PNS_problem_v1" ∷
-    codes "  TREE  a tree text, as solve prints it, or a ranking, as rank prints it" ∷
+    codes "  TREE  a tree text, as solve prints it, or a rank text, as rank prints it" ∷
     codes "Prints a line that begins with PROVED (check accepts the tree), NOT FINISHED" ∷
     codes "(nodes are open) or NOT PROVED (node N fails, and why); then a table of units," ∷
     codes "one of materials and one of sums. Costs are above 0, incomes below; numbers with" ∷
@@ -73,15 +73,15 @@ json_page =
     codes "pns json FILE TREE" ∷
     codes "Says what pns report says, as one JSON object for programs." ∷
     codes "  FILE  the plant, PNS_problem_v1" ∷
-    codes "  TREE  a tree text, as solve prints it, or a ranking, as rank prints it" ∷
+    codes "  TREE  a tree text, as solve prints it, or a rank text, as rank prints it" ∷
     codes "Prints the keys verdict (proved, not finished or not proved, then with the node" ∷
     codes "that fails and why) and claim; if the claim has a network, also counts," ∷
     codes "payout_period, units, materials, money, paid_once and left_out. Each number is" ∷
     codes "there twice: value has 17 digits, exact is a fraction; both are null if it" ∷
     codes "overflows 128 bits. A line has one unit or one material." ∷
-    codes "Of a ranking claim is ranking, asked says how many were wanted, and networks has" ∷
-    codes "place, cost, above, share_above, taken_in, left_out, idle of each. The keys from" ∷
-    codes "counts on are those of the best one." ∷
+    codes "Of a rank text claim is ranking or alternatives, asked says how many were" ∷
+    codes "wanted, and networks has place, cost, above, share_above, taken_in, left_out," ∷
+    codes "idle of each. The keys from counts on are those of the best one." ∷
     codes "Ends with" ∷
     codes "  0   The whole text was printed. The verdict says what is proved." ∷
     codes "  1   refused claim WHY, refused network K WHY: as of pns report" ∷

@@ -16,7 +16,8 @@ use Rattle.studio_rules.specs.Command.{Editing, Undoing, Checking, RankChecking,
 use Rattle.studio_rules.specs.Command.{Telling, is_help_word, is_version_word, is_page_word}
 use Rattle.studio_rules.specs.Command.{or_else, page_asked, merging_of, form_of, command_of}
 use Rattle.studio_rules.specs.Command.{of_file, on_file, with_file, made_by, tried_by, ranged_by}
-use Rattle.studio_rules.specs.Command.{ranked_by, kind_of, unit_names_of, count_of, seed_of}
+use Rattle.studio_rules.specs.Command.{ranked_by, alternatives_by, kind_of, unit_names_of}
+use Rattle.studio_rules.specs.Command.{count_of, seed_of}
 use Rattle.studio_rules.specs.Command.{unit_count_of, years_of, rank_count_of, budget_of}
 use Rattle.studio_rules.specs.Command.{full_budget, is_file_word, are_files, AreWithin, Table}
 use Rattle.studio_rules.specs.Command.{Splitting, Expanding, Drawing, DrawingNetwork, Reporting}
@@ -142,6 +143,13 @@ ranked_within file None budget p q = tt
 ranked_within file (Some count) None p q = tt
 ranked_within file (Some count) (Some budget) p q = (p, q)
 
+alternatives_within : (file : List ℕ) (count budget : Option ℕ)
+    → IfSome count (λ n. (1 ≤ n) × (n ≤ 1000)) → IfSome budget (λ n. (1 ≤ n) × (n ≤ 1000000))
+    → IfSome (alternatives_by file count budget) AreWithin
+alternatives_within file None budget p q = tt
+alternatives_within file (Some count) None p q = tt
+alternatives_within file (Some count) (Some budget) p q = (p, q)
+
 listing_within : (file after : List ℕ) (count : Option ℕ)
     → IfSome (option_map (Listing file after) count) AreWithin
 listing_within file after None = tt
@@ -183,8 +191,12 @@ on_file_within word file second =
     (ranked_by file (rank_count_of second) (Some full_budget)) _
     (ranked_within file (rank_count_of second) (Some full_budget) (numeral_within 1 1000 second)
     full_within)
+    (either_within (bytes_eq word (codes "alternatives"))
+    (alternatives_by file (rank_count_of second) (Some full_budget)) _
+    (alternatives_within file (rank_count_of second) (Some full_budget)
+    (numeral_within 1 1000 second) full_within)
     (either_within (are_files (file ∷ second ∷ [])) (with_file word file second) None
-    (with_file_within word file second) tt))))))
+    (with_file_within word file second) tt)))))))
 
 of_file_within : (word file : List ℕ) → IfSome (of_file word file) AreWithin
 of_file_within word file =
@@ -230,8 +242,12 @@ forms_within (word ∷ first ∷ second ∷ third ∷ []) =
     (ranked_by first (rank_count_of second) (budget_of third)) _
     (ranked_within first (rank_count_of second) (budget_of third) (numeral_within 1 1000 second)
     (budget_within third))
+    (either_within (bytes_eq word (codes "alternatives") && is_file_word first)
+    (alternatives_by first (rank_count_of second) (budget_of third)) _
+    (alternatives_within first (rank_count_of second) (budget_of third)
+    (numeral_within 1 1000 second) (budget_within third))
     (either_within (bytes_eq word (codes "part") && is_file_word first)
-    (Some (Parting first second third full_budget)) None full_within tt))))
+    (Some (Parting first second third full_budget)) None full_within tt)))))
 forms_within (word ∷ first ∷ second ∷ third ∷ fourth ∷ []) =
     either_within (bytes_eq word (codes "part") && is_file_word first)
     (option_map (Parting first second third) (budget_of fourth)) _

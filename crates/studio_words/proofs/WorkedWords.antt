@@ -2,6 +2,7 @@
 use Rattle.std.proofs.Common.{◌≡◌, [], ◌∷◌, Some, None, codes, option_map, refl}
 use Rattle.studio_rules.specs.Pages.{command_page_of, command_text}
 use Rattle.studio_rules.specs.Command.{command_of, budget_of, Max, Listing, Linting, Solving}
+use Rattle.studio_rules.specs.Command.{Alternatives}
 use Rattle.studio_rules.specs.Command.{Ranking, Planning, Parting, PartingAgainst, Ranging, Trial}
 use Rattle.studio_rules.specs.Command.{Checking, Merging, Flows, Telling}
 use Rattle.stability_rules.specs.declared.spot.SpotKind.TheVariants as kinds
@@ -54,6 +55,10 @@ solve_of_thousands = refl
 rank_alone : command_of (codes "rank" ∷ codes "a" ∷ codes "3" ∷ [])
     ≡ Some (Ranking (codes "a") 3 1000000)
 rank_alone = refl
+
+alternatives_alone : command_of (codes "alternatives" ∷ codes "a" ∷ codes "3" ∷ [])
+    ≡ Some (Alternatives (codes "a") 3 1000000)
+alternatives_alone = refl
 
 periods_alone : command_of (codes "periods" ∷ codes "a" ∷ codes "p" ∷ [])
     ≡ Some (Planning (codes "a") (codes "p") 1000000)

@@ -12,6 +12,7 @@ use Rattle.studio_words.specs.declared.command.Command.TheVariants.{Drawing, Dra
 use Rattle.studio_words.specs.declared.command.Command.TheVariants.{Reporting, Json, Ranging}
 use Rattle.studio_words.specs.declared.command.Command.TheVariants.{Planning, Parting}
 use Rattle.studio_words.specs.declared.command.Command.TheVariants.{PartingAgainst, Merging}
+use Rattle.studio_words.specs.declared.command.Command.TheVariants.{Alternatives}
 
 abbrev pub command_view : Command → rules.Command
 command_view (Max file) = rules.Max file.now
@@ -44,5 +45,6 @@ command_view (Merging file tree parts) =
 command_view (Solving file budget) = rules.Solving file.now budget
 command_view (Showing file budget) = rules.Showing file.now budget
 command_view (Ranking file count budget) = rules.Ranking file.now count budget
+command_view (Alternatives file count budget) = rules.Alternatives file.now count budget
 command_view (Trial number units budget) = rules.Trial number units budget
 command_view (Telling text) = rules.Telling text.now

@@ -2,6 +2,7 @@
 ghost use Rattle.std.specs.Prelude.{◌≡◌, ◌∷◌, [], IfOk, map, option_map, string_bytes};
 ghost use Rattle.studio_rules.specs.Command.{command_of, form_of, of_file, on_file, with_file};
 ghost use Rattle.studio_rules.specs.Command.{made_by, tried_by, ranged_by, ranked_by, page_asked};
+ghost use Rattle.studio_rules.specs.Command.{alternatives_by};
 ghost use Rattle.studio_rules.specs.Command.{unit_names_of, count_of, seed_of, unit_count_of};
 ghost use Rattle.studio_rules.specs.Command.{years_of, rank_count_of, budget_of, kind_of};
 ghost use Rattle.studio_rules.specs.Command.{alone, Axioms, Flows, Listing, Migrate, Solving};
@@ -46,6 +47,7 @@ pub enum Command<'a> {
     Solving(&'a str, u64),
     Showing(&'a str, u64),
     Ranking(&'a str, u64, u64),
+    Alternatives(&'a str, u64, u64),
     Trial(u64, u64, u64),
     /// A text of the program itself: help, or the version.
     Telling(&'static [u8]),
@@ -246,6 +248,8 @@ fn on_file<'a>(
         Ok(show_of(file, second))
     } else if word == "rank" {
         Ok(ranked_by(file, second, Some(MOST_NODES)))
+    } else if word == "alternatives" {
+        Ok(alternatives_by(file, second, Some(MOST_NODES)))
     } else if are_both_files(file, second) {
         Ok(with_file(word, file, second))
     } else {
@@ -320,6 +324,8 @@ fn of_four<'a>(word: &str, first: &'a str, second: &'a str, third: &'a str) -> O
         planning_of(first, second, third)
     } else if word == "rank" && !first.is_empty() {
         ranked_by(first, second, budget_of(third))
+    } else if word == "alternatives" && !first.is_empty() {
+        alternatives_by(first, second, budget_of(third))
     } else if word == "part" && !first.is_empty() {
         Some(Command::Parting(first, second, third, MOST_NODES))
     } else {
@@ -389,6 +395,14 @@ fn ranked_by<'a>(file: &'a str, count: &str, budget: Option<u64>) -> Option<Comm
 {
     let count = rank_count_of(count)?;
     Some(Command::Ranking(file, count, budget?))
+}
+
+fn alternatives_by<'a>(file: &'a str, count: &str, budget: Option<u64>) -> Option<Command<'a>>
+    ensures { option_map command_view result
+        ≡ alternatives_by file.now (rank_count_of count.now) budget }
+{
+    let count = rank_count_of(count)?;
+    Some(Command::Alternatives(file, count, budget?))
 }
 
 fn parting_of<'a>(
