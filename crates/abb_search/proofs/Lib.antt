@@ -1,5 +1,6 @@
 pub mod AnewLemmas
 pub mod ChargingLemmas
+pub mod ShuttingLemmas
 pub mod ClosingLemmas
 pub mod EndLemmas
 pub mod GrowingLemmas

@@ -1,5 +1,6 @@
 pub mod Answers
 pub mod Charging
+pub mod Shutting
 pub mod Closing
 pub mod Found
 pub mod Growing

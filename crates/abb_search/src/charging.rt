@@ -1,37 +1,12 @@
 //! Open leaves that a charge shuts.
-ghost use Rattle.std.specs.Prelude.{◌≡◌, true, None, IfSome, slice_set};
-ghost use Rattle.link_lists.specs.Lists.{has, without};
-ghost use Rattle.slab.specs.Slab.{Updates};
-ghost use Rattle.search_tree.specs.Cells.{cell_at};
+ghost use Rattle.std.specs.Prelude.{◌≡◌, IfSome};
 ghost use Rattle.abb_search.specs.Growing.{IsGrowing, IsGoing};
-ghost use Rattle.abb_search.specs.Charging.{IsSameButLeaves, IsCharging, KeepsGoing, as_charged};
+ghost use Rattle.abb_search.specs.Charging.{IsCharging, KeepsGoing};
 
-use crate::growing::{Growing, key_at, node_at, reaches};
+use crate::growing::{Growing, node_at, reaches, shut_leaf};
 use branch_tree::End;
 use node_evaluation::{Charged, Evaluator, Workspace};
 use pgraph::Site;
-
-/// Shuts an open leaf of the pool by a charge. Nothing is stored for the leaf after that, and no
-/// memory is taken.
-fn shut_charged(growing: &mut Growing, leaf: u32, charged: Charged)
-    requires { has growing.old.pool.leaves leaf ≡ true }
-    ensures frees { Updates growing.old.ready growing.new.ready
-        (cell_at growing.old.pool.payloads leaf).key None }
-    ensures cells { growing.new.pool.payloads
-        ≡ slice_set growing.old.pool.payloads leaf
-        (as_charged (cell_at growing.old.pool.payloads leaf) charged) }
-    ensures values { growing.new.pool.values ≡ growing.old.pool.values }
-    ensures leaves { growing.new.pool.leaves ≡ without leaf growing.old.pool.leaves }
-    ensures rest { IsSameButLeaves growing.old growing.new }
-{
-    growing.pool.is_pool();
-    growing.ready.try_remove(key_at(&growing.pool, leaf));
-    growing.pool.shut(leaf);
-    growing.pool.payload_mut(leaf).make_end(End::Charge {
-        scaled: charged.scaled,
-        covers: charged.covers,
-    });
-}
 
 /// A charge of the leaf of least value that is no less than the best network's cost, with the
 /// number of the leaf. If a charge is not needed, there is none: if no leaf is open, if no network
@@ -79,7 +54,11 @@ fn shut_least<E: Evaluator>(
     match charge_least(workspace, site, growing) {
         None => false,
         Some((leaf, charged)) => {
-            shut_charged(growing, leaf, charged);
+            let end = End::Charge {
+                scaled: charged.scaled,
+                covers: charged.covers,
+            };
+            shut_leaf(growing, leaf, end);
             true
         }
     }

@@ -32,7 +32,7 @@ pub enum Closing {
 
 /// What shuts one node.
 #[derive(Drop)]
-enum Shutting {
+pub enum Shutting {
     /// This shuts it, or nothing if it is no open leaf.
     By(Option<Shut>),
     /// A number overflows there.
@@ -102,7 +102,7 @@ fn shut_by(proof: Proof) -> Shutting
 }
 
 /// What shuts a node, if it is an open leaf.
-fn shut_at<E: Evaluator>(
+pub fn shut_at<E: Evaluator>(
     workspace: &mut Workspace<E>,
     site: &Site<'_>,
     growing: &Growing,

@@ -1,10 +1,10 @@
 //! The tree while it grows.
 ghost use Rattle.std.specs.Prelude.{◌≡◌, ◌↔◌, ◌<◌, ◌≤◌, ◌+◌, ◌-◌, ◌^◌, ◌*ℤ◌, ◌≤ℤ◌, pos, true};
-ghost use Rattle.std.specs.Prelude.{false, Some, IsTrue, IfOk, OnOk, OnErr, MatchOption, drop};
-ghost use Rattle.std.specs.Prelude.{length, option_copied};
+ghost use Rattle.std.specs.Prelude.{false, Some, None, IsTrue, IfOk, OnOk, OnErr, MatchOption};
+ghost use Rattle.std.specs.Prelude.{drop, length, option_copied, slice_set};
 ghost use Rattle.mixed_numbers.specs.Number.{numerator, denominator};
-ghost use Rattle.slab.specs.Slab.{get};
-ghost use Rattle.link_lists.specs.Lists.{first, has};
+ghost use Rattle.slab.specs.Slab.{get, Updates};
+ghost use Rattle.link_lists.specs.Lists.{first, has, without};
 ghost use Rattle.pns_rules.specs.Shape.{shape_of};
 ghost use Rattle.pns_rules.specs.Ends.{IsSound, IsReduced};
 ghost use Rattle.tree_rules.specs.Ways.{options_at};
@@ -13,11 +13,13 @@ ghost use Rattle.branch_tree.specs.View.{end_of};
 ghost use Rattle.branch_choice.specs.Choices.{IsChoice, way_of};
 ghost use Rattle.pgraph.specs.View.{node_of};
 ghost use Rattle.search_tree.specs.Cells.{cell_at};
+ghost use Rattle.search_tree.specs.Growth.{as_shut};
 ghost use Rattle.neutral_extension.specs.Candidates.{AreMakersOf};
 ghost use Rattle.tree_rules.specs.Costs.{IsNoMore};
 ghost use Rattle.node_evaluation.specs.Children.{AreSolvedBy};
 ghost use Rattle.node_evaluation.specs.Evaluated.{cost_over, cost_in};
 ghost use Rattle.abb_search.specs.Worth.{interval_in, interval_of};
+ghost use Rattle.abb_search.specs.Shutting.{IsSameButLeaves};
 ghost use Rattle.abb_search.specs.Growing.{IsBranching, IsSameButRoom, IsSameButHand, HasInterval};
 ghost use Rattle.abb_search.specs.Growing.{IsReachedAt, IsLeastLeaf, IsHeldUp, ready_at};
 ghost use Rattle.abb_search.specs.Growing.{interval_stop, stop_at, leaf_of, choice_of};
@@ -247,6 +249,25 @@ pub fn node_at(pool: &Pool<Cell>, leaf: u32) -> Node
 {
     pool.is_pool();
     pool.payload(leaf).node
+}
+
+/// Shuts an open leaf of the pool by giving it another end. Nothing is stored for the leaf after
+/// that, and no memory is taken.
+pub fn shut_leaf(growing: &mut Growing, leaf: u32, end: End)
+    requires { has growing.old.pool.leaves leaf ≡ true }
+    ensures frees { Updates growing.old.ready growing.new.ready
+        (cell_at growing.old.pool.payloads leaf).key None }
+    ensures cells { growing.new.pool.payloads
+        ≡ slice_set growing.old.pool.payloads leaf
+        (as_shut (cell_at growing.old.pool.payloads leaf) (end_of end)) }
+    ensures values { growing.new.pool.values ≡ growing.old.pool.values }
+    ensures leaves { growing.new.pool.leaves ≡ without leaf growing.old.pool.leaves }
+    ensures rest { IsSameButLeaves growing.old growing.new }
+{
+    growing.pool.is_pool();
+    growing.ready.try_remove(key_at(&growing.pool, leaf));
+    growing.pool.shut(leaf);
+    growing.pool.payload_mut(leaf).make_end(end);
 }
 
 /// Branches an open leaf. The answer is the network that was found at each child, if `all` are

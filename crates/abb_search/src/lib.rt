@@ -39,7 +39,10 @@ mod watching;
 mod whole;
 
 pub use anew::search_flows;
-pub use growing::{Growing, StoppedLeaf, branch_leaf, choice_at, node_at, take_stop};
+pub use closing::{Closing, Shutting, close_all, shut_at};
+pub use growing::{
+    Growing, StoppedLeaf, branch_leaf, choice_at, node_at, reaches, shut_leaf, take_stop,
+};
 pub use outcome::{Found, Turn};
 pub use root::look_at_root;
 pub use rounds::{Ending, Goal, Next, next_leaf};

@@ -32,7 +32,8 @@ use Rattle.rank_rules.specs.Networks.{cost_of, network_at, numbered, IsListed as
 use Rattle.rank_rules.specs.Networks.{last_cost, to_undercut, IsNoCheaper, ArePassing}
 use Rattle.rank_rules.specs.Ranked.{IsRanked}
 use Rattle.rank_rules.specs.Text.{Text, ranking_of}
-use Rattle.rank_rules.specs.Spelling.{networks_word, rank_text_lines, grown_lines}
+use Rattle.rank_rules.specs.Spelling.{file_type, count_word, networks_word, distinct_lines}
+use Rattle.rank_rules.specs.Spelling.{listed_lines, rank_text_lines, grown_lines}
 use Rattle.rank_laws.proofs.NetworkLemmas.{at_least_too, at_most_last, AtMostLast}
 use Rattle.rank_laws.proofs.RankedLemmas.{other_costs_enough}
 use Rattle.studio_rules.specs.Printed.{spelled}
@@ -169,11 +170,18 @@ abbrev ranked_lines : Problem → Text → List Network → List (List ℕ)
 ranked_lines p t ws = spelled ((networks_word ∷ decimal (length ws) ∷ []) ∷
     (flat_map (network_lines p) ws ++ grown_lines p t))
 
-rank_tells : (p : Problem) (t : Text) (ws : List Network) (lines : List (List ℕ)) → t.networks ≡ ws
-    → lines ≡ spelled (rank_text_lines p t) → RankTells lines (first_cost ws)
+-- all lines, if the text is a list of alternatives or not
+abbrev lines_if : Problem → Text → Bool → List (List ℕ)
+lines_if p t distinct =
+    spelled ((file_type ∷ []) ∷ (count_word ∷ decimal t.count ∷ [])
+    ∷ (distinct_lines distinct ++ listed_lines p t))
+
+rank_tells_by : (p : Problem) (t : Text) (ws : List Network) (lines : List (List ℕ))
+    → t.networks ≡ ws → lines ≡ lines_if p t false → RankTells lines (first_cost ws)
 unfolding digits
-rank_tells p t [] lines is e = (spelled (grown_lines p t), ap (drop 2) e ∙ ap (ranked_lines p t) is)
-rank_tells p t (w ∷ ws) lines is e = (
+rank_tells_by p t [] lines is e =
+    (spelled (grown_lines p t), ap (drop 2) e ∙ ap (ranked_lines p t) is)
+rank_tells_by p t (w ∷ ws) lines is e = (
   map (unit_name p) w.units,
   (
     w.sizes,
@@ -182,6 +190,11 @@ rank_tells p t (w ∷ ws) lines is e = (
         ∙ ap (λ (vs : List Network). drop 1 (ranked_lines p t vs)) is,
   ),
 )
+
+rank_tells : (p : Problem) (t : Text) → t.distinct ≡ false → (ws : List Network)
+    (lines : List (List ℕ)) → t.networks ≡ ws → lines ≡ spelled (rank_text_lines p t)
+    → RankTells lines (first_cost ws)
+rank_tells p t kind ws lines is e = rank_tells_by p t ws lines is (e ∙ ap (lines_if p t) kind)
 
 ranks_by_tail : (count budget : ℕ) (p : Problem) (t : Text) (tail : Tail) → Done ≡ status_of tail
     → ranks.Holds count budget p t tail → ranks.Ranks count p t
@@ -202,7 +215,7 @@ found (w ∷ ws) s (inl same) = (0, w, refl, same)
 found (w ∷ ws) s (inr here) = let more = found ws s here in (suc more.0, more.1, more.2, more.3)
 
 rises : (p : Problem) (earlier : List Network) (first v : Network) (vs : List Network) (k : ℕ)
-    (w : Network) → pos 1 ≤ℤ first.d → IsNoCheaper first v → ArePassing p earlier (v ∷ vs)
+    (w : Network) → pos 1 ≤ℤ first.d → IsNoCheaper first v → ArePassing false p earlier (v ∷ vs)
     → network_at k (v ∷ vs) ≡ Some w → (pos 1 ≤ℤ w.d) × IsNoCheaper first w
 rises p earlier first v vs zero w scale least pass e = let one : v ≡ w = cc in
     subst (λ (x : Network). (pos 1 ≤ℤ x.d) × IsNoCheaper first x) one (pass.0.flows.positive, least)
@@ -216,7 +229,7 @@ itself : (w : Network) → IsNoCheaper w w
 itself w = omega (arith, ints)
 
 module _ (p : Problem) (valid : IsValid p) (t : Text) (proves : IsRanked p (ranking_of t))
-    (best : AreBest p t.count t.networks) where
+    (kind : t.distinct ≡ false) (best : AreBest p t.count t.networks) where
   -- a network that is not listed costs no less than the last, and there is a last
   not_listed : (v : Network) → IsFeasible p v → (IsRankListed t.networks (has v.units) → ⊥)
       → (b : Bool) → (length t.networks == t.count) ≡ b
@@ -224,7 +237,7 @@ module _ (p : Problem) (valid : IsValid p) (t : Text) (proves : IsRanked p (rank
   not_listed v feasible other b e =
       subst (λ (c : Bool). IsAtLeast (cond c (last_cost t.networks) None) v.cost v.d) e
       (subst (λ (n : ℤ). IsAtLeast (to_undercut t.count t.networks) n v.d) feasible.cost_is
-      (other_costs_enough p valid (ranking_of t) proves
+      (other_costs_enough p valid (ranking_of t) proves kind
       (has v.units) feasible.structure feasible.allowed other (size_in v) v.d feasible.flows))
 
   -- if no network is listed, none has flows
@@ -244,7 +257,7 @@ module _ (p : Problem) (valid : IsValid p) (t : Text) (proves : IsRanked p (rank
       ≡ w ∷ ws → IsRankListed t.networks (has v.units) → IsNoCheaper w v
   listed_no_more v feasible w ws is here =
       let f = found t.networks (has v.units) here in
-      let pass = subst (λ (vs : List Network). ArePassing p [] vs) is best.pass in
+      let pass = subst (λ (vs : List Network). ArePassing false p [] vs) is best.pass in
       let up = rises p [] w w ws f.0 f.1 pass.0.flows.positive (itself w) pass
       (ap (network_at f.0) (sym is) ∙ f.2) in
       let enough = subst (λ (test : ℕ → Bool). CostsEnough p (Some (cost_of f.1)) test)
@@ -264,8 +277,8 @@ module _ (p : Problem) (valid : IsValid p) (t : Text) (proves : IsRanked p (rank
       listed_no_more v feasible w ws is here in omega (arith, ints, less, no_more)))
       (λ no_more. no_more)
     where
-      pass : ArePassing p [] (w ∷ ws)
-      pass = subst (λ (vs : List Network). ArePassing p [] vs) is best.pass
+      pass : ArePassing false p [] (w ∷ ws)
+      pass = subst (λ (vs : List Network). ArePassing false p [] vs) is best.pass
 
       through : (last : Option CostOver) → AtMostLast w last → IsAtLeast last v.cost v.d
           → IsNoCheaper w v
@@ -276,7 +289,7 @@ module _ (p : Problem) (valid : IsValid p) (t : Text) (proves : IsRanked p (rank
       at : (b : Bool) → (length t.networks == t.count) ≡ b
           → (IsRankListed t.networks (has v.units) → ⊥) → IsNoCheaper w v
       at true e other = through (last_cost t.networks)
-          (at_most_last p t.networks 1 w best.pass (ap (numbered 1) is))
+          (at_most_last false p t.networks 1 w best.pass (ap (numbered 1) is))
           (not_listed v feasible other true e)
       at false e other = absurd (not_listed v feasible other false e)
 
@@ -407,7 +420,7 @@ module _ (p : Problem) (valid : IsValid p) (solved : List (List ℕ)) (r : IsSol
       ≡ w ∷ ws → HasFallen (Some (cost_of w)) (claimed_cost claim)
   no_less claim e w ws is =
       let feasible : IsFeasible p w =
-      (subst (λ (vs : List Network). ArePassing p [] vs) is are.best.pass).0 in
+      (subst (λ (vs : List Network). ArePassing false p [] vs) is are.best.pass).0 in
       let enough : CostsEnough p (claimed_cost claim) (has w.units) =
       subst (λ (c : Claim). CostsEnough p (claimed_cost c) (has w.units)) e
       (r.solves.least (has w.units) feasible.structure feasible.allowed) in
@@ -416,10 +429,11 @@ module _ (p : Problem) (valid : IsValid p) (solved : List (List ℕ)) (r : IsSol
   by_both : (claim : Claim) → r.claim ≡ claim → (ws : List Network) → t.networks ≡ ws
       → IsSameCost (first_cost ws) (claimed_cost claim)
   by_both (network v) e [] is = absurd
-      (none_feasible p valid t are.lists.proves are.best v is (r.solves.feasible v e))
+      (none_feasible p valid t are.lists.proves are.lists.kind_is are.best v is
+      (r.solves.feasible v e))
   by_both (network v) e (w ∷ ws) is = (
     no_less (network v) e w ws is,
-    first_no_more p valid t are.lists.proves are.best v
+    first_no_more p valid t are.lists.proves are.lists.kind_is are.best v
         (r.solves.feasible v e) w ws is,
   )
   by_both infeasible e [] is = (tt, tt)
@@ -442,7 +456,7 @@ first_is_optimal held file bytes count budget most is solved solves ranked lists
         let are = ranks_by_tail count most p k.0 k.0.tail k.1 k.2 in (
           first_cost k.0.networks,
           claimed_cost r.claim,
-          rank_tells p k.0 k.0.networks ranked refl
+          rank_tells p k.0 are.lists.kind_is k.0.networks ranked refl
               k.3.text,
           r.tells,
           by_both p gives.valid solved r count k.0 are r.claim refl

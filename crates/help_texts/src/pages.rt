@@ -8,7 +8,7 @@ use crate::flows::{check_page, flows_page};
 use crate::parts::{merge_page, part_page, split_page};
 use crate::plans::{expand_page, periods_page};
 use crate::program::{help_page, status_page, version_page};
-use crate::ranks::{rank_page, rankcheck_page};
+use crate::ranks::{alternatives_page, rank_page, rankcheck_page};
 use crate::reports::{graph_page, json_page, report_page, stable_page, table_page};
 use crate::searches::{show_page, solve_page, trial_page};
 use crate::structures::{axioms_page, lint_page, list_page, max_page};
@@ -41,6 +41,7 @@ pub fn command_page_on(topic: &str) -> Option<&'static [u8]>
         "make" => Some(make_page()),
         "trial" => Some(trial_page()),
         "rank" => Some(rank_page()),
+        "alternatives" => Some(alternatives_page()),
         "rankcheck" => Some(rankcheck_page()),
         "split" => Some(split_page()),
         "part" => Some(part_page()),

@@ -1,17 +1,37 @@
 //! The whole object.
-ghost use Rattle.std.specs.Prelude.{◌≡◌, true, IfOk};
-ghost use Rattle.tree_rules.specs.Claim.{ClaimPasses};
+ghost use Rattle.std.specs.Prelude.{◌≡◌, ℕ, List, true, IfOk};
+ghost use Rattle.tree_rules.specs.Claim.{ClaimPasses, IsFeasible};
+ghost use Rattle.json_rules.specs.Facts.{fact_lines};
+ghost use Rattle.report_rules.specs.Marginal.{Marginals, AreMarginals, AreClaimMarginals};
 ghost use Rattle.branch_tree.specs.View.{claim_of};
 ghost use Rattle.studio_rules.specs.Lines.{text_of};
-ghost use Rattle.studio_rules.specs.Json.{lines_behind, json_lines};
+ghost use Rattle.studio_rules.specs.Json.{lines_behind, FactsSay};
 
 use crate::head::{claim_word, node_member, verdict_word, why_member};
-use branch_tree::Claim;
+use branch_tree::{Claim, Network};
 use json_pieces::Json;
-use json_text::{bare_of, facts_of, text_member};
+use json_text::{bare_of, facts_of, gap_member, low_member, text_member};
+use marginals::marginals_of;
 use pgraph::Site;
 use report_rules::Verdict;
 use std::alloc::{AllocError, Global};
+
+/// The object of a network, with its marginals.
+fn network_text(
+    alloc: Global,
+    head: &[Json],
+    site: &Site<'_>,
+    network: &Network,
+) -> Result<Vec<u8>, AllocError>
+    requires feasible { IsFeasible site.now network.now }
+    ensures { IfOk result
+        (λ bytes. (m : Marginals) × AreMarginals site.now network.now.units m
+        × (bytes.items ≡ text_of (fact_lines head.now site.now network.now m))) }
+{
+    let marginals = marginals_of(alloc, site, network)?;
+    let bytes = facts_of(alloc, head, site, network, &marginals)?;
+    Ok(bytes)
+}
 
 /// The object that begins with the members of the head.
 fn text_behind(
@@ -22,11 +42,13 @@ fn text_behind(
 ) -> Result<Vec<u8>, AllocError>
     requires passes { ClaimPasses true site.now (claim_of claim.now) }
     ensures { IfOk result
-        (λ bytes. bytes.items ≡ text_of (lines_behind head.now site.now (claim_of claim.now))) }
+        (λ bytes. (m : Marginals) × AreClaimMarginals site.now (claim_of claim.now) m
+        × (bytes.items ≡ text_of (lines_behind head.now site.now m (claim_of claim.now)))) }
 {
     match claim {
-        Claim::Network(network) => facts_of(alloc, head, site, network),
-        Claim::Infeasible | Claim::Unknown => bare_of(alloc, head),
+        Claim::Network(network) => network_text(alloc, head, site, network),
+        Claim::Infeasible => bare_of(alloc, head),
+        Claim::Unknown => bare_of(alloc, head),
     }
 }
 
@@ -39,13 +61,16 @@ pub(crate) fn json_text(
 ) -> Result<Vec<u8>, AllocError>
     requires passes { ClaimPasses true site.now (claim_of claim.now) }
     ensures { IfOk result
-        (λ bytes. bytes.items ≡ text_of (json_lines site.now (claim_of claim.now) verdict)) }
+        (λ bytes. (lines : List (List ℕ)) × FactsSay site.now (claim_of claim.now) verdict lines
+        × (bytes.items ≡ text_of lines)) }
 {
     let stated = text_member(alloc, "verdict", verdict_word(verdict))?;
     let node = node_member(alloc, verdict)?;
     let why = why_member(alloc, verdict)?;
     let claimed = text_member(alloc, "claim", claim_word(claim))?;
-    let head = [stated, node, why, claimed];
+    let low = low_member(alloc, site.problem(), verdict)?;
+    let gap = gap_member(alloc, claim, verdict)?;
+    let head = [stated, node, why, claimed, low, gap];
     let bytes = text_behind(alloc, &head, site, claim)?;
     Ok(bytes)
 }

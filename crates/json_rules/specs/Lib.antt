@@ -1,4 +1,5 @@
 pub mod Facts
 pub mod Json
+pub mod Lower
 pub mod Ranked
 pub mod Value

@@ -31,7 +31,7 @@ fn claimed(network: &Network) -> Number
 
 /// 1 over 10^18 and the payout period.
 #[tactic(auto, unfolding(report_rules::specs::Amounts::quotient))]
-fn year(problem: &Problem) -> Number
+pub(crate) fn year(problem: &Problem) -> Number
     ensures { result ≡ quotient (pos 1) (pos 1000000000000000000 *ℤ problem.now.payout) }
 {
     problem.is_valid();

@@ -5,17 +5,19 @@
 //! network.
 //!
 //! Modules: `members`, values under their keys; `head`, `units`, `materials` and `foot`, the parts;
-//! `text`, the whole; `ranking`, the networks of a ranking.
+//! `text`, the whole; `lower`, the lower bound and the gap; `ranking`, the networks of a ranking.
 #![tactic(auto)]
 
 mod foot;
 mod head;
+mod lower;
 mod materials;
 mod members;
 mod ranking;
 mod text;
 mod units;
 
+pub use lower::{gap_member, low_member};
 pub use members::{count_member, null_member, text_member};
 pub use ranking::{first_of, networks_member};
 pub use text::{bare_of, facts_of};

@@ -14,7 +14,7 @@ use json_pieces::{Json, push_array};
 use pgraph::Site;
 use pns_problem::Problem;
 use pns_tables::{kind_word, materials_in};
-use report_amounts::{cost, material_of, net, price, unit_sum};
+use report_amounts::{Marginals, cost, material_of, net, price, unit_sum};
 use report_rules::UnitAmount;
 use report_tables::material_limit;
 use std::alloc::{AllocError, Global};
@@ -32,12 +32,14 @@ fn material_json(
     alloc: Global,
     problem: &Problem,
     network: &Network,
+    marginals: &Marginals,
     j: u32,
 ) -> Result<Json, AllocError>
     requires feasible { IsFeasible problem.now network.now }
     requires material { has (materials_of (net_of problem.now) (has network.now.units)) j ≡ true }
     requires known { j < length problem.now.materials }
-    ensures { IfOk result (λ json. json ≡ facts.material_json problem.now network.now j) }
+    ensures { IfOk result
+        (λ json. json ≡ facts.material_json problem.now network.now marginals.now j) }
 {
     let name = text_member(alloc, "name", problem.material_name(j))?;
     let kind = kind_member(alloc, problem, j)?;
@@ -49,7 +51,8 @@ fn material_json(
     let limit = limit_member(alloc, material_limit(problem, network, j))?;
     let money = number_member(alloc, "price", &price(problem, j))?;
     let paid = number_member(alloc, "cost", &cost(problem, network, j))?;
-    let members = [name, kind, made, used, left, limit, money, paid];
+    let more = number_member(alloc, "marginal", &marginals.of_material(problem, j))?;
+    let members = [name, kind, made, used, left, limit, money, paid, more];
     let json = Json::object(alloc, &members)?;
     Ok(json)
 }
@@ -58,16 +61,17 @@ fn material_values(
     alloc: Global,
     site: &Site<'_>,
     network: &Network,
+    marginals: &Marginals,
 ) -> Result<Vec<Json>, AllocError>
     requires feasible { IsFeasible site.now network.now }
     ensures { IfOk result
         (λ values. values.items
-        ≡ map (facts.material_json site.now network.now)
+        ≡ map (facts.material_json site.now network.now marginals.now)
         (materials_of (net_of site.now) (has network.now.units))) }
 {
     let mut values = Vec::new(alloc);
     for j in materials_in(site, network) {
-        values.push(material_json(alloc, site.problem(), network, j)?)?;
+        values.push(material_json(alloc, site.problem(), network, marginals, j)?)?;
     }
     Ok(values)
 }
@@ -78,11 +82,13 @@ pub(crate) fn push_materials(
     text: &mut Vec<u8>,
     site: &Site<'_>,
     network: &Network,
+    marginals: &Marginals,
 ) -> Result<(), AllocError>
     requires feasible { IsFeasible site.now network.now }
     ensures { OnOk result
-        (text.new.items ≡ text.old.items ++ printed (facts.material_lines site.now network.now)) }
+        (text.new.items ≡ text.old.items
+        ++ printed (facts.material_lines site.now network.now marginals.now)) }
 {
-    let values = material_values(alloc, site, network)?;
+    let values = material_values(alloc, site, network, marginals)?;
     push_array(text, "materials", &values)
 }

@@ -9,7 +9,7 @@ use std::alloc::Global;
 use studio_rules::TOPIC_PAGES;
 
 /// The commands, in the order of the overview.
-const COMMANDS: [&str; 27] = [
+const COMMANDS: [&str; 28] = [
     "max",
     "lint",
     "axioms",
@@ -23,6 +23,7 @@ const COMMANDS: [&str; 27] = [
     "table",
     "graph",
     "rank",
+    "alternatives",
     "rankcheck",
     "stable",
     "edit",

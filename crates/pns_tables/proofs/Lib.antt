@@ -1,5 +1,5 @@
 pub mod FlowLemmas
 pub mod ReadLemmas
 mod RowLemmas
-mod SizeLemmas
+pub mod SizeLemmas
 pub mod Walk

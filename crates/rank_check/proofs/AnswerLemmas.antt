@@ -31,7 +31,8 @@ module _ {A : Type 0} (p : Problem) (r : Ranking) where
 
   pub names_node : PassingNetworksHaveNoFault → PassingTreeHasNoFault → TreeHasOneFault
       → (a : Result A RankRefusal) → OnOk a (IsRanked p r) → IfErr a (Refuses p r)
-      → (k : ℕ) (why : RankWhy) → ArePassing p [] r.networks → NodeIsFault false p r k why
+      → (k : ℕ) (why : RankWhy) → ArePassing r.distinct p [] r.networks
+      → NodeIsFault false p r k why
       → IsRefusalOrMemory (Node k why) a
   names_node no_network no_node one (Ok x) h f k why passes fails = no_node false p r k why h fails
   names_node no_network no_node one (Err Memory) h f k why passes fails = inr refl
@@ -42,7 +43,8 @@ module _ {A : Type 0} (p : Problem) (r : Ranking) where
       inl (ap₂ (λ (i : ℕ) (w : RankWhy). Node i w) q.0 q.1)
 
   -- the networks pass, and the tree is judged
-  pub refuses : (a : Result A RankRefusal) → ArePassing p [] r.networks → IfErr a (IsNodeAnswer p r)
+  pub refuses : (a : Result A RankRefusal) → ArePassing r.distinct p [] r.networks → IfErr a
+      (IsNodeAnswer p r)
       → IfErr a (Refuses p r)
   refuses (Ok x) listed f = tt
   refuses (Err Memory) listed f = tt

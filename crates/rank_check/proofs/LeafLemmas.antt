@@ -6,19 +6,20 @@ use Rattle.std.proofs.Common.{inl, inr, arith}
 use Rattle.number_sets.specs.Sets.{has, union, IsWithin}
 use Rattle.number_sets.proofs.SetLemmas.{has-union}
 use Rattle.problem_rules.specs.Problem.{Problem}
-use Rattle.pns_rules.specs.Shape.{shape_of}
 use Rattle.pns_rules.specs.Nodes.{Node}
 use Rattle.tree_rules.specs.declared.why.Why.{Why}
 use Rattle.tree_rules.specs.declared.why.Why.TheVariants as causes
 use Rattle.tree_rules.specs.Fault.{Fails}
-use Rattle.tree_rules.specs.Claim.{Network, CostOver, IsFeasible}
+use Rattle.tree_rules.specs.Claim.{Network, CostOver}
 use Rattle.tree_rules.specs.Leaf as leaves
 use Rattle.tree_rules.specs.Leaf.{IsOneEach, IsFormed, Reaches}
-use Rattle.cert_parts.specs.Known.{KnowsInside}
 use Rattle.rank_rules.specs.declared.why.RankWhy.{RankWhy}
-use Rattle.rank_rules.specs.declared.why.RankWhy.TheVariants.{Plain, Named}
+use Rattle.rank_rules.specs.declared.why.RankWhy.TheVariants.{Plain}
 use Rattle.rank_rules.specs.Networks.{cost_of, network_at, numbered}
-use Rattle.rank_rules.specs.Leaf.{IsOnly, IsNamed}
+use Rattle.rank_rules.specs.declared.naming.Naming.{Naming}
+use Rattle.rank_rules.specs.declared.naming.Naming.TheVariants.{Only, Within}
+use Rattle.rank_rules.specs.Leaf.{IsOnly, IsTakenIn, MayName, IsNamed, way_why}
+use Rattle.rank_rules.specs.Marked.{Name}
 use Rattle.rank_check.specs.Marks.{NamedFails}
 
 -- ---- a node that is the network alone
@@ -74,56 +75,84 @@ module _ (p : Problem) (w : Network) (count : ℕ) (all inside outside joint us 
       ∙ (has-union inside outside u
       ∙ taken_or_left (has inside u) (has outside u) (h.0 u (known u (sym (all_is u) ∙ e)))))
 
--- the units that are taken in are those of the problem
-pub only_known : (p : Problem) (w : Network) (n : Node) → IsFeasible p w → IsOnly p (Some w) n
-    → KnowsInside (shape_of p) n
-only_known p w n feasible only u e = feasible.structure.s3 u (sym (only.1 u) ∙ e)
+-- ---- a node whose structures contain the network
+
+pub may_only : (b distinct : Bool) (way : Naming) (p : Problem) (w : Network) (n : Node)
+    → way ≡ Only → (IsTrue b ↔ IsOnly p (Some w) n) → IsTrue b ↔ MayName distinct way p (Some w) n
+may_only b distinct way p w n e f =
+    subst (λ (x : Naming). IsTrue b ↔ MayName distinct x p (Some w) n) (sym e) f
+
+pub may_within : (b distinct : Bool) (way : Naming) (p : Problem) (w : Network) (n : Node)
+    → way ≡ Within → distinct ≡ true → (IsTrue b ↔ IsTakenIn (Some w) n)
+    → IsTrue b ↔ MayName distinct way p (Some w) n
+may_within b distinct way p w n e d f =
+    subst (λ (x : Naming). IsTrue b ↔ MayName distinct x p (Some w) n) (sym e)
+    ((λ h. (d, f.0 h)), (λ h. f.1 h.1))
+
+pub may_not : (distinct : Bool) (way : Naming) (p : Problem) (w : Network) (n : Node)
+    → way ≡ Within → distinct ≡ false → IsTrue distinct ↔ MayName distinct way p (Some w) n
+may_not distinct way p w n e d =
+    subst (λ (x : Naming). IsTrue distinct ↔ MayName distinct x p (Some w) n) (sym e)
+    ((λ h. absurd (let no : false ≡ true = sym d ∙ h in cc)), (λ h. h.0))
 
 -- ---- what fails
 
 -- the node is another
-pub other_node : (p : Problem) (w : Network) (n : Node) (d : ℤ) (ys : List ℤ)
-    → (IsOnly p (Some w) n → ⊥) → NamedFails p (Some w) n d ys Named
-other_node p w n d ys other = (causes.Bound, inl (refl, (λ h. other h.0)), inl (refl, refl))
+pub other_node : (distinct : Bool) (p : Problem) (w : Network) (n : Node) (m : Name)
+    (why : RankWhy) → why ≡ way_why m.way → (MayName distinct m.way p (Some w) n → ⊥)
+    → NamedFails distinct p (Some w) n m why
+other_node distinct p w n m why is other =
+    (causes.Bound, inl (refl, (λ h. other h.0)), inl (refl, is))
 
 -- there is no such network
-pub no_network : (p : Problem) (n : Node) (d : ℤ) (ys : List ℤ) → NamedFails p None n d ys Named
-no_network p n d ys = (causes.Bound, inl (refl, (λ h. h.0)), inl (refl, refl))
+none_may : (distinct : Bool) (way : Naming) (p : Problem) (n : Node) → MayName distinct way p None n
+    → ⊥
+none_may distinct Only p n h = h
+none_may distinct Within p n h = h.1
 
--- the node is the network alone, and the bound fails
-bound_fails : (p : Problem) (w : Network) (n : Node) (d : ℤ) (ys : List ℤ) (cause : Why)
-    → IsOnly p (Some w) n
-    → leaves.LeafFails false p (Some (cost_of w)) n (leaves.bounded d ys) cause
-    → Fails (IsOnly p (Some w) n × (pos 1 ≤ℤ d) × IsOneEach p n ys) causes.Bound
-    (Fails (IsFormed p n d ys) causes.Sum
-    (Fails (Reaches p (Some (cost_of w)) n d ys) causes.Bound ⊥ cause) cause) cause
-bound_fails p w n d ys cause only (inl h) = inl (h.0, (λ k. h.1 (tt, k.1, k.2)))
-bound_fails p w n d ys cause only (inr h) = inr ((only, h.0.1, h.0.2), h.1)
+pub no_network : (distinct : Bool) (p : Problem) (found : Option Network) (n : Node) (m : Name)
+    (why : RankWhy) → found ≡ None → why ≡ way_why m.way → NamedFails distinct p found n m why
+no_network distinct p found n m why none is =
+    subst (λ (f : Option Network). NamedFails distinct p f n m why) (sym none)
+    (causes.Bound, inl (refl, (λ h. none_may distinct m.way p n h.0)), inl (refl, is))
+
+-- the node may name the network, and the bound fails
+bound_fails : (distinct : Bool) (p : Problem) (w : Network) (n : Node) (m : Name) (cause : Why)
+    → MayName distinct m.way p (Some w) n
+    → leaves.LeafFails false p (Some (cost_of w)) n (leaves.bounded m.d m.ys) cause
+    → Fails (MayName distinct m.way p (Some w) n × (pos 1 ≤ℤ m.d) × IsOneEach p n m.ys) causes.Bound
+    (Fails (IsFormed p n m.d m.ys) causes.Sum
+    (Fails (Reaches p (Some (cost_of w)) n m.d m.ys) causes.Bound ⊥ cause) cause) cause
+bound_fails distinct p w n m cause may (inl h) = inl (h.0, (λ k. h.1 (tt, k.1, k.2)))
+bound_fails distinct p w n m cause may (inr h) = inr ((may, h.0.1, h.0.2), h.1)
 
 -- the parts as they were asked for
-module _ (p : Problem) (w : Network) (n : Node) (claimed : Option CostOver) (d e : ℤ)
-    (ys zs : List ℤ) (cost_is : claimed ≡ Some (cost_of w)) (d_is : d ≡ e) (ys_is : ys ≡ zs)
-    (only : IsOnly p (Some w) n) where
+module _ (distinct : Bool) (p : Problem) (w : Network) (n : Node) (claimed : Option CostOver)
+    (d : ℤ) (ys : List ℤ) (m : Name) (cost_is : claimed ≡ Some (cost_of w)) (d_is : d ≡ m.d)
+    (ys_is : ys ≡ m.ys) (may : MayName distinct m.way p (Some w) n) where
   pub named_passes : ((partial : Bool)
-      → leaves.LeafPasses partial p claimed n (leaves.bounded d ys)) → IsNamed p (Some w) n e zs
+      → leaves.LeafPasses partial p claimed n (leaves.bounded d ys))
+      → IsNamed distinct m.way p (Some w) n m.d m.ys
   named_passes h = record {
-    only = only;
+    may = may;
     bounded =
-        subst (λ (c : Option CostOver). leaves.IsBounded p c n e zs) cost_is
-        (subst (λ (f : ℤ). leaves.IsBounded p claimed n f zs) d_is
+        subst (λ (c : Option CostOver). leaves.IsBounded p c n m.d m.ys) cost_is
+        (subst (λ (f : ℤ). leaves.IsBounded p claimed n f m.ys) d_is
         (subst (λ (xs : List ℤ). leaves.IsBounded p claimed n d xs) ys_is (h false)));
   }
 
   pub named_told : (cause : Why) (why : RankWhy)
       → ((partial : Bool) → leaves.LeafFails partial p claimed n (leaves.bounded d ys) cause)
-      → ((cause ≡ causes.Bound) × (why ≡ Named))
-      ⊎ ((cause ≡ causes.Bound → ⊥) × (why ≡ Plain cause)) → NamedFails p (Some w) n e zs why
+      → ((cause ≡ causes.Bound) × (why ≡ way_why m.way))
+      ⊎ ((cause ≡ causes.Bound → ⊥) × (why ≡ Plain cause))
+      → NamedFails distinct p (Some w) n m why
   named_told cause why h told = (
     cause,
-    bound_fails p w n e zs cause only
-        (subst (λ (c : Option CostOver). leaves.LeafFails false p c n (leaves.bounded e zs) cause)
+    bound_fails distinct p w n m cause may
+        (subst
+        (λ (c : Option CostOver). leaves.LeafFails false p c n (leaves.bounded m.d m.ys) cause)
         cost_is
-        (subst (λ (f : ℤ). leaves.LeafFails false p claimed n (leaves.bounded f zs) cause) d_is
+        (subst (λ (f : ℤ). leaves.LeafFails false p claimed n (leaves.bounded f m.ys) cause) d_is
         (subst (λ (xs : List ℤ). leaves.LeafFails false p claimed n (leaves.bounded d xs) cause)
         ys_is (h false)))),
     told,

@@ -1,6 +1,7 @@
 -- A tree with open leaves, which are judged by their marks, passes or has its first fault as a
 -- ranked tree does.
-use Rattle.std.proofs.Common.{◌≡◌, ◌⊎◌, ℕ, zero, suc, ◌+◌, ◌<◌, ◌≤◌, true, false, List, [], ◌∷◌}
+use Rattle.std.proofs.Common.{◌≡◌, ◌⊎◌, ℕ, zero, suc, ◌+◌, ◌<◌, ◌≤◌, Bool, true, false, List, []}
+use Rattle.std.proofs.Common.{◌∷◌}
 use Rattle.std.proofs.Common.{◌++◌, length, Option, Some, None, refl, sym, ap, ◌∙◌, subst, inl, inr}
 use Rattle.std.proofs.Common.{arith}
 use Rattle.problem_rules.specs.Problem.{Problem}
@@ -16,16 +17,20 @@ use Rattle.tree_rules.specs.Fault.{Fails, EndFails, NodeFails, IsFirstFault}
 use Rattle.tree_rules.specs.Claim.{Network, CostOver}
 use Rattle.tree_rules.specs.Leaf as leaves
 use Rattle.tree_rules.specs.Accepted as plain_trees
+use Rattle.tree_rules.specs.Accepted.{first_node}
 use Rattle.part_rules.specs.OpenLeaves.{OpenAt, open_here, open_leaves}
 use Rattle.rank_rules.specs.declared.why.RankWhy.{RankWhy}
 use Rattle.rank_rules.specs.declared.why.RankWhy.TheVariants.{Plain}
 use Rattle.rank_rules.specs.Leaf.{Leaf, plain, named, LeafPasses, LeafFails, IsTold}
 use Rattle.rank_rules.specs.Ranked.{IsToldAt}
 use Rattle.rank_rules.specs.Marked.{Mark, marked_leaf, first_mark, marked_end, marks_behind, marked}
+use Rattle.cert_parts.specs.Known.{KnowsInside}
 use Rattle.cert_check.specs.Bare.{BarePasses, BareFails}
+use Rattle.cert_check.specs.Subtrees.{AllKnown}
 use Rattle.cert_check.specs.OpenLeaves.{AllBefore, NoneBefore}
+use Rattle.cert_check.proofs.KnownLemmas.{known_after_all, known_below, known_both}
 use Rattle.cert_check.proofs.TurnLemmas.{none_before}
-use Rattle.rank_check.specs.Marks.{MarksPass, IsFirstMark}
+use Rattle.rank_check.specs.Marks.{MarksPass, IsFirstMark, AreKnown}
 
 -- ---- the form of the tree stays
 
@@ -91,7 +96,43 @@ first_before k ls found others l rest e is none all =
     let high : l.number < k = j.0 in
     absurd (omega arith)
 
-module _ (p : Problem) (ws : List Network) (undercut : Option CostOver) where
+-- ---- the units that are taken in at open leaves
+
+-- the leaves with numbers below k know their units
+abbrev pub KnownBefore : Problem → ℕ → List OpenAt → Type 0
+KnownBefore p k [] = Unit {0}
+KnownBefore p k (l ∷ ls) =
+    (l.number < k → KnowsInside (shape_of p) l.node) × KnownBefore p k ls
+
+pub known_if_before : (p : Problem) (k : ℕ) (found others : List OpenAt)
+    → KnownBefore p k (found ++ others) → AllBefore k found → AreKnown p found
+known_if_before p k [] others h all = tt
+known_if_before p k (l ∷ ls) others h all =
+    (h.0 all.0, known_if_before p k ls others h.1 all.1)
+
+-- no leaf is among them
+known_of_none : (p : Problem) (k : ℕ) (ls : List OpenAt) → NoneBefore k ls → KnownBefore p k ls
+known_of_none p k [] h = tt
+known_of_none p k (l ∷ ls) h = (
+  (λ lt. let le : k ≤ l.number = h.0 in absurd (omega arith)),
+  known_of_none p k ls h.1,
+)
+
+known_here : (p : Problem) (k i : ℕ) (n : Node) (e : End leaves.Leaf) (ls : List OpenAt)
+    → KnowsInside (shape_of p) n → KnownBefore p k ls → KnownBefore p k (open_here i n e ++ ls)
+known_here p k i n (branch w) ls known h = h
+known_here p k i n (leaf (leaves.dead x)) ls known h = h
+known_here p k i n (leaf (leaves.clash x)) ls known h = h
+known_here p k i n (leaf (leaves.refuted ys)) ls known h = h
+known_here p k i n (leaf (leaves.bounded d ys)) ls known h = h
+known_here p k i n (leaf (leaves.charged c)) ls known h = h
+known_here p k i n (leaf (leaves.untried low)) ls known h = ((λ lt. known), h)
+
+-- at the first node nothing is taken in
+pub first_known : (g : Shape) → AllKnown g (first_node ∷ [])
+first_known g = ((λ u e. absurd cc), tt)
+
+module _ (distinct : Bool) (p : Problem) (ws : List Network) (undercut : Option CostOver) where
   abbrev P : Node → leaves.Leaf → Type 0
   P = BarePasses p undercut
 
@@ -99,10 +140,10 @@ module _ (p : Problem) (ws : List Network) (undercut : Option CostOver) where
   F = BareFails p undercut
 
   abbrev P' : Node → Leaf → Type 0
-  P' = LeafPasses false p ws undercut
+  P' = LeafPasses distinct false p ws undercut
 
   abbrev F' : Node → Leaf → Why → Type 0
-  F' = LeafFails false p ws undercut
+  F' = LeafFails distinct false p ws undercut
 
   -- if the leaf at the node itself is open, it passes by its mark
   abbrev HerePasses : List Mark → Node → End leaves.Leaf → Type 0
@@ -169,7 +210,7 @@ module _ (p : Problem) (ws : List Network) (undercut : Option CostOver) where
   step_told : (e : End Leaf) (why : Why) → why ≡ causes.Step → IsTold e why (Plain why)
   step_told (branch w) why s = refl
   step_told (leaf (plain l)) why s = refl
-  step_told (leaf (named k d ys)) why s =
+  step_told (leaf (named way k d ys)) why s =
       inr ((λ b. absurd (let q : causes.Step ≡ causes.Bound = sym s ∙ b in cc)), refl)
 
   node_fails : (ms : List Mark) (n : Node) (t : TreeNode leaves.Leaf) (ts : plain_trees.Tree)
@@ -438,3 +479,24 @@ module _ (p : Problem) (ws : List Network) (undercut : Option CostOver) where
               },
             )
       ]
+
+  -- ---- the leaves before a node know their units
+
+  pub known_to : (ns : List Node) (ts : plain_trees.Tree) (i j l : ℕ) → l ≡ i + j
+      → AllKnown (shape_of p) ns → PassTo j ns ts
+      → KnownBefore p l (open_leaves (shape_of p) ns ts i)
+  known_to [] ts i j l e known go = tt
+  known_to (n ∷ ns) [] i j l e known go = tt
+  known_to (n ∷ ns) (t ∷ ts) i zero l e known go =
+      known_of_none p l (open_leaves (shape_of p) (n ∷ ns) (t ∷ ts) i)
+      (subst (λ (c : ℕ). NoneBefore c (open_leaves (shape_of p) (n ∷ ns) (t ∷ ts) i))
+      (let q : i ≡ l = omega arith in q) (none_before (shape_of p) (n ∷ ns) (t ∷ ts) i))
+  known_to (n ∷ ns) (t ∷ ts) i (suc j) l e known go =
+      let o : Node = after_all (shape_of p) n t.steps in
+      let there : KnowsInside (shape_of p) o =
+      known_after_all (shape_of p) n t.steps known.0 go.0 in
+      known_here p l i o t.end
+      (open_leaves (shape_of p) (below (shape_of p) o t.end ++ ns) ts (i + 1)) there
+      (known_to (below (shape_of p) o t.end ++ ns) ts (i + 1) j l (omega arith)
+      (known_both (shape_of p) (below (shape_of p) o t.end) ns
+      (known_below (shape_of p) P o t.end ts there go.1) known.1) go.2)

@@ -1,6 +1,7 @@
 -- The open leaves of a tree, each judged by its mark. P says which leaves pass, F for which cause
 -- one fails.
-use Rattle.std.specs.Prelude.{◌≡◌, ◌⊎◌, ℕ, ℤ, pos, ◌≤ℤ◌, false, List, [], ◌∷◌, Option, None}
+use Rattle.std.specs.Prelude.{◌≡◌, ◌⊎◌, ℕ, ℤ, pos, ◌≤ℤ◌, Bool, false, List, [], ◌∷◌, Option}
+use Rattle.std.specs.Prelude.{None}
 use Rattle.problem_rules.specs.Problem.{Problem}
 use Rattle.pns_rules.specs.Nodes.{Node}
 use Rattle.tree_rules.specs.declared.why.Why.{Why}
@@ -10,10 +11,12 @@ use Rattle.tree_rules.specs.Tree.{leaf}
 use Rattle.tree_rules.specs.Claim.{Network, CostOver}
 use Rattle.tree_rules.specs.Leaf.{IsOneEach, IsFormed, Reaches}
 use Rattle.part_rules.specs.OpenLeaves.{OpenAt}
+use Rattle.pns_rules.specs.Shape.{shape_of}
+use Rattle.cert_parts.specs.Known.{KnowsInside}
 use Rattle.rank_rules.specs.declared.why.RankWhy.{RankWhy}
-use Rattle.rank_rules.specs.declared.why.RankWhy.TheVariants.{Plain, Named}
-use Rattle.rank_rules.specs.Leaf.{Leaf, LeafPasses, LeafFails, IsOnly, named_cost, IsTold}
-use Rattle.rank_rules.specs.Marked.{Mark, marked_leaf, first_mark, other_marks}
+use Rattle.rank_rules.specs.declared.why.RankWhy.TheVariants.{Plain}
+use Rattle.rank_rules.specs.Leaf.{Leaf, LeafPasses, LeafFails, MayName, named_cost, way_why, IsTold}
+use Rattle.rank_rules.specs.Marked.{Mark, Name, marked_leaf, first_mark, other_marks}
 
 -- each leaf passes as what its mark makes of it
 abbrev pub MarksPass : (Node → Leaf → Type 0) → List OpenAt → List Mark → Type 0
@@ -28,13 +31,13 @@ MarkFails F n m why = (cause : Why) × F n (marked_leaf None m) cause
 
 -- a leaf that names the network that was found, or none, fails for a cause, for which this one is
 -- given
-abbrev pub NamedFails : Problem → Option Network → Node → ℤ → List ℤ → RankWhy → Type 0
-NamedFails p found n d ys why =
+abbrev pub NamedFails : Bool → Problem → Option Network → Node → Name → RankWhy → Type 0
+NamedFails distinct p found n m why =
     (cause : Why)
-    × Fails (IsOnly p found n × (pos 1 ≤ℤ d) × IsOneEach p n ys) Bound
-    (Fails (IsFormed p n d ys) Sum
-    (Fails (Reaches p (named_cost found) n d ys) Bound ⊥ cause) cause) cause
-    × (((cause ≡ Bound) × (why ≡ Named)) ⊎ ((cause ≡ Bound → ⊥) × (why ≡ Plain cause)))
+    × Fails (MayName distinct m.way p found n × (pos 1 ≤ℤ m.d) × IsOneEach p n m.ys) Bound
+    (Fails (IsFormed p n m.d m.ys) Sum
+    (Fails (Reaches p (named_cost found) n m.d m.ys) Bound ⊥ cause) cause) cause
+    × (((cause ≡ Bound) × (why ≡ way_why m.way)) ⊎ ((cause ≡ Bound → ⊥) × (why ≡ Plain cause)))
 
 -- the first leaf that fails is that of node k, for the cause
 abbrev pub IsFirstMark : (Node → Leaf → Type 0) → (Node → Leaf → Why → Type 0) → List OpenAt
@@ -45,12 +48,19 @@ IsFirstMark P F (l ∷ ls) ms k why =
     ⊎ (P l.node (marked_leaf None (first_mark ms))
     × IsFirstMark P F ls (other_marks ms) k why)
 
+-- the units that are taken in at the leaves are those of the problem
+abbrev pub AreKnown : Problem → List OpenAt → Type 0
+AreKnown p [] = Unit {0}
+AreKnown p (l ∷ ls) = KnowsInside (shape_of p) l.node × AreKnown p ls
+
 -- whatever cost is to be undercut, each leaf passes by its mark among the networks
-abbrev pub AllMarksPass : Problem → List Network → List OpenAt → List Mark → Type 0
-AllMarksPass p ws ls ms = (undercut : Option CostOver)
-    → MarksPass (LeafPasses false p ws undercut) ls ms
+abbrev pub AllMarksPass : Bool → Problem → List Network → List OpenAt → List Mark → Type 0
+AllMarksPass distinct p ws ls ms = (undercut : Option CostOver)
+    → MarksPass (LeafPasses distinct false p ws undercut) ls ms
 
 -- whatever cost is to be undercut, the first leaf that fails is that of node k, for the cause
-abbrev pub MarkIsFault : Problem → List Network → List OpenAt → List Mark → ℕ → RankWhy → Type 0
-MarkIsFault p ws ls ms k why = (undercut : Option CostOver)
-    → IsFirstMark (LeafPasses false p ws undercut) (LeafFails false p ws undercut) ls ms k why
+abbrev pub MarkIsFault : Bool → Problem → List Network → List OpenAt → List Mark → ℕ → RankWhy
+    → Type 0
+MarkIsFault distinct p ws ls ms k why = (undercut : Option CostOver)
+    → IsFirstMark (LeafPasses distinct false p ws undercut)
+    (LeafFails distinct false p ws undercut) ls ms k why

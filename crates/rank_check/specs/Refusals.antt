@@ -33,12 +33,13 @@ NamesPlainFault p t refusal =
 -- the open leaves pass by their marks, or the first that fails is that of node k
 abbrev pub OpenPass : Problem → Text → List OpenAt → Type 0
 OpenPass p t found =
-    MarksPass (LeafPasses false p t.networks (to_undercut t.count t.networks)) found t.marks
+    MarksPass (LeafPasses t.distinct false p t.networks (to_undercut t.count t.networks)) found
+    t.marks
 
 abbrev pub OpenFails : Problem → Text → List OpenAt → ℕ → RankWhy → Type 0
 OpenFails p t found k why =
-    IsFirstMark (LeafPasses false p t.networks (to_undercut t.count t.networks))
-    (LeafFails false p t.networks (to_undercut t.count t.networks)) found t.marks k why
+    IsFirstMark (LeafPasses t.distinct false p t.networks (to_undercut t.count t.networks))
+    (LeafFails t.distinct false p t.networks (to_undercut t.count t.networks)) found t.marks k why
 
 -- a node is the first that fails, for the cause
 abbrev pub IsNodeAnswer : Problem → Ranking → RankRefusal → Type 0
@@ -51,7 +52,7 @@ IsNodeAnswer p r (Node k why) = NodeIsFault false p r k why
 abbrev pub Refuses : Problem → Ranking → RankRefusal → Type 0
 Refuses p r Memory = Unit {0}
 Refuses p r (Network k why) = NetworkIsFault p r k why
-Refuses p r (Node k why) = ArePassing p [] r.networks × NodeIsFault false p r k why
+Refuses p r (Node k why) = ArePassing r.distinct p [] r.networks × NodeIsFault false p r k why
 
 -- the answer is Ok or `Memory`
 abbrev pub IsOkOrMemory : {A : Type 0} → Result A RankRefusal → Type 0

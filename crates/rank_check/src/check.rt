@@ -1,6 +1,6 @@
 //! Whole ranked trees.
-ghost use Rattle.std.specs.Prelude.{◌≡◌, ◌<◌, ◌^◌, [], ◌∷◌, ℕ, ℤ, false, Some, length, OnOk, IfOk};
-ghost use Rattle.std.specs.Prelude.{IfErr};
+ghost use Rattle.std.specs.Prelude.{◌≡◌, ◌<◌, ◌^◌, [], ◌∷◌, ℕ, ℤ, true, false, Some, length, OnOk};
+ghost use Rattle.std.specs.Prelude.{IfOk, IfErr};
 ghost use Rattle.number_sets.specs.Sets.{has};
 ghost use Rattle.pns_rules.specs.Shape.{shape_of};
 ghost use Rattle.flow_rules.specs.Net.{net_of};
@@ -14,9 +14,11 @@ ghost use Rattle.cert_check.specs.OpenLeaves.{leaves_at, AreBefore};
 ghost use Rattle.rank_rules.specs.declared.why.RankWhy.{RankWhy};
 ghost use Rattle.rank_rules.specs.Networks as ranks;
 ghost use Rattle.rank_rules.specs.Networks.{to_undercut, numbered, last_cost, ArePassing};
+ghost use Rattle.rank_rules.specs.Alternatives.{IsRight};
 ghost use Rattle.rank_rules.specs.Ranked.{IsRanked, NetworkIsFault, NodeIsFault};
 ghost use Rattle.rank_rules.specs.Text.{ranking_of};
 ghost use Rattle.rank_check.specs.declared.refusal.RankRefusal.TheVariants as refusals;
+ghost use Rattle.rank_check.specs.Marks.{AreKnown};
 ghost use Rattle.rank_check.specs.Others.{AllOthers};
 ghost use Rattle.rank_check.specs.Refusals.{PlainPasses, NamesPlainFault, OpenPass, OpenFails};
 ghost use Rattle.rank_check.specs.Refusals.{IsNodeAnswer, Refuses, IsOkOrMemory, IsRefusalOrMemory};
@@ -30,7 +32,8 @@ use cert_check::{OpenLeaf, Stop, check_nodes};
 use frac128::CostOver;
 use pgraph::Site;
 use rank_laws::{
-    listed_are_least, network_has_one_fault, others_are_no_better, ranking_has_one_fault,
+    alternatives_are_right, listed_are_least, network_has_one_fault, others_are_no_better,
+    ranking_has_one_fault,
 };
 use rank_rules::RankWhy;
 use ranked_tree::RankText;
@@ -76,17 +79,23 @@ fn walk_tree(alloc: Global, site: &Site<'_>, text: &RankText) -> Result<Vec<Open
 /// Judges open leaves of the tree by their marks. If one fails, the number of its node and the
 /// cause are given.
 fn judge_open(site: &Site<'_>, text: &RankText, leaves: &[OpenLeaf]) -> Result<(), (u32, RankWhy)>
-    requires listed { ArePassing site.now [] text.now.networks }
+    requires known { AreKnown site.now (leaves_at leaves.now) }
     ensures passes { OnOk result (OpenPass site.now text.now (leaves_at leaves.now)) }
     ensures fails { IfErr result
         (λ found. OpenFails site.now text.now (leaves_at leaves.now) found.0 found.1) }
 {
-    judge_marks(site, text.networks(), leaves, text.marks())
+    judge_marks(
+        site,
+        text.is_distinct(),
+        text.networks(),
+        leaves,
+        text.marks(),
+    )
 }
 
 /// Names the node that stopped the walk, or an open leaf before it that fails first.
 fn judge_stop(site: &Site<'_>, text: &RankText, stop: &Stop) -> RankRefusal
-    requires listed { ArePassing site.now [] text.now.networks }
+    requires listed { ArePassing text.now.distinct site.now [] text.now.networks }
     requires fault { NamesPlainFault site.now text.now stop.now.refusal }
     requires before { AreBefore (shape_of site.now) (first_node ∷ []) text.now.tree
         stop.now.refusal
@@ -110,7 +119,7 @@ fn judge_stop(site: &Site<'_>, text: &RankText, stop: &Stop) -> RankRefusal
 
 /// Judges the open leaves of a tree that passes if leaves may be open.
 fn judge_end(site: &Site<'_>, text: &RankText, leaves: &[OpenLeaf]) -> Result<(), RankRefusal>
-    requires listed { ArePassing site.now [] text.now.networks }
+    requires listed { ArePassing text.now.distinct site.now [] text.now.networks }
     requires walked { PlainPasses site.now text.now }
     requires leaves { leaves_at leaves.now
         ≡ open_leaves (shape_of site.now) (first_node ∷ []) text.now.tree 0 }
@@ -126,7 +135,7 @@ fn judge_end(site: &Site<'_>, text: &RankText, leaves: &[OpenLeaf]) -> Result<()
 /// Judges the tree; the networks pass.
 fn judge_tree(alloc: Global, site: &Site<'_>, text: &RankText) -> Result<(), RankRefusal>
     requires few { length text.now.tree < 2 ^ 32 }
-    requires listed { ArePassing site.now [] text.now.networks }
+    requires listed { ArePassing text.now.distinct site.now [] text.now.networks }
     ensures passes { OnOk result (IsRanked site.now (ranking_of text.now)) }
     ensures fails { IfErr result (IsNodeAnswer site.now (ranking_of text.now)) }
 {
@@ -143,7 +152,7 @@ fn judge(alloc: Global, site: &Site<'_>, text: &RankText) -> Result<(), RankRefu
     ensures refused { IfErr result (Refuses site.now (ranking_of text.now)) }
 {
     text.is_counted();
-    match judge_networks(site, text.networks()) {
+    match judge_networks(site, text.is_distinct(), text.networks()) {
         Err((number, why)) => Err(RankRefusal::Network { number, why }),
         Ok(()) => judge_tree(alloc, site, text),
     }
@@ -162,29 +171,37 @@ pub fn check_rank(alloc: Global, site: &Site<'_>, text: &RankText) -> Result<(),
     ensures names_network { (k : ℕ) (why : RankWhy)
         → NetworkIsFault site.now (ranking_of text.now) k why
         → IsRefusalOrMemory (refusals.Network k why) result }
-    ensures names_node { (k : ℕ) (why : RankWhy) → ArePassing site.now [] text.now.networks
+    ensures names_node { (k : ℕ) (why : RankWhy)
+        → ArePassing text.now.distinct site.now [] text.now.networks
         → NodeIsFault false site.now (ranking_of text.now) k why
         → IsRefusalOrMemory (refusals.Node k why) result }
     // No flows for the units of a listed network cost less than it.
     ensures least { OnOk result
         ((k : ℕ) (w : rules.Network) → numbered k text.now.networks ≡ Some w
         → CostsEnough site.now (Some (ranks.cost_of w)) (has w.units)) }
-    // If there are as many networks as were asked for, each clash-free solution structure that is
-    // not listed costs at least what the last does, with any flows. If there are fewer, none of
-    // them has flows.
+    // In a ranking that is no list of alternatives: if there are as many networks as were asked
+    // for, each clash-free solution structure that is not listed costs at least what the last does,
+    // with any flows. If there are fewer, none of them has flows.
     ensures full { OnOk result
-        (length text.now.networks ≡ text.now.count
+        (text.now.distinct ≡ false → length text.now.networks ≡ text.now.count
         → AllOthers site.now text.now.networks
         (CostsEnough site.now (last_cost text.now.networks))) }
     ensures fewer { OnOk result
-        (length text.now.networks < text.now.count
+        (text.now.distinct ≡ false → length text.now.networks < text.now.count
         → AllOthers site.now text.now.networks
         (λ s. (z : ℕ → ℤ) (d : ℤ) → IsFlows (net_of site.now) s z d → ⊥)) }
+    // A list of alternatives is right: each network is the best for its units, none contains the
+    // units of another that costs no more, and what is left out contains a listed network and costs
+    // no less, or costs at least what the last one does.
+    ensures alternatives { OnOk result
+        (text.now.distinct ≡ true → IsRight site.now text.now.count text.now.networks) }
 {
     site.problem();
     network_has_one_fault();
     ranking_has_one_fault();
     listed_are_least();
     others_are_no_better();
+    alternatives_are_right();
+    text.is_counted();
     judge(alloc, site, text)
 }

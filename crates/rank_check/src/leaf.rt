@@ -1,22 +1,25 @@
 //! Leaves that name a network.
-ghost use Rattle.std.specs.Prelude.{◌≡◌, ◌⊎◌, ◌↔◌, [], Some, None, IsTrue, IfSome, IfNone, OnOk};
+ghost use Rattle.std.specs.Prelude.{◌≡◌, ◌⊎◌, ◌↔◌, Some, None, IsTrue, IfSome, IfNone, OnOk};
 ghost use Rattle.std.specs.Prelude.{IfErr};
 ghost use Rattle.tree_rules.specs.declared.why.Why.TheVariants as causes;
-ghost use Rattle.tree_rules.specs.Claim.{IsFeasible};
+ghost use Rattle.pns_rules.specs.Shape.{shape_of};
 ghost use Rattle.pgraph.specs.View.{node_of};
+ghost use Rattle.cert_parts.specs.Known.{KnowsInside};
 ghost use Rattle.cert_parts.specs.Shown.{cost_over};
 ghost use Rattle.rank_rules.specs.Networks as ranks;
-ghost use Rattle.rank_rules.specs.Networks.{numbered, ArePassing};
-ghost use Rattle.rank_rules.specs.Leaf.{IsOnly, IsNamed};
+ghost use Rattle.rank_rules.specs.Networks.{numbered};
+ghost use Rattle.rank_rules.specs.Leaf.{IsOnly, IsTakenIn, MayName, IsNamed, way_why};
 ghost use Rattle.rank_rules.specs.declared.why.RankWhy.TheVariants as whys;
+ghost use Rattle.ranked_tree.specs.View.{name_of};
 ghost use Rattle.rank_check.specs.Marks.{NamedFails};
 
 use crate::order::are_same;
-use branch_tree::{Network, Scaled};
+use branch_tree::Network;
 use cert_parts::judge_bound;
 use frac128::CostOver;
 use pgraph::Site;
-use rank_rules::RankWhy;
+use rank_rules::{Naming, RankWhy};
+use ranked_tree::Name;
 use tree_rules::Why;
 use unit_sets::{Node, UnitSet};
 
@@ -45,13 +48,41 @@ fn is_only(site: &Site<'_>, node: &Node, network: &Network) -> bool
     are_same(node.inside, network.units())
 }
 
+/// Whether the units of the network are taken in at the node.
+fn is_taken_in(node: &Node, network: &Network) -> bool
+    ensures { IsTrue result ↔ IsTakenIn (Some network.now) (node_of node.now) }
+{
+    network.units().within(node.inside)
+}
+
+/// Whether the node may end with a leaf that names the network this way.
+fn may_name(site: &Site<'_>, distinct: bool, node: &Node, way: Naming, network: &Network) -> bool
+    ensures { IsTrue result
+        ↔ MayName distinct way site.now (Some network.now) (node_of node.now) }
+{
+    match way {
+        Naming::Only => is_only(site, node, network),
+        Naming::Within => distinct && is_taken_in(node, network),
+    }
+}
+
+/// The cause that is given if a leaf that names a network this way does not hold.
+fn cause_of(way: Naming) -> RankWhy
+    ensures { result ≡ way_why way }
+{
+    match way {
+        Naming::Only => RankWhy::Named,
+        Naming::Within => RankWhy::Over,
+    }
+}
+
 /// The cause that is given for a leaf that names a network.
-fn told(why: Why) -> RankWhy
-    ensures { ((why ≡ causes.Bound) × (result ≡ whys.Named))
+fn told(way: Naming, why: Why) -> RankWhy
+    ensures { ((why ≡ causes.Bound) × (result ≡ way_why way))
         ⊎ ((why ≡ causes.Bound → ⊥) × (result ≡ whys.Plain why)) }
 {
     match why {
-        Why::Bound => RankWhy::Named,
+        Why::Bound => cause_of(way),
         other => RankWhy::Plain(other),
     }
 }
@@ -59,23 +90,25 @@ fn told(why: Why) -> RankWhy
 /// Judges a leaf that names the network.
 fn judge_named(
     site: &Site<'_>,
+    distinct: bool,
     node: &Node,
     network: &Network,
-    scaled: &Scaled,
+    name: &Name,
 ) -> Result<(), RankWhy>
-    requires feasible { IsFeasible site.now network.now }
+    requires known { KnowsInside (shape_of site.now) (node_of node.now) }
     ensures passes { OnOk result
-        (IsNamed site.now (Some network.now) (node_of node.now) scaled.now.d scaled.now.ys) }
+        (IsNamed distinct name.now.way site.now (Some network.now) (node_of node.now)
+        name.now.scaled.d name.now.scaled.ys) }
     ensures fails { IfErr result
-        (NamedFails site.now (Some network.now) (node_of node.now) scaled.now.d scaled.now.ys) }
+        (NamedFails distinct site.now (Some network.now) (node_of node.now) (name_of name.now)) }
 {
-    if !is_only(site, node, network) {
-        return Err(RankWhy::Named);
+    if !may_name(site, distinct, node, name.way, network) {
+        return Err(cause_of(name.way));
     }
     let cost = cost_of(network);
-    match judge_bound(site, node, Some(cost), scaled.d(), scaled.ys()) {
+    match judge_bound(site, node, Some(cost), name.scaled.d(), name.scaled.ys()) {
         Ok(()) => Ok(()),
-        Err(why) => Err(told(why)),
+        Err(why) => Err(told(name.way, why)),
     }
 }
 
@@ -96,24 +129,24 @@ fn find(networks: &[Network], number: u32) -> Option<&Network>
     Some(network)
 }
 
-/// Judges a leaf that names the network of this number.
+/// Judges a leaf that names a network by its number.
 pub(crate) fn judge_numbered(
     site: &Site<'_>,
+    distinct: bool,
     networks: &[Network],
     node: &Node,
-    number: u32,
-    scaled: &Scaled,
+    name: &Name,
 ) -> Result<(), RankWhy>
-    requires listed { ArePassing site.now [] networks.now }
+    requires known { KnowsInside (shape_of site.now) (node_of node.now) }
     ensures passes { OnOk result
-        (IsNamed site.now (numbered number networks.now) (node_of node.now) scaled.now.d
-        scaled.now.ys) }
+        (IsNamed distinct name.now.way site.now (numbered name.now.network networks.now)
+        (node_of node.now) name.now.scaled.d name.now.scaled.ys) }
     ensures fails { IfErr result
-        (NamedFails site.now (numbered number networks.now) (node_of node.now) scaled.now.d
-        scaled.now.ys) }
+        (NamedFails distinct site.now (numbered name.now.network networks.now) (node_of node.now)
+        (name_of name.now)) }
 {
-    match find(networks, number) {
-        Some(network) => judge_named(site, node, network, scaled),
-        None => Err(RankWhy::Named),
+    match find(networks, name.network) {
+        Some(network) => judge_named(site, distinct, node, network, name),
+        None => Err(cause_of(name.way)),
     }
 }

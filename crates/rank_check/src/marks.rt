@@ -1,13 +1,14 @@
 //! The open leaves of the tree, each judged by its mark.
-ghost use Rattle.std.specs.Prelude.{◌≡◌, [], false, map, drop, Option, None, OnOk, IfErr};
+ghost use Rattle.std.specs.Prelude.{◌≡◌, false, map, drop, Option, None, OnOk, IfErr};
 ghost use Rattle.tree_rules.specs.Claim as rules;
+ghost use Rattle.pns_rules.specs.Shape.{shape_of};
 ghost use Rattle.pgraph.specs.View.{node_of};
+ghost use Rattle.cert_parts.specs.Known.{KnowsInside};
 ghost use Rattle.cert_check.specs.OpenLeaves.{leaves_at};
-ghost use Rattle.rank_rules.specs.Networks.{ArePassing};
 ghost use Rattle.rank_rules.specs.Leaf.{LeafPasses, LeafFails};
 ghost use Rattle.rank_rules.specs.Marked.{marked_leaf, first_mark};
 ghost use Rattle.ranked_tree.specs.View.{mark_of};
-ghost use Rattle.rank_check.specs.Marks.{MarkFails, AllMarksPass, MarkIsFault};
+ghost use Rattle.rank_check.specs.Marks.{MarkFails, AreKnown, AllMarksPass, MarkIsFault};
 
 use crate::leaf::judge_numbered;
 use branch_tree::Network;
@@ -21,49 +22,49 @@ use unit_sets::Node;
 /// Judges an open leaf at the node by its mark.
 fn judge_mark(
     site: &Site<'_>,
+    distinct: bool,
     networks: &[Network],
     node: &Node,
     mark: &Mark,
 ) -> Result<(), RankWhy>
-    requires listed { ArePassing site.now [] networks.now }
+    requires known { KnowsInside (shape_of site.now) (node_of node.now) }
     ensures passes { OnOk result
         ((undercut : Option rules.CostOver)
-        → LeafPasses false site.now networks.now undercut (node_of node.now)
+        → LeafPasses distinct false site.now networks.now undercut (node_of node.now)
         (marked_leaf None (mark_of mark.now))) }
     ensures fails { IfErr result
         (λ why. (undercut : Option rules.CostOver)
-        → MarkFails (LeafFails false site.now networks.now undercut) (node_of node.now)
+        → MarkFails (LeafFails distinct false site.now networks.now undercut) (node_of node.now)
         (mark_of mark.now) why) }
 {
     match mark {
         Mark::Open => Err(RankWhy::Plain(Why::Open)),
-        Mark::Named { network, scaled } => {
-            judge_numbered(site, networks, node, *network, scaled)
-        }
+        Mark::Named(name) => judge_numbered(site, distinct, networks, node, name),
     }
 }
 
 /// Judges an open leaf at the node by the mark at the place. A leaf without a mark is open.
 fn judge_mark_at(
     site: &Site<'_>,
+    distinct: bool,
     networks: &[Network],
     node: &Node,
     marks: &[Mark],
     at: usize,
 ) -> Result<(), RankWhy>
-    requires listed { ArePassing site.now [] networks.now }
+    requires known { KnowsInside (shape_of site.now) (node_of node.now) }
     ensures passes { OnOk result
         ((undercut : Option rules.CostOver)
-        → LeafPasses false site.now networks.now undercut (node_of node.now)
+        → LeafPasses distinct false site.now networks.now undercut (node_of node.now)
         (marked_leaf None (first_mark (drop at (map mark_of marks.now))))) }
     ensures fails { IfErr result
         (λ why. (undercut : Option rules.CostOver)
-        → MarkFails (LeafFails false site.now networks.now undercut) (node_of node.now)
+        → MarkFails (LeafFails distinct false site.now networks.now undercut) (node_of node.now)
         (first_mark (drop at (map mark_of marks.now))) why) }
 {
     if at < marks.len() {
         let mark = &marks[at];
-        judge_mark(site, networks, node, mark)
+        judge_mark(site, distinct, networks, node, mark)
     } else {
         Err(RankWhy::Plain(Why::Open))
     }
@@ -73,20 +74,22 @@ fn judge_mark_at(
 /// and the cause are given.
 pub(crate) fn judge_marks(
     site: &Site<'_>,
+    distinct: bool,
     networks: &[Network],
     leaves: &[OpenLeaf],
     marks: &[Mark],
 ) -> Result<(), (u32, RankWhy)>
-    requires listed { ArePassing site.now [] networks.now }
+    requires known { AreKnown site.now (leaves_at leaves.now) }
     ensures passes { OnOk result
-        (AllMarksPass site.now networks.now (leaves_at leaves.now) (map mark_of marks.now)) }
+        (AllMarksPass distinct site.now networks.now (leaves_at leaves.now)
+        (map mark_of marks.now)) }
     ensures fails { IfErr result
-        (λ found. MarkIsFault site.now networks.now (leaves_at leaves.now) (map mark_of marks.now)
-        found.0 found.1) }
+        (λ found. MarkIsFault distinct site.now networks.now (leaves_at leaves.now)
+        (map mark_of marks.now) found.0 found.1) }
 {
     'judging: for i in 0..leaves.len() {
         let leaf = leaves[i];
-        match judge_mark_at(site, networks, &leaf.node, marks, i) {
+        match judge_mark_at(site, distinct, networks, &leaf.node, marks, i) {
             Ok(()) => {}
             Err(why) => return Err((leaf.number, why)),
         }

@@ -5,7 +5,7 @@ ghost use Rattle.tree_rules.specs.Claim.{IsFeasible};
 ghost use Rattle.rank_rules.specs.Networks.{IsInOrder, ArePassing, NetworkFails, IsFirstOff};
 ghost use Rattle.rank_check.specs.Earlier.{earlier};
 
-use crate::order::is_in_order;
+use crate::order::judge_order;
 use branch_tree::Network;
 use cert_parts::judge_network;
 use pgraph::Site;
@@ -31,24 +31,21 @@ fn judge_alone(site: &Site<'_>, network: &Network) -> Result<(), Why>
 /// Judges the network at the place: as a claim, and then its order.
 fn judge_at(
     site: &Site<'_>,
+    distinct: bool,
     networks: &[Network],
     at: usize,
     network: &Network,
 ) -> Result<(), RankWhy>
     requires within { at < length networks.now }
     ensures passes { OnOk result
-        (IsFeasible site.now network.now × IsInOrder (earlier at networks.now) network.now) }
-    ensures fails { IfErr result (NetworkFails site.now (earlier at networks.now) network.now) }
+        (IsFeasible site.now network.now
+        × IsInOrder distinct (earlier at networks.now) network.now) }
+    ensures fails { IfErr result
+        (NetworkFails distinct site.now (earlier at networks.now) network.now) }
 {
     match judge_alone(site, network) {
         Err(why) => Err(RankWhy::Plain(why)),
-        Ok(()) => {
-            if is_in_order(networks, at, network) {
-                Ok(())
-            } else {
-                Err(RankWhy::Order)
-            }
-        }
+        Ok(()) => judge_order(distinct, networks, at, network),
     }
 }
 
@@ -61,14 +58,19 @@ fn number(at: usize) -> u32
 }
 
 /// Judges the networks in turn. If one fails, its number, counted from 1, and the cause are given.
-pub(crate) fn judge_networks(site: &Site<'_>, networks: &[Network]) -> Result<(), (u32, RankWhy)>
+pub(crate) fn judge_networks(
+    site: &Site<'_>,
+    distinct: bool,
+    networks: &[Network],
+) -> Result<(), (u32, RankWhy)>
     requires few { length networks.now < 2 ^ 32 }
-    ensures passes { OnOk result (ArePassing site.now [] networks.now) }
-    ensures fails { IfErr result (λ found. IsFirstOff site.now [] networks.now found.0 found.1) }
+    ensures passes { OnOk result (ArePassing distinct site.now [] networks.now) }
+    ensures fails { IfErr result
+        (λ found. IsFirstOff distinct site.now [] networks.now found.0 found.1) }
 {
     'judging: for i in 0..networks.len() {
         let network = &networks[i];
-        match judge_at(site, networks, i, network) {
+        match judge_at(site, distinct, networks, i, network) {
             Ok(()) => {}
             Err(why) => return Err((number(i), why)),
         }

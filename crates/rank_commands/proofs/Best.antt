@@ -1,10 +1,13 @@
 -- Networks whose tree is accepted are the best.
-use Rattle.std.proofs.Common.{◌≡◌, ℕ, List, inl, inr, subst}
+use Rattle.std.proofs.Common.{◌≡◌, ℕ, Bool, false, List, [], inl, inr, subst}
 use Rattle.problem_rules.specs.Problem.{Problem}
 use Rattle.problem_rules.specs.Validity.{IsValid}
 use Rattle.rank_rules.specs.Ranked.{IsRanked}
+use Rattle.rank_rules.specs.Networks.{ArePassing}
 use Rattle.rank_laws.specs.Laws.{ListedAreLeast, OthersCostEnough, OthersHaveNone}
+use Rattle.rank_laws.specs.Laws.{AlternativesAreRight}
 use Rattle.rank_rules.specs.Text.{Text, ranking_of}
+use Rattle.rank_text.specs.Laws.{ReadRanksAreSpelled}
 use Rattle.studio_rules.specs.Reading.{TwoFilesSay}
 use Rattle.io_rules.specs.State.{ShelfState, OutputsState}
 use Rattle.studio_rules.specs.Ending.{Ends}
@@ -14,38 +17,42 @@ use Rattle.studio_rules.specs.Rankcheck.{OnRank, AreBest, FilesListBest, Accepte
 
 module _ (listed : ListedAreLeast) (full : OthersCostEnough) (fewer : OthersHaveNone) where
   pub are_best : (p : Problem) → IsValid p → (t : Text) → IsRanked p (ranking_of t)
-      → AreBest p t.count t.networks
-  are_best p valid t ranked =
+      → t.distinct ≡ false → AreBest p t.count t.networks
+  are_best p valid t ranked plain =
       record {
-        pass = ranked.listed;
+        pass = subst (λ (d : Bool). ArePassing d p [] t.networks) plain ranked.listed;
         least = λ k w e. listed p valid (ranking_of t) ranked k w e;
         full =
-            λ count s structure allowed other. full p valid (ranking_of t) ranked count s structure
-            allowed other;
+            λ count s structure allowed other. full p valid (ranking_of t) ranked plain count s
+            structure allowed other;
         fewer =
-            λ count s structure allowed other z d flows. fewer p valid (ranking_of t) ranked count s
-            structure allowed other z d flows;
+            λ count s structure allowed other z d flows. fewer p valid (ranking_of t) ranked plain
+            count s structure allowed other z d flows;
       }
 
-  pub accepted_are_best : AcceptedAreBest
-  accepted_are_best held file rank lines (bytes, there, inl fault) = absurd fault
-  accepted_are_best held file rank lines (bytes, there, inr (p, given, (text, told, inl fault))) =
-      absurd fault
-  accepted_are_best held file rank lines
-      (bytes, there, inr (p, given, (text, told, inr (t, gives, work)))) =
-      let valid : IsValid p = given.valid in
-      record {
-        problem_text = bytes;
-        problem_held = there;
-        problem = p;
-        gives_problem = given;
-        valid = valid;
-        rank_text = text;
-        rank_held = told;
-        text = t;
-        gives_ranking = gives;
-        best = are_best p valid t work.0;
-      }
+  module _ (right : AlternativesAreRight) (spelled : ReadRanksAreSpelled) where
+    pub accepted_are_best : AcceptedAreBest
+    accepted_are_best held file rank lines (bytes, there, inl fault) = absurd fault
+    accepted_are_best held file rank lines (bytes, there, inr (p, given, (text, told, inl fault))) =
+        absurd fault
+    accepted_are_best held file rank lines
+        (bytes, there, inr (p, given, (text, told, inr (t, gives, work)))) =
+        let valid : IsValid p = given.valid in
+        record {
+          problem_text = bytes;
+          problem_held = there;
+          problem = p;
+          gives_problem = given;
+          valid = valid;
+          rank_text = text;
+          rank_held = told;
+          text = t;
+          gives_ranking = gives;
+          best = are_best p valid t work.0;
+          right =
+              λ distinct. right p valid (ranking_of t) work.0 distinct
+              (spelled p valid text t gives.1).fits.within;
+        }
 
 -- what is printed with status 0 is such an answer
 pub done_ends : AcceptedAreBest

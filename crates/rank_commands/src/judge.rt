@@ -17,8 +17,9 @@ use pgraph::{Graph, Site};
 use pns_io::{Outputs, Shelf, Sink};
 use pns_problem::Problem;
 use rank_check::{RankRefusal, check_rank};
-use rank_laws::{listed_are_least, others_are_no_better};
+use rank_laws::{alternatives_are_right, listed_are_least, others_are_no_better};
 use rank_rules::RankWhy;
+use rank_text::read_ranks_are_spelled;
 use ranked_tree::RankText;
 use std::alloc::{AllocError, Global};
 use studio_rules::Status;
@@ -129,12 +130,14 @@ fn say_rank<F: Shelf, K: Sink, E: Sink>(
     }
 }
 
-/// If `rankcheck` accepts, the networks are the best.
+/// If `rankcheck` accepts, the networks are the best, or alternatives.
 pub fn accepted_are_best()
     ensures { AcceptedAreBest }
 {
     listed_are_least();
     others_are_no_better();
+    alternatives_are_right();
+    read_ranks_are_spelled();
 }
 
 /// Prints whether the tree of the ranking of the one file proves it on the problem of the other.
@@ -150,7 +153,7 @@ pub fn rankcheck<F: Shelf, K: Sink, E: Sink>(
         out.new result }
     ensures keeps { Keeps (F.state shelf.old) (F.state shelf.new) }
     // If the status is 0, the one file gives a valid problem and the other networks that are the
-    // best.
+    // best, or alternatives.
     ensures accepted { result ≡ Done → FilesListBest (F.state shelf.old).held file.now rank.now }
 {
     accepted_are_best();

@@ -12,6 +12,8 @@ pub fn rank_why_word(why: RankWhy) -> &'static str
     match why {
         RankWhy::Plain(cause) => why_word(cause),
         RankWhy::Order => "order",
+        RankWhy::Contains => "contains",
         RankWhy::Named => "named",
+        RankWhy::Over => "over",
     }
 }

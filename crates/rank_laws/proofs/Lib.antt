@@ -1,3 +1,4 @@
+pub mod AlternativeLemmas
 pub mod FaultLemmas
 pub mod NetworkLemmas
 pub mod RankedLemmas

@@ -1,4 +1,5 @@
 pub mod Headed
+pub mod Alternatives
 pub mod Leaf
 pub mod Marked
 pub mod Networks

@@ -5,11 +5,13 @@ use Rattle.std.specs.Prelude.{ℕ, ℤ, List, [], ◌∷◌, Option, Some, None}
 use Rattle.tree_rules.specs.Tree as trees
 use Rattle.tree_rules.specs.Leaf as leaves
 use Rattle.tree_rules.specs.Accepted as plain
+use Rattle.rank_rules.specs.declared.naming.Naming.{Naming}
 use Rattle.rank_rules.specs.Leaf as ranks
 use Rattle.rank_rules.specs.Ranked as ranked
 
--- a network by its number, counted from 1, with a scale and multipliers
+-- how a leaf names a network, its number, counted from 1, and a scale and multipliers
 pub record Name : Type 0 where
+  pub way : Naming
   pub network : ℕ
   pub d : ℤ
   pub ys : List ℤ
@@ -21,7 +23,7 @@ Mark = Option Name
 -- the leaf that an open one with this bound stands for
 abbrev pub marked_leaf : Option leaves.Scaled → Mark → ranks.Leaf
 marked_leaf low None = ranks.plain (leaves.untried low)
-marked_leaf low (Some m) = ranks.named m.network m.d m.ys
+marked_leaf low (Some m) = ranks.named m.way m.network m.d m.ys
 
 abbrev pub first_mark : List Mark → Mark
 first_mark [] = None

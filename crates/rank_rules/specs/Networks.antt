@@ -1,13 +1,14 @@
 -- The networks of a ranked tree: each passes as a claim, costs do not fall, and no two have the
--- same units.
-use Rattle.std.specs.Prelude.{◌≡◌, ◌⊎◌, ℕ, zero, suc, ◌==◌, Bool, false, cond, List, [], ◌∷◌}
-use Rattle.std.specs.Prelude.{length, Option, Some, None}
-use Rattle.number_sets.specs.Sets.{has}
+-- same units. In a list of alternatives, which is distinct, none contains the units of another that
+-- costs no more.
+use Rattle.std.specs.Prelude.{◌≡◌, ◌⊎◌, ℕ, zero, suc, ◌==◌, Bool, true, false, cond, List, []}
+use Rattle.std.specs.Prelude.{◌∷◌, length, Option, Some, None}
+use Rattle.number_sets.specs.Sets.{has, IsWithin}
 use Rattle.problem_rules.specs.Problem.{Problem}
 use Rattle.tree_rules.specs.declared.why.Why.{Why}
 use Rattle.tree_rules.specs.Claim.{Network, network, CostOver, IsAtLeast, IsFeasible, ClaimFails}
 use Rattle.rank_rules.specs.declared.why.RankWhy.{RankWhy}
-use Rattle.rank_rules.specs.declared.why.RankWhy.TheVariants.{Plain, Order}
+use Rattle.rank_rules.specs.declared.why.RankWhy.TheVariants.{Plain, Order, Contains}
 
 -- what the network costs
 abbrev pub cost_of : Network → CostOver
@@ -52,33 +53,56 @@ abbrev pub RisesFrom : List Network → Network → Type 0
 RisesFrom [] w = Unit {0}
 RisesFrom (v ∷ vs) w = IsNoCheaper v w
 
--- no earlier network has its units
-abbrev pub IsNewTo : List Network → Network → Type 0
-IsNewTo [] w = Unit {0}
-IsNewTo (v ∷ vs) w = (((u : ℕ) → has v.units u ≡ has w.units u) → ⊥) × IsNewTo vs w
+-- the network v contains the units of w, which costs no more
+abbrev pub Repeats : Network → Network → Type 0
+Repeats v w = IsWithin (has w.units) (has v.units) × IsNoCheaper w v
 
-abbrev pub IsInOrder : List Network → Network → Type 0
-IsInOrder earlier w = RisesFrom earlier w × IsNewTo earlier w
+-- one of the two is enough: they have the same units; or, in a list of alternatives, one contains
+-- the units of the other, which costs no more
+abbrev pub AreAlike : Bool → Network → Network → Type 0
+AreAlike false v w = (u : ℕ) → has v.units u ≡ has w.units u
+AreAlike true v w = Repeats v w ⊎ Repeats w v
+
+-- no earlier network is like it
+abbrev pub IsNewTo : Bool → List Network → Network → Type 0
+IsNewTo distinct [] w = Unit {0}
+IsNewTo distinct (v ∷ vs) w = (AreAlike distinct v w → ⊥) × IsNewTo distinct vs w
+
+abbrev pub IsInOrder : Bool → List Network → Network → Type 0
+IsInOrder distinct earlier w = RisesFrom earlier w × IsNewTo distinct earlier w
 
 -- ---- which lists pass, and which network fails first
 
 -- each network after the earlier ones is a clash-free solution structure with flows of its cost,
 -- and in order
-abbrev pub ArePassing : Problem → List Network → List Network → Type 0
-ArePassing p earlier [] = Unit {0}
-ArePassing p earlier (w ∷ ws) = IsFeasible p w × IsInOrder earlier w × ArePassing p (w ∷ earlier) ws
+abbrev pub ArePassing : Bool → Problem → List Network → List Network → Type 0
+ArePassing distinct p earlier [] = Unit {0}
+ArePassing distinct p earlier (w ∷ ws) = IsFeasible p w × IsInOrder distinct earlier w
+    × ArePassing distinct p (w ∷ earlier) ws
+
+-- the cause if an earlier network is like it
+abbrev pub like_why : Bool → RankWhy
+like_why false = Order
+like_why true = Contains
+
+-- the network costs too little, or it does not, and an earlier one is like it
+abbrev pub OrderFails : Bool → List Network → Network → RankWhy → Type 0
+OrderFails distinct earlier w why =
+    ((RisesFrom earlier w → ⊥) × (why ≡ Order))
+    ⊎ (RisesFrom earlier w × (IsNewTo distinct earlier w → ⊥) × (why ≡ like_why distinct))
 
 -- the network fails as a claim, or it passes and is not in order
-abbrev pub NetworkFails : Problem → List Network → Network → RankWhy → Type 0
-NetworkFails p earlier w why =
+abbrev pub NetworkFails : Bool → Problem → List Network → Network → RankWhy → Type 0
+NetworkFails distinct p earlier w why =
     ((cause : Why) × ClaimFails false p (network w) cause × (why ≡ Plain cause))
-    ⊎ (IsFeasible p w × (IsInOrder earlier w → ⊥) × (why ≡ Order))
+    ⊎ (IsFeasible p w × OrderFails distinct earlier w why)
 
 -- of the networks after the earlier ones the first that fails is the one with this number, counted
 -- from 1, for this cause
-abbrev pub IsFirstOff : Problem → List Network → List Network → ℕ → RankWhy → Type 0
-IsFirstOff p earlier [] k why = ⊥
-IsFirstOff p earlier (w ∷ ws) zero why = ⊥
-IsFirstOff p earlier (w ∷ ws) (suc zero) why = NetworkFails p earlier w why
-IsFirstOff p earlier (w ∷ ws) (suc (suc k)) why =
-    IsFeasible p w × IsInOrder earlier w × IsFirstOff p (w ∷ earlier) ws (suc k) why
+abbrev pub IsFirstOff : Bool → Problem → List Network → List Network → ℕ → RankWhy → Type 0
+IsFirstOff distinct p earlier [] k why = ⊥
+IsFirstOff distinct p earlier (w ∷ ws) zero why = ⊥
+IsFirstOff distinct p earlier (w ∷ ws) (suc zero) why = NetworkFails distinct p earlier w why
+IsFirstOff distinct p earlier (w ∷ ws) (suc (suc k)) why =
+    IsFeasible p w × IsInOrder distinct earlier w
+    × IsFirstOff distinct p (w ∷ earlier) ws (suc k) why

@@ -17,17 +17,19 @@ abbrev pub Tree : Type 0
 Tree = List (TreeNode Leaf)
 
 -- so many networks were asked for, these were found, and this tree has to prove that no other is
--- better
+-- better; a list of alternatives is distinct
 pub record Ranking : Type 0 where
   pub count : ℕ
+  pub distinct : Bool
   pub networks : List Network
   pub tree : Tree
 
 -- The networks pass, and the tree passes from the node at which nothing is decided. In a partial
 -- tree leaves may be open.
 pub record Proves (partial : Bool) (p : Problem) (r : Ranking) : Type 0 where
-  pub listed : ArePassing p [] r.networks
-  pub passes : Pass (shape_of p) (LeafPasses partial p r.networks (to_undercut r.count r.networks))
+  pub listed : ArePassing r.distinct p [] r.networks
+  pub passes : Pass (shape_of p)
+      (LeafPasses r.distinct partial p r.networks (to_undercut r.count r.networks))
       (first_node ∷ []) r.tree
 
 abbrev pub IsRanked : Problem → Ranking → Type 0
@@ -40,7 +42,7 @@ IsPartlyRanked = Proves true
 
 -- network k, counted from 1, is the first that fails, for the cause
 abbrev pub NetworkIsFault : Problem → Ranking → ℕ → RankWhy → Type 0
-NetworkIsFault p r k why = IsFirstOff p [] r.networks k why
+NetworkIsFault p r k why = IsFirstOff r.distinct p [] r.networks k why
 
 -- at node k the cause is reported as this one
 abbrev pub IsToldAt : Tree → ℕ → Why → RankWhy → Type 0
@@ -53,7 +55,7 @@ pub record NodeIsFault (partial : Bool) (p : Problem) (r : Ranking) (k : ℕ) (w
     0 where
   pub cause : Why
   pub first : IsFirstFault (shape_of p)
-      (LeafPasses partial p r.networks (to_undercut r.count r.networks))
-      (LeafFails partial p r.networks (to_undercut r.count r.networks)) (first_node ∷ []) r.tree k
-      cause
+      (LeafPasses r.distinct partial p r.networks (to_undercut r.count r.networks))
+      (LeafFails r.distinct partial p r.networks (to_undercut r.count r.networks))
+      (first_node ∷ []) r.tree k cause
   pub told : IsToldAt r.tree k cause why

@@ -2,8 +2,8 @@
 -- its kind. Tree and tail are read from the tree text that has the line `open` for each line that
 -- names a network. If such a line has a fault, and that tree text has none up to this line, the
 -- fault of the line counts.
-use Rattle.std.specs.Prelude.{ℕ, zero, suc, nat_le, nat_lt, List, [], ◌∷◌, map, Result, Ok, Err}
-use Rattle.std.specs.Prelude.{if◌then◌else◌}
+use Rattle.std.specs.Prelude.{ℕ, zero, suc, nat_le, nat_lt, Bool, true, false, ◌&&◌, List, [], ◌∷◌}
+use Rattle.std.specs.Prelude.{map, Result, Ok, Err, if◌then◌else◌}
 use Rattle.std.specs.Str.{bytes_eq}
 use Rattle.problem_rules.specs.Problem.{Problem}
 use Rattle.tree_rules.specs.Claim.{Network}
@@ -19,7 +19,7 @@ use Rattle.tree_text_rules.specs.declared.TreeKind.TheVariants.{FileType, BadLin
 use Rattle.rank_rules.specs.Marked.{Mark}
 use Rattle.rank_rules.specs.Text.{Text}
 use Rattle.rank_rules.specs.Opened.{opened, marks_taken}
-use Rattle.rank_rules.specs.Spelling.{file_type, count_word, networks_word}
+use Rattle.rank_rules.specs.Spelling.{file_type, count_word, distinct_word, networks_word}
 
 -- ---- the first three lines
 
@@ -41,6 +41,10 @@ word_read word line = formed line (behind_word word count_of (tokens_of line))
 -- how many networks were asked for, at least 1
 abbrev pub count_read : Line → Result ℕ TreeKind
 count_read line = judged (nat_le 1) BadNumber (word_read count_word line)
+
+-- the line says that the text is a list of alternatives
+abbrev pub is_distinct : Line → Bool
+is_distinct line = line.ended && bytes_eq line.text distinct_word
 
 -- how many are there, at most as many as were asked for
 abbrev pub networks_read : ℕ → Line → Result ℕ TreeKind
@@ -80,33 +84,46 @@ abbrev pub earlier : Fault → Fault → Fault
 earlier named other = if nat_lt named.0 other.0 then named else other
 
 -- the ranking, if neither reading has a fault
-abbrev pub put_together : ℕ → List Network → Result (List Mark) Fault → Result Grown Fault
+abbrev pub put_together : ℕ → Bool → List Network → Result (List Mark) Fault → Result Grown Fault
     → Result Text Fault
-put_together count ws (Ok marks) (Ok grown) =
+put_together count distinct ws (Ok marks) (Ok grown) =
     Ok (record {
       count = count;
+      distinct = distinct;
       networks = ws;
       tree = grown.tree;
       marks = marks;
       tail =
           grown.tail;
     })
-put_together count ws (Ok marks) (Err fault) = Err fault
-put_together count ws (Err fault) (Ok grown) = Err fault
-put_together count ws (Err fault) (Err other) = Err (earlier fault other)
+put_together count distinct ws (Ok marks) (Err fault) = Err fault
+put_together count distinct ws (Err fault) (Ok grown) = Err fault
+put_together count distinct ws (Err fault) (Err other) = Err (earlier fault other)
 
-abbrev pub behind_networks : Problem → ℕ → List Network → ℕ → List Line → Result Text Fault
-behind_networks p count ws number lines =
-    put_together count ws (marks_taken number lines) (grown_taken p number (map opened lines))
+abbrev pub behind_networks : Problem → ℕ → Bool → List Network → ℕ → List Line → Result Text Fault
+behind_networks p count distinct ws number lines =
+    put_together count distinct ws (marks_taken distinct number lines)
+    (grown_taken p number (map (opened distinct) lines))
 
 -- ---- the text
+
+-- what is read from the line with the number of networks on
+abbrev pub listed_taken : Problem → ℕ → Bool → ℕ → List Line → Result Text Fault
+listed_taken p count distinct number lines =
+    first_line (networks_read count) number lines (λ k lines.
+    then_read (networks_taken p k (suc number) lines) (behind_networks p count distinct))
+
+-- what is read after the line with the number of networks that were asked for
+abbrev pub asked_taken : Problem → ℕ → ℕ → List Line → Result Text Fault
+asked_taken p count number [] = listed_taken p count false number []
+asked_taken p count number (line ∷ lines) =
+    if is_distinct line then listed_taken p count true (suc number) lines
+    else listed_taken p count false number (line ∷ lines)
 
 -- all lines but the first
 abbrev pub rest_taken : Problem → ℕ → List Line → Result Text Fault
 rest_taken p number lines =
-    first_line count_read number lines (λ count lines.
-    first_line (networks_read count) (suc number) lines (λ k lines.
-    then_read (networks_taken p k (suc (suc number)) lines) (behind_networks p count)))
+    first_line count_read number lines (λ count lines. asked_taken p count (suc number) lines)
 
 abbrev pub lines_taken : Problem → List Line → Result Text Fault
 lines_taken p [] = Err (1, FileType)

@@ -1,16 +1,19 @@
--- What a text says of a ranking: the counts, the networks, the tree with its marks, and how the
--- search ended.
-use Rattle.std.specs.Prelude.{◌≡◌, ℕ, ◌≤◌, List, [], ◌∷◌, length, Some, None}
+-- What a text says of a ranking: the counts, whether it is a list of alternatives, the networks,
+-- the tree with its marks, and how the search ended.
+use Rattle.std.specs.Prelude.{◌≡◌, ℕ, ◌≤◌, Bool, true, List, [], ◌∷◌, length, Some, None}
 use Rattle.tree_rules.specs.Tree as trees
 use Rattle.tree_rules.specs.Leaf as leaves
 use Rattle.tree_rules.specs.Claim.{Network}
 use Rattle.tree_rules.specs.Accepted.{Tree}
+use Rattle.rank_rules.specs.declared.naming.Naming.{Naming}
+use Rattle.rank_rules.specs.declared.naming.Naming.TheVariants.{Only, Within}
 use Rattle.rank_rules.specs.Ranked.{Ranking}
 use Rattle.tree_rules.specs.Tail.{Tail}
 use Rattle.rank_rules.specs.Marked.{Mark, marked, first_mark, marks_behind}
 
 pub record Text : Type 0 where
   pub count : ℕ
+  pub distinct : Bool
   pub networks : List Network
   pub tree : Tree
   pub marks : List Mark
@@ -18,13 +21,28 @@ pub record Text : Type 0 where
 
 -- the ranking that it is
 abbrev pub ranking_of : Text → Ranking
-ranking_of t = record { count = t.count; networks = t.networks; tree = marked t.marks t.tree }
+ranking_of t = record {
+  count = t.count;
+  distinct = t.distinct;
+  networks = t.networks;
+  tree = marked t.marks t.tree;
+}
 
 -- networks are named by numbers from 1 on
 abbrev pub AreNumbered : List Mark → Type 0
 AreNumbered [] = Unit {0}
 AreNumbered (None ∷ ms) = AreNumbered ms
 AreNumbered (Some m ∷ ms) = (1 ≤ m.network) × AreNumbered ms
+
+-- only a list of alternatives names networks that others contain
+abbrev pub FitsWay : Bool → Naming → Type 0
+FitsWay distinct Only = Unit {0}
+FitsWay distinct Within = distinct ≡ true
+
+abbrev pub FitWays : Bool → List Mark → Type 0
+FitWays distinct [] = Unit {0}
+FitWays distinct (None ∷ ms) = FitWays distinct ms
+FitWays distinct (Some m ∷ ms) = FitsWay distinct m.way × FitWays distinct ms
 
 -- a leaf with a bound of its own is open, and names no network
 abbrev pub IsBareAt : Mark → trees.End leaves.Leaf → Type 0
@@ -42,10 +60,11 @@ AreBare ms [] = Unit {0}
 AreBare ms (t ∷ ts) = IsBareAt (first_mark ms) t.end × AreBare (marks_behind ms t.end) ts
 
 -- at least one network is asked for, and no more than that are there; and a leaf that names one has
--- no bound of its own
-pub record IsCounted (count : ℕ) (networks : List Network) (tree : Tree) (marks : List Mark)
-    : Type 0 where
+-- no bound of its own, and names it in a way that the list has
+pub record IsCounted (count : ℕ) (distinct : Bool) (networks : List Network) (tree : Tree)
+    (marks : List Mark) : Type 0 where
   pub asked : 1 ≤ count
   pub within : length networks ≤ count
   pub numbered : AreNumbered marks
+  pub ways : FitWays distinct marks
   pub bare : AreBare marks tree

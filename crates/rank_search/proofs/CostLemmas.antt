@@ -31,7 +31,8 @@ last_positive (f ∷ g ∷ gs) s = last_positive (g ∷ gs) s.1
 length_networks : (fs : List FoundAt) → length (networks_of fs) ≡ length fs
 length_networks fs = length-map fs (λ (f : FoundAt). f.network)
 
-last_at : (fs : List FoundAt) (k : ℕ) (f : FoundAt) → length fs ≡ suc k → slice_get fs k ≡ Some f
+pub last_at : (fs : List FoundAt) (k : ℕ) (f : FoundAt) → length fs ≡ suc k → slice_get fs k
+    ≡ Some f
     → Some (cost_of f.network) ≡ last_cost (networks_of fs)
 last_at [] k f e h = absurd (omega (arith, e))
 last_at (g ∷ []) zero f e h = let q : Some g ≡ Some f = h in let r : f ≡ g =

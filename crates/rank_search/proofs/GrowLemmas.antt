@@ -115,7 +115,7 @@ same_count l m first (None ∷ ws) a = same_count a.0 m (suc first) ws a.2
 same_count l m first (Some w ∷ ws) a = same_count a.0 m (suc first) ws a.2 ∙ a.1.count_is
 
 -- the networks are those of the children
-behind : (Past : PastPlaces) (p : Problem) (n : Node) (s new : Growing) (at : ℕ) (w : Way)
+pub behind : (Past : PastPlaces) (p : Problem) (n : Node) (s new : Growing) (at : ℕ) (w : Way)
     (b : IsBranching Past p n s new at w) (ws : List (Option Network))
     → AreSolvedBy p (drop (length s.pool.payloads) new.pool.payloads) ws
     → AreSolvedBy p (cells_of b.children) ws

@@ -13,6 +13,8 @@ use Rattle.tree_rules.specs.Leaf as leaves
 use Rattle.tree_rules.specs.Leaf.{Leaf, Scaled, dead, clash, refuted, bounded, charged, untried}
 use Rattle.tree_rules.specs.Leaf.{IsUntried, IsBounded}
 use Rattle.tree_rules.specs.Claim.{Network, CostOver}
+use Rattle.rank_rules.specs.declared.naming.Naming.{Naming}
+use Rattle.rank_rules.specs.declared.naming.Naming.TheVariants.{Only}
 use Rattle.rank_rules.specs.Leaf as ranks
 use Rattle.rank_rules.specs.Leaf.{IsOpenLeaf}
 use Rattle.rank_rules.specs.Networks.{numbered, network_at, last_cost}
@@ -68,13 +70,13 @@ some_close p s undercut ms h j lt is =
 
 -- ---- a leaf without a name
 
-shut_passes : (partial : Bool) (p : Problem) (undercut : Option CostOver) (n : Node) (m : Shut)
+pub shut_passes : (partial : Bool) (p : Problem) (undercut : Option CostOver) (n : Node) (m : Shut)
     → EndsNode partial p undercut n m → leaves.LeafPasses partial p undercut n (shut_as m)
 shut_passes partial p undercut n (shuts.Bounded m) h = h.bounded
 shut_passes partial p undercut n (shuts.Refuted ys) h = h.refuted
 shut_passes partial p undercut n (shuts.Low m) h = (h.0, h.1.low)
 
-plain_passes : (partial : Bool) (p : Problem) (claimed undercut : Option CostOver) (n : Node)
+pub plain_passes : (partial : Bool) (p : Problem) (claimed undercut : Option CostOver) (n : Node)
     (l : Leaf) (m : Option Shut) → leaves.LeafPasses true p claimed n l
     → ((d : ℤ) (ys : List ℤ) → l ≡ bounded d ys → IsBounded p undercut n d ys)
     → is_charged_leaf l ≡ false → (IsUntried l → ClosesAt partial p undercut n m)
@@ -92,7 +94,8 @@ plain_passes partial p claimed undercut n (untried low) None h b u o = (o (low, 
 plain_passes partial p claimed undercut n (untried low) (Some m) h b u o =
     shut_passes partial p undercut n m (o (low, refl))
 
-bounded_stays : (m : Option Shut) (d : ℤ) (ys : List ℤ) → shut_leaf m (bounded d ys) ≡ bounded d ys
+pub bounded_stays : (m : Option Shut) (d : ℤ) (ys : List ℤ) → shut_leaf m (bounded d ys)
+    ≡ bounded d ys
 bounded_stays None d ys = refl
 bounded_stays (Some m) d ys = refl
 
@@ -110,19 +113,20 @@ shut_open (Some m) (untried low) h = (low, refl)
 plain_is : (l k : Leaf) → ranks.plain l ≡ ranks.plain k → l ≡ k
 plain_is l k h = cc
 
-named_open : (n : Option ℕ) (l : Leaf) → IsOpenLeaf (named_leaf n l) → IsUntried l
-named_open None l h = (h.0, plain_is l (untried h.0) h.1)
-named_open (Some k) (dead x) h = (h.0, plain_is (dead x) (untried h.0) h.1)
-named_open (Some k) (clash x) h = (h.0, plain_is (clash x) (untried h.0) h.1)
-named_open (Some k) (refuted ys) h = (h.0, plain_is (refuted ys) (untried h.0) h.1)
-named_open (Some k) (bounded d ys) h =
-    absurd (let q : ranks.named k d ys ≡ ranks.plain (untried h.0) = h.1 in cc)
-named_open (Some k) (charged c) h = (h.0, plain_is (charged c) (untried h.0) h.1)
-named_open (Some k) (untried low) h = (low, refl)
+named_open : (way : Naming) (n : Option ℕ) (l : Leaf) → IsOpenLeaf (named_leaf way n l)
+    → IsUntried l
+named_open way None l h = (h.0, plain_is l (untried h.0) h.1)
+named_open way (Some k) (dead x) h = (h.0, plain_is (dead x) (untried h.0) h.1)
+named_open way (Some k) (clash x) h = (h.0, plain_is (clash x) (untried h.0) h.1)
+named_open way (Some k) (refuted ys) h = (h.0, plain_is (refuted ys) (untried h.0) h.1)
+named_open way (Some k) (bounded d ys) h =
+    absurd (let q : ranks.named way k d ys ≡ ranks.plain (untried h.0) = h.1 in cc)
+named_open way (Some k) (charged c) h = (h.0, plain_is (charged c) (untried h.0) h.1)
+named_open way (Some k) (untried low) h = (low, refl)
 
-pub still_open : (n : Option ℕ) (m : Option Shut) (l : Leaf)
-    → IsOpenLeaf (named_leaf n (shut_leaf m l)) → IsUntried l
-still_open n m l h = shut_open m l (named_open n (shut_leaf m l) h)
+pub still_open : (way : Naming) (n : Option ℕ) (m : Option Shut) (l : Leaf)
+    → IsOpenLeaf (named_leaf way n (shut_leaf m l)) → IsUntried l
+still_open way n m l h = shut_open m l (named_open way n (shut_leaf m l) h)
 
 left_open : (m : Shut) → IsUntried (shut_as m) → LeavesOpen (Some m)
 left_open (shuts.Bounded m) h = absurd (let q : bounded m.d m.ys ≡ untried h.0 = h.1 in cc)
@@ -130,20 +134,20 @@ left_open (shuts.Refuted ys) h = absurd (let q : refuted ys ≡ untried h.0 = h.
 left_open (shuts.Low m) h = tt
 
 -- the item leaves one open that is open in the answer
-pub told_left : (n : Option ℕ) (m : Option Shut) (low : Option Scaled)
-    → IsOpenLeaf (named_leaf n (shut_leaf m (untried low))) → LeavesOpen m
-told_left n None low h = tt
-told_left n (Some m) low h = left_open m (named_open n (shut_as m) h)
+pub told_left : (way : Naming) (n : Option ℕ) (m : Option Shut) (low : Option Scaled)
+    → IsOpenLeaf (named_leaf way n (shut_leaf m (untried low))) → LeavesOpen m
+told_left way n None low h = tt
+told_left way n (Some m) low h = left_open m (named_open way n (shut_as m) h)
 
 -- if the item leaves it open, an open leaf is open in the answer
-pub told_open : (n : Option ℕ) (m : Option Shut) (low : Option Scaled) → LeavesOpen m
-    → IsOpenLeaf (named_leaf n (shut_leaf m (untried low)))
-told_open None None low k = (low, refl)
-told_open (Some i) None low k = (low, refl)
-told_open n (Some (shuts.Bounded m)) low k = absurd k
-told_open n (Some (shuts.Refuted ys)) low k = absurd k
-told_open None (Some (shuts.Low m)) low k = (Some m, refl)
-told_open (Some i) (Some (shuts.Low m)) low k = (Some m, refl)
+pub told_open : (way : Naming) (n : Option ℕ) (m : Option Shut) (low : Option Scaled) → LeavesOpen m
+    → IsOpenLeaf (named_leaf way n (shut_leaf m (untried low)))
+told_open way None None low k = (low, refl)
+told_open way (Some i) None low k = (low, refl)
+told_open way n (Some (shuts.Bounded m)) low k = absurd k
+told_open way n (Some (shuts.Refuted ys)) low k = absurd k
+told_open way None (Some (shuts.Low m)) low k = (Some m, refl)
+told_open way (Some i) (Some (shuts.Low m)) low k = (Some m, refl)
 
 -- ---- the networks by their numbers
 
@@ -156,19 +160,19 @@ network_there (g ∷ gs) (suc at) f h = network_there gs at f h
 one_more : (at : ℕ) → 1 + at ≡ suc at
 one_more at = omega arith
 
-numbered_there : (fs : List FoundAt) (at : ℕ) (f : FoundAt) → slice_get fs at ≡ Some f
+pub numbered_there : (fs : List FoundAt) (at : ℕ) (f : FoundAt) → slice_get fs at ≡ Some f
     → numbered (1 + at) (networks_of fs) ≡ Some f.network
 numbered_there fs at f h = ap (λ (k : ℕ). numbered k (networks_of fs)) (one_more at)
     ∙ network_there fs at f h
 
-undercut_is : (count : ℕ) (fs : List FoundAt) → length fs ≡ count
+pub undercut_is : (count : ℕ) (fs : List FoundAt) → length fs ≡ count
     → undercut_by count fs ≡ last_cost (networks_of fs)
 undercut_is count fs h =
     let l : length (networks_of fs) ≡ count = length-map fs (λ (f : FoundAt). f.network) ∙ h in
     ap (λ (b : Bool). cond b (last_cost (networks_of fs)) None)
     (eq-eqb (length (networks_of fs)) count l)
 
-end_inj : (l k : Leaf) → leaf l ≡ leaf k → l ≡ k
+pub end_inj : (l k : Leaf) → leaf l ≡ leaf k → l ≡ k
 end_inj l k h = cc
 
 -- ---- a leaf of the answer
@@ -179,8 +183,8 @@ module _ (partial : Bool) (p : Problem) (count : ℕ) (start : Node) (claimed : 
     (closes : Closes partial p (undercut_by count fs) cells ms) where
   abbrev Holds : ℕ → Option ℕ → Leaf → Type 0
   Holds i name l =
-      ranks.LeafPasses partial p (networks_of fs) (undercut_by count fs)
-      (place_of (cell_at cells i)) (named_leaf name (shut_leaf (proof_of ms i) l))
+      ranks.LeafPasses false partial p (networks_of fs) (undercut_by count fs)
+      (place_of (cell_at cells i)) (named_leaf Only name (shut_leaf (proof_of ms i) l))
 
   without_name : (i : ℕ) → i < length cells → (IsOfLeaf i fs → ⊥) → (l : Leaf)
       → (cell_at cells i).end ≡ leaf l → Holds i None l
@@ -206,16 +210,17 @@ module _ (partial : Bool) (p : Problem) (count : ℕ) (start : Node) (claimed : 
       let is : l ≡ bounded h.d h.ys = end_inj l (bounded h.d h.ys) (sym e ∙ h.end_is) in
       subst (λ (k : Leaf). Holds f.leaf (Some (1 + at)) k) (sym is)
       (subst
-      (λ (k : Leaf). ranks.LeafPasses partial p (networks_of fs) (undercut_by count fs)
-      (place_of (cell_at cells f.leaf)) (named_leaf (Some (1 + at)) k))
+      (λ (k : Leaf). ranks.LeafPasses false partial p (networks_of fs) (undercut_by count fs)
+      (place_of (cell_at cells f.leaf)) (named_leaf Only (Some (1 + at)) k))
       (sym (bounded_stays (proof_of ms f.leaf) h.d h.ys))
-      (subst (λ (o : Option Network). ranks.IsNamed p o (place_of (cell_at cells f.leaf)) h.d h.ys)
+      (subst (λ (o : Option Network). ranks.IsNamed false Only p o (place_of
+      (cell_at cells f.leaf)) h.d h.ys)
       (sym (numbered_there fs at f there))
-      (record { only = (h.found.none_free, h.found.units); bounded = h.bound })))
+      (record { may = (h.found.none_free, h.found.units); bounded = h.bound })))
 
   pub leaf_passes : (i : ℕ) → i < length cells → (l : Leaf) → (cell_at cells i).end ≡ leaf l
-      → ranks.LeafPasses partial p (networks_of fs) (undercut_by count fs)
-      (place_of (cell_at cells i)) (leaf_told (names_of (length cells) fs) ms i l)
+      → ranks.LeafPasses false partial p (networks_of fs) (undercut_by count fs)
+      (place_of (cell_at cells i)) (leaf_told Only (names_of (length cells) fs) ms i l)
   leaf_passes i lt l e = elim (name_is (length cells) fs i lt) [
     | inl h ↦ subst (λ (n : Option ℕ). Holds i n l) (sym h.name_is)
         (subst (λ (j : ℕ). (k : Leaf) → (cell_at cells j).end ≡ leaf k

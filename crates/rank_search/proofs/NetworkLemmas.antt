@@ -1,7 +1,8 @@
 -- The networks pass as a list: no two have the same units, if no two were found at one leaf. For a
 -- structure is in the family of one leaf alone.
-use Rattle.std.proofs.Common.{◌≡◌, ℕ, suc, ◌<◌, Bool, true, List, [], ◌∷◌, length, Some, refl, sym}
-use Rattle.std.proofs.Common.{ap, ◌∙◌, subst, inl, inr}
+use Rattle.std.proofs.Common.{◌≡◌, ℕ, suc, ◌<◌, Bool, true, false, List, [], ◌∷◌, length, Some}
+use Rattle.std.proofs.Common.{refl}
+use Rattle.std.proofs.Common.{sym, ap, ◌∙◌, subst, inl, inr}
 use Rattle.std.specs.List.{slice_get}
 use Rattle.number_sets.specs.Sets.{has}
 use Rattle.number_sets.proofs.SetLemmas.{below_from}
@@ -91,7 +92,7 @@ module _ (p : Problem) (cells : List Cell) where
 
   module _ (different : AreDifferent) where
     new_to : (earlier : List FoundAt) (f : FoundAt) → AreThere earlier → IsFoundThere p cells f
-        → (IsOfLeaf f.leaf earlier → ⊥) → IsNewTo (networks_of earlier) f.network
+        → (IsOfLeaf f.leaf earlier → ⊥) → IsNewTo false (networks_of earlier) f.network
     new_to [] f he hf none = tt
     new_to (e ∷ es) f he hf none = (
       (λ same. different e f he.0 hf (λ q. none (inl q)) same),
@@ -99,7 +100,8 @@ module _ (p : Problem) (cells : List Cell) where
     )
 
     pass_behind : (earlier fs : List FoundAt) → AreThere earlier → AreThere fs → AreNew earlier fs
-        → AreApart fs → RisesOn earlier fs → ArePassing p (networks_of earlier) (networks_of fs)
+        → AreApart fs → RisesOn earlier fs
+        → ArePassing false p (networks_of earlier) (networks_of fs)
     pass_behind earlier [] he h new apart rise = tt
     pass_behind earlier (f ∷ fs) he h new apart rise = (
       h.0.found.feasible,
@@ -171,6 +173,6 @@ module _ (p : Problem) (cells : List Cell) where
         apart (some_is f.leaf g.leaf (sym i.is ∙ (ap (λ (k : ℕ). slice_get order k) one ∙ j.is)))
 
     pub networks_pass : (fs : List FoundAt) → AreThere fs → AreApart fs → AreRising fs
-        → ArePassing p [] (networks_of fs)
+        → ArePassing false p [] (networks_of fs)
     networks_pass fs there apart rising =
         pass_behind different [] fs tt there (new_first fs) apart rising

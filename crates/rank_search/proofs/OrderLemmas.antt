@@ -7,6 +7,7 @@ use Rattle.std.proofs.lemmas.Bool.{cases_eq}
 use Rattle.problem_rules.specs.Each.{Each}
 use Rattle.tree_rules.specs.Tree.{End, branch, leaf, TreeNode}
 use Rattle.tree_rules.specs.Leaf.{Leaf}
+use Rattle.rank_rules.specs.declared.naming.Naming.{Naming}
 use Rattle.rank_rules.specs.Leaf as ranks
 use Rattle.rank_rules.specs.Ranked as ranked
 use Rattle.search_tree.specs.declared.shut.Shut.{Shut}
@@ -44,16 +45,16 @@ stands_in cells order linked p j lt =
 -- ---- open leaves are shut
 
 -- what the leaf of a cell becomes in the answer
-abbrev pub leaf_told : Names → List (Option Shut) → ℕ → Leaf → ranks.Leaf
-leaf_told names ms i l = named_leaf (name_at names i) (shut_leaf (proof_of ms i) l)
+abbrev pub leaf_told : Naming → Names → List (Option Shut) → ℕ → Leaf → ranks.Leaf
+leaf_told way names ms i l = named_leaf way (name_at names i) (shut_leaf (proof_of ms i) l)
 
-told_shut : (n : Option ℕ) (m : Option Shut) (e : End Leaf)
-    → told_end (named_leaf n) (shut_end m e)
-    ≡ told_end (λ (l : Leaf). named_leaf n (shut_leaf m l)) e
-told_shut n m (branch w) = refl
-told_shut n m (leaf l) = refl
+told_shut : (way : Naming) (n : Option ℕ) (m : Option Shut) (e : End Leaf)
+    → told_end (named_leaf way n) (shut_end m e)
+    ≡ told_end (λ (l : Leaf). named_leaf way n (shut_leaf m l)) e
+told_shut way n m (branch w) = refl
+told_shut way n m (leaf l) = refl
 
-module _ (names : Names) (ms : List (Option Shut)) (cells : List Cell)
+module _ (way : Naming) (names : Names) (ms : List (Option Shut)) (cells : List Cell)
     (linked : IsLinked cells) where
   -- in the same order
   same_order : (is order : List ℕ) → AreThere cells is → IsPreorder (shut_cells ms cells) is order
@@ -75,24 +76,24 @@ module _ (names : Names) (ms : List (Option Shut)) (cells : List Cell)
   shut_order order p = same_order (0 ∷ []) order (linked.some, tt) p
 
   one_told : (i : ℕ) → i < length cells
-      → named_node (name_at names i) (node_at (shut_cells ms cells) i)
-      ≡ told_at (leaf_told names ms) cells i
+      → named_node way (name_at names i) (node_at (shut_cells ms cells) i)
+      ≡ told_at (leaf_told way names ms) cells i
   one_told i lt =
       subst
-      (λ (c : Cell). named_node (name_at names i)
+      (λ (c : Cell). named_node way (name_at names i)
       (record { option = c.option; steps = c.steps; end = c.end })
-      ≡ told_at (leaf_told names ms) cells i) (sym (shut_at ms cells i lt))
+      ≡ told_at (leaf_told way names ms) cells i) (sym (shut_at ms cells i lt))
       (ap (λ (e : End ranks.Leaf). record {
         option = (cell_at cells i).option;
         steps =
             (cell_at cells i).steps;
         end = e;
       })
-      (told_shut (name_at names i) (proof_of ms i) (cell_at cells i).end))
+      (told_shut way (name_at names i) (proof_of ms i) (cell_at cells i).end))
 
   all_told : (is order : List ℕ) → AreThere cells is → IsPreorder cells is order
-      → named_tree (names_at names order) (tree_of (shut_cells ms cells) order)
-      ≡ told_tree (leaf_told names ms) cells order
+      → named_tree way (names_at names order) (tree_of (shut_cells ms cells) order)
+      ≡ told_tree (leaf_told way names ms) cells order
   all_told [] [] there p = refl
   all_told [] (k ∷ ks) there p = absurd p
   all_told (i ∷ is) [] there p = absurd p
@@ -104,8 +105,8 @@ module _ (names : Names) (ms : List (Option Shut)) (cells : List Cell)
       there.1) p.1)
 
   pub named_is_told : (order : List ℕ) → IsPreorder cells (0 ∷ []) order
-      → named_tree (names_at names order) (tree_of (shut_cells ms cells) order)
-      ≡ told_tree (leaf_told names ms) cells order
+      → named_tree way (names_at names order) (tree_of (shut_cells ms cells) order)
+      ≡ told_tree (leaf_told way names ms) cells order
   named_is_told order p = all_told (0 ∷ []) order (linked.some, tt) p
 
 pub length-names_at : (names : Names) (order : List ℕ)

@@ -59,7 +59,7 @@ scaled_at [] s j d lt = absurd (omega (arith, lt))
 scaled_at (f ∷ fs) s zero d lt = s.0
 scaled_at (f ∷ fs) s (suc j) d lt = scaled_at fs s.1 j d (omega (arith, lt))
 
-rising_tail : (f : FoundAt) (fs : List FoundAt) → AreRising (f ∷ fs) → AreRising fs
+pub rising_tail : (f : FoundAt) (fs : List FoundAt) → AreRising (f ∷ fs) → AreRising fs
 rising_tail f [] h = tt
 rising_tail f (g ∷ gs) h = h.1
 
@@ -111,7 +111,7 @@ high_part w (f ∷ fs) (suc at) h =
 
 -- ---- the list with one more
 
-take_drop : {X : Type 0} (n : ℕ) (xs : List X) → xs ≡ take n xs ++ drop n xs
+pub take_drop : {X : Type 0} (n : ℕ) (xs : List X) → xs ≡ take n xs ++ drop n xs
 take_drop zero xs = refl
 take_drop (suc n) [] = refl
 take_drop (suc n) (x ∷ xs) = ap (λ ys. x ∷ ys) (take_drop n xs)
@@ -169,12 +169,12 @@ added_nowhere old f at l within full low = record {
 
 -- ---- what the type keeps
 
-few_taken : {X : Type 0} (n : ℕ) (xs : List X) → length (take n xs) ≤ n
+pub few_taken : {X : Type 0} (n : ℕ) (xs : List X) → length (take n xs) ≤ n
 few_taken zero xs = omega arith
 few_taken (suc n) [] = omega arith
 few_taken (suc n) (x ∷ xs) = let h = few_taken n xs in omega (arith, h)
 
-rising_taken : (n : ℕ) (fs : List FoundAt) → AreRising fs → AreRising (take n fs)
+pub rising_taken : (n : ℕ) (fs : List FoundAt) → AreRising fs → AreRising (take n fs)
 rising_taken zero fs h = tt
 rising_taken (suc n) [] h = tt
 rising_taken (suc n) (f ∷ []) h = one n
@@ -185,7 +185,7 @@ rising_taken (suc n) (f ∷ []) h = one n
 rising_taken (suc zero) (f ∷ g ∷ gs) h = tt
 rising_taken (suc (suc n)) (f ∷ g ∷ gs) h = (h.0, rising_taken (suc n) (g ∷ gs) h.1)
 
-scaled_taken : (n : ℕ) (fs : List FoundAt) → AreScaled fs → AreScaled (take n fs)
+pub scaled_taken : (n : ℕ) (fs : List FoundAt) → AreScaled fs → AreScaled (take n fs)
 scaled_taken zero fs h = tt
 scaled_taken (suc n) [] h = tt
 scaled_taken (suc n) (f ∷ fs) h = (h.0, scaled_taken n fs h.1)

@@ -90,7 +90,7 @@ module _ (Past : PastPlaces) (p : Problem) (start : starts.Node) (budget : ℕ) 
     numbered = t.numbered;
   }
 
-  goes_for : (undercut : Option CostOver) → IsPositiveCost undercut → (o : Option StoppedLeaf)
+  pub goes_for : (undercut : Option CostOver) → IsPositiveCost undercut → (o : Option StoppedLeaf)
       → GoesOn Past p s o → GoesOnFor Past p undercut s o
   goes_for undercut positive None g =
       record { tree = tree_for undercut positive g.tree; are_open = g.are_open; ready = g.ready }

@@ -1,7 +1,8 @@
 -- The answer of a search: the tree, with its networks and marks, is ranked, lean, and spent if the
 -- search is.
 use Rattle.std.specs.Prelude.{IfOk}
-use Rattle.std.proofs.Common.{◌≡◌, ℕ, suc, ◌+◌, ◌-◌, ◌^◌, ◌<◌, ◌≤◌, Bool, true, List, [], ◌∷◌}
+use Rattle.std.proofs.Common.{◌≡◌, ℕ, suc, ◌+◌, ◌-◌, ◌^◌, ◌<◌, ◌≤◌, Bool, true, false, List, []}
+use Rattle.std.proofs.Common.{◌∷◌}
 use Rattle.std.proofs.Common.{length, Option, Some, None, Result, Ok, Err, refl, sym, ap, ap₂, ◌∙◌}
 use Rattle.std.proofs.Common.{subst, arith}
 use Rattle.std.specs.List.{slice_get}
@@ -18,16 +19,19 @@ use Rattle.tree_rules.specs.Ways.{options_at}
 use Rattle.tree_rules.specs.Tree.{End, branch, leaf, Pass, Stands}
 use Rattle.tree_rules.specs.Leaf as leaves
 use Rattle.tree_rules.specs.Leaf.{Leaf, dead, clash, refuted, bounded, charged, untried, IsUntried}
-use Rattle.tree_rules.specs.Claim.{CostOver, claimed_cost, IsSized}
+use Rattle.tree_rules.specs.Claim.{Network, CostOver, claimed_cost, IsSized}
 use Rattle.tree_rules.specs.Lean.{IsLean}
 use Rattle.tree_rules.specs.Stops.{IsOpenAt, IsPending, IsSpent}
 use Rattle.tree_rules.specs.Accepted.{Tree, first_node}
+use Rattle.ranked_tree.specs.Known.{KnowsNetwork}
+use Rattle.rank_rules.specs.declared.naming.Naming.{Naming}
+use Rattle.rank_rules.specs.declared.naming.Naming.TheVariants.{Only}
 use Rattle.rank_rules.specs.Leaf as ranks
-use Rattle.rank_rules.specs.Networks.{ArePassing}
+use Rattle.rank_rules.specs.Networks.{ArePassing, to_undercut}
 use Rattle.rank_rules.specs.Ranked as ranked
 use Rattle.tree_rules.specs.Known.{KnowsEnd, KnowsTree}
 use Rattle.rank_rules.specs.Marked.{Mark, marked}
-use Rattle.rank_rules.specs.Text.{AreNumbered, AreBare}
+use Rattle.rank_rules.specs.Text.{AreNumbered, FitsWay, FitWays, AreBare}
 use Rattle.search_tree.specs.declared.shut.Shut.{Shut}
 use Rattle.search_tree.specs.declared.shut.Shut.TheVariants as shuts
 use Rattle.search_tree.specs.Cells.{Cell, place_of, cell_at, IsLinked}
@@ -48,12 +52,12 @@ use Rattle.abb_search.proofs.KnownLemmas.{AreKnown, known_end, knows_tree, few_n
 use Rattle.rank_search.specs.Found.{FoundAt, networks_of, undercut_by, AreBest}
 use Rattle.rank_search.specs.Naming.{Names, name_at, names_at, names_of, marks_in, IsNamedTree}
 use Rattle.rank_rules.specs.Leaf.{IsOpenLeaf}
-use Rattle.rank_search.specs.Told.{IsTelling, IsSpentTelling}
+use Rattle.rank_search.specs.Told.{IsTelling, IsTellingOf, IsSpentOf}
 use Rattle.rank_search.proofs.FewLemmas.{few_with_next}
 use Rattle.rank_search.proofs.NamedLeafLemmas.{ClosesAt, Closes, leaf_passes, still_open, told_open}
 use Rattle.rank_search.proofs.NamedLeafLemmas.{told_left}
-use Rattle.rank_search.proofs.MarkLemmas.{marked_is, length-opened, opened_known}
-use Rattle.rank_search.proofs.MarkLemmas.{marks_numbered, marks_bare}
+use Rattle.rank_search.proofs.MarkLemmas.{named_leaf, marked_is, length-opened, opened_known}
+use Rattle.rank_search.proofs.MarkLemmas.{marks_numbered, marks_fit, marks_bare}
 use Rattle.rank_search.proofs.NameLemmas.{IsCountedName, counted_name}
 use Rattle.rank_search.proofs.NetworkLemmas.{each_there, knows_networks, networks_pass}
 use Rattle.rank_search.proofs.OrderLemmas.{leaf_told, shut_order, named_is_told, length-names_at}
@@ -100,25 +104,22 @@ head_is : (cells : List Cell) (order : List ℕ) → IsPreorder cells (0 ∷ [])
 head_is cells [] h = absurd h
 head_is cells (k ∷ ks) h = ap (λ (i : ℕ). Some i) h.0
 
-module _ (p : Problem) (valid : IsValid p) (count : ℕ) (s : Growing) (fs : List FoundAt)
-    (t : IsTreeKeptFor p (undercut_by count fs) s) (first : node_of s.start ≡ first_node)
-    (best : AreBest p count s.pool.payloads fs)
+module _ (p : Problem) (valid : IsValid p) (undercut : Option CostOver) (s : Growing)
+    (t : IsTreeKeptFor p undercut s) (first : node_of s.start ≡ first_node)
+    (way : Naming) (names : Names)
     (ms : List (Option Shut)) (wanted place : ℕ) (tree : Tree) (marks : List Mark)
-    (of : IsNamedTree s.pool.payloads fs ms wanted tree marks place) where
+    (of : IsNamedTree s.pool.payloads way names ms wanted tree marks place) where
   abbrev cells : List Cell
   cells = s.pool.payloads
 
-  abbrev names : Names
-  names = names_of (length s.pool.payloads) fs
-
   abbrev told : ℕ → Leaf → ranks.Leaf
-  told = leaf_told (names_of (length s.pool.payloads) fs) ms
+  told = leaf_told way names ms
 
   linked : IsLinked s.pool.payloads
   linked = t.kept.grown.linked
 
   preorder : IsPreorder s.pool.payloads (0 ∷ []) of.order
-  preorder = shut_order names ms cells linked of.order of.is_preorder
+  preorder = shut_order way names ms cells linked of.order of.is_preorder
 
   marked_tree : marked marks tree ≡ told_tree told s.pool.payloads of.order
   marked_tree =
@@ -126,26 +127,27 @@ module _ (p : Problem) (valid : IsValid p) (count : ℕ) (s : Growing) (fs : Lis
       let b : length (tree_of (shut_cells ms cells) of.order) ≡ length of.order =
       length-map of.order (node_at (shut_cells ms cells)) in
       ap₂ (λ (ks : List Mark) (us : Tree). marked ks us) of.marks_are of.tree_is
-      ∙ (marked_is (names_at names of.order) (tree_of (shut_cells ms cells) of.order) (a ∙ sym b)
-      ∙ named_is_told names ms cells linked of.order preorder)
+      ∙ (marked_is way (names_at names of.order) (tree_of (shut_cells ms cells) of.order)
+      (a ∙ sym b)
+      ∙ named_is_told way names ms cells linked of.order preorder)
 
-  lean_plain : IsLean p IsUntried (undercut_by count fs) (node_of s.start)
+  lean_plain : IsLean p IsUntried undercut (node_of s.start)
       (tree_of s.pool.payloads of.order)
   lean_plain =
-      kept_is_lean p (node_of s.start) (claim_with s.best) (undercut_by count fs) t.last
+      kept_is_lean p (node_of s.start) (claim_with s.best) undercut t.last
       s.pool.payloads of.order t.kept preorder
 
   still : (i : ℕ) (l : Leaf) → IsOpenLeaf (told i l) → IsUntried l
-  still i l o = still_open (name_at names i) (proof_of ms i) l o
+  still i l o = still_open way (name_at names i) (proof_of ms i) l o
 
-  lean : IsLean p IsOpenLeaf (undercut_by count fs) first_node (marked marks tree)
+  lean : IsLean p IsOpenLeaf undercut first_node (marked marks tree)
   lean =
-      subst (λ (n : Node). IsLean p IsOpenLeaf (undercut_by count fs) n (marked marks tree)) first
-      (subst (λ (w : ranked.Tree). IsLean p IsOpenLeaf (undercut_by count fs) (node_of s.start) w)
+      subst (λ (n : Node). IsLean p IsOpenLeaf undercut n (marked marks tree)) first
+      (subst (λ (w : ranked.Tree). IsLean p IsOpenLeaf undercut (node_of s.start) w)
       (sym marked_tree)
       (told_is_lean p (leaves.LeafPasses true p (claimed_cost (claim_with s.best)))
       (node_of s.start) s.pool.payloads linked t.kept.grown.fits of.order preorder told
-      IsOpenLeaf still (undercut_by count fs) lean_plain))
+      IsOpenLeaf still undercut lean_plain))
 
   stands_plain : (k v : ℕ) → slice_get of.order k ≡ Some v
       → Stands (shape_of p) (node_of s.start ∷ []) (tree_of s.pool.payloads of.order) k
@@ -167,73 +169,75 @@ module _ (p : Problem) (valid : IsValid p) (count : ℕ) (s : Growing) (fs : Lis
       (node_of s.start) s.pool.payloads linked t.kept.grown.fits) preorder
 
   -- ---- it proves what is answered
-  module _ (partial : Bool) (closes : Closes partial p (undercut_by count fs) s.pool.payloads ms)
-      (sized : Each IsSized (networks_of fs)) (asked : 1 ≤ count) where
+  pub known_cells : (partial : Bool) (goal : Option CostOver)
+      → Closes partial p goal s.pool.payloads ms → AreKnown p (shut_cells ms s.pool.payloads)
+  known_cells partial goal closes = known_shut p partial goal s.pool.payloads t.known ms closes
+
+  known_tree : AreKnown p (shut_cells ms s.pool.payloads) → KnowsTree p tree
+  known_tree known = subst (λ (w : Tree). KnowsTree p w) (sym of.tree_is)
+      (opened_known p (names_at names of.order) (tree_of (shut_cells ms cells) of.order)
+      (knows_tree p (shut_cells ms cells) (shut_linked ms cells linked) known of.order
+      of.is_preorder))
+
+  few : AreKnown p (shut_cells ms s.pool.payloads) → length tree < 2 ^ 32 - 1
+  few known =
+      let a : length tree ≡ length (tree_of (shut_cells ms cells) of.order) =
+      ap (λ (w : Tree). length w) of.tree_is
+      ∙ length-opened (names_at names of.order) (tree_of (shut_cells ms cells) of.order) in
+      let shut : length (shut_cells ms cells) < 2 ^ 32 - 1 =
+      subst (λ n. n < 2 ^ 32 - 1) (sym (shut_length ms cells)) t.numbered in
+      subst (λ n. n < 2 ^ 32 - 1) (sym a)
+      (few_nodes p (shut_cells ms cells) (shut_linked ms cells linked) known of.order
+      of.is_preorder shut)
+
+  -- so many networks were asked for, and these are answered. The leaves pass for them.
+  module _ (distinct partial : Bool) (count : ℕ) (ws : List Network)
+      (leaf_passes : (i : ℕ) → i < length s.pool.payloads → (l : Leaf)
+      → (cell_at s.pool.payloads i).end ≡ leaf l
+      → ranks.LeafPasses distinct partial p ws (to_undercut count ws)
+      (place_of (cell_at s.pool.payloads i)) (leaf_told way names ms i l)) where
     passes_told : Pass (shape_of p)
-        (ranks.LeafPasses partial p (networks_of fs) (undercut_by count fs)) (node_of s.start ∷ [])
+        (ranks.LeafPasses distinct partial p ws (to_undercut count ws)) (node_of s.start ∷ [])
         (told_tree told s.pool.payloads of.order)
     passes_told =
         told_passes (shape_of p) (leaves.LeafPasses true p (claimed_cost (claim_with s.best)))
         (node_of s.start) s.pool.payloads linked t.kept.grown.fits told
-        (ranks.LeafPasses partial p (networks_of fs) (undercut_by count fs))
-        (leaf_passes partial p count (node_of s.start) (claimed_cost (claim_with s.best))
-        s.pool.payloads t.kept.grown.fits fs best ms closes)
+        (ranks.LeafPasses distinct partial p ws (to_undercut count ws)) leaf_passes
         (node_of s.start ∷ []) (0 ∷ []) of.order
         (aligned_start (shape_of p)
         (leaves.LeafPasses true p (claimed_cost (claim_with s.best))) (node_of s.start)
         s.pool.payloads linked t.kept.grown.fits) preorder
 
     passes_marked : Pass (shape_of p)
-        (ranks.LeafPasses partial p (networks_of fs) (undercut_by count fs)) (first_node ∷ [])
+        (ranks.LeafPasses distinct partial p ws (to_undercut count ws)) (first_node ∷ [])
         (marked marks tree)
     passes_marked =
         subst
         (λ (n : Node). Pass (shape_of p)
-        (ranks.LeafPasses partial p (networks_of fs) (undercut_by count fs)) (n ∷ [])
+        (ranks.LeafPasses distinct partial p ws (to_undercut count ws)) (n ∷ [])
         (marked marks tree)) first
         (subst
         (λ (w : ranked.Tree). Pass (shape_of p)
-        (ranks.LeafPasses partial p (networks_of fs) (undercut_by count fs))
+        (ranks.LeafPasses distinct partial p ws (to_undercut count ws))
         (node_of s.start ∷ []) w) (sym marked_tree) passes_told)
 
-    passing : ArePassing p [] (networks_of fs)
-    passing =
-        networks_pass p s.pool.payloads valid (node_of s.start) (claim_with s.best) t.kept.grown
-        t.passes t.kept.sound of.order preorder fs
-        (each_there p s.pool.payloads fs best.there) best.apart best.rising
-
-    known_cells : AreKnown p (shut_cells ms s.pool.payloads)
-    known_cells = known_shut p partial (undercut_by count fs) s.pool.payloads t.known ms closes
-
-    known_tree : KnowsTree p tree
-    known_tree = subst (λ (w : Tree). KnowsTree p w) (sym of.tree_is)
-        (opened_known p (names_at names of.order) (tree_of (shut_cells ms cells) of.order)
-        (knows_tree p (shut_cells ms cells) (shut_linked ms cells linked) known_cells of.order
-        of.is_preorder))
-
-    few : length tree < 2 ^ 32 - 1
-    few =
-        let a : length tree ≡ length (tree_of (shut_cells ms cells) of.order) =
-        ap (λ (w : Tree). length w) of.tree_is
-        ∙ length-opened (names_at names of.order) (tree_of (shut_cells ms cells) of.order) in
-        let shut : length (shut_cells ms cells) < 2 ^ 32 - 1 =
-        subst (λ n. n < 2 ^ 32 - 1) (sym (shut_length ms cells)) t.numbered in
-        subst (λ n. n < 2 ^ 32 - 1) (sym a)
-        (few_nodes p (shut_cells ms cells) (shut_linked ms cells linked) known_cells of.order
-        of.is_preorder shut)
-
-    pub is_telling : IsTelling partial p count (networks_of fs) tree marks
-    is_telling = record {
+    pub is_telling_of : AreKnown p (shut_cells ms s.pool.payloads) → ArePassing distinct p [] ws
+        → Each (KnowsNetwork p) ws → 1 ≤ count → length ws ≤ count → FitsWay distinct way
+        → ((i : ℕ) → IsCountedName (name_at names i))
+        → IsTellingOf distinct partial p count undercut ws tree marks
+    is_telling_of known passing networks asked within fits numbered = record {
       proves = record { listed = passing; passes = passes_marked };
       lean = lean;
       counted = record {
         asked = asked;
-        within = let e : length (networks_of fs) ≡ length fs =
-            length-map fs (λ (f : FoundAt). f.network) in let b = best.few in omega (arith, e, b);
+        within = within;
         numbered = subst (λ (ks : List Mark). AreNumbered ks) (sym of.marks_are)
-            (marks_numbered (names_at names of.order) (tree_of (shut_cells ms cells) of.order)
-            (each_name IsCountedName names (counted_name (length s.pool.payloads) fs)
-            of.order));
+            (marks_numbered way (names_at names of.order) (tree_of (shut_cells ms cells) of.order)
+            (each_name IsCountedName names numbered of.order));
+        ways =
+            subst (λ (ks : List Mark). FitWays distinct ks) (sym of.marks_are)
+            (marks_fit way distinct fits (names_at names of.order)
+            (tree_of (shut_cells ms cells) of.order));
         bare =
             let a : length (names_at names of.order) ≡ length of.order =
             length-names_at names of.order in
@@ -242,15 +246,14 @@ module _ (p : Problem) (valid : IsValid p) (count : ℕ) (s : Growing) (fs : Lis
             subst (λ (ks : List Mark). AreBare ks tree) (sym of.marks_are)
             (subst
             (λ (w : Tree). AreBare
-            (marks_in (names_at names of.order) (tree_of (shut_cells ms cells) of.order)) w)
+            (marks_in way (names_at names of.order) (tree_of (shut_cells ms cells) of.order)) w)
             (sym of.tree_is)
-            (marks_bare (names_at names of.order) (tree_of (shut_cells ms cells) of.order)
+            (marks_bare way (names_at names of.order) (tree_of (shut_cells ms cells) of.order)
             (a ∙ sym b)));
       };
-      of_networks =
-          knows_networks p s.pool.payloads fs (each_there p s.pool.payloads fs best.there) sized;
-      of_tree = known_tree;
-      few = few;
+      of_networks = networks;
+      of_tree = known_tree known;
+      few = few known;
     }
 
   -- ---- an open leaf that stays open
@@ -263,7 +266,7 @@ module _ (p : Problem) (valid : IsValid p) (count : ℕ) (s : Growing) (fs : Lis
         (node_of s.start) s.pool.payloads linked t.kept.grown.fits of.order preorder told
         IsOpenLeaf still
         wanted place there of.stands is
-        (told_open (name_at names wanted) (proof_of ms wanted) is.0 left)
+        (told_open way (name_at names wanted) (proof_of ms wanted) is.0 left)
 
     pub stands_open : EndsOpen (cell_at s.pool.payloads wanted).end
         → IsOpenAt p IsOpenLeaf first_node (marked marks tree) place
@@ -276,25 +279,25 @@ module _ (p : Problem) (valid : IsValid p) (count : ℕ) (s : Growing) (fs : Lis
         (λ (w : ranked.Tree). IsOpenAt p IsOpenLeaf (node_of s.start) w place
         (place_of (cell_at s.pool.payloads wanted))) (sym marked_tree) (stands_told is))
 
-    module _ (options : ℕ) (h : IsSpentFor p (undercut_by count fs) s ms wanted options) where
+    module _ (options : ℕ) (h : IsSpentFor p undercut s ms wanted options) where
       pending : (j : ℕ) → j < length s.pool.payloads
           → (is : EndsOpen (cell_at s.pool.payloads j).end) → IsOpenLeaf (told j (untried is.0))
           → IsPending p (place_of (cell_at s.pool.payloads j))
-      pending j lt is o = h.pending j lt is (told_left (name_at names j) (proof_of ms j) is.0 o)
+      pending j lt is o = h.pending j lt is (told_left way (name_at names j) (proof_of ms j) is.0 o)
 
-      spent : IsSpent p IsOpenLeaf (undercut_by count fs) first_node (marked marks tree) place
+      spent : IsSpent p IsOpenLeaf undercut first_node (marked marks tree) place
           options s.budget
       spent =
           subst
-          (λ (n : Node). IsSpent p IsOpenLeaf (undercut_by count fs) n (marked marks tree) place
+          (λ (n : Node). IsSpent p IsOpenLeaf undercut n (marked marks tree) place
           options s.budget) first
           (subst
-          (λ (w : ranked.Tree). IsSpent p IsOpenLeaf (undercut_by count fs) (node_of s.start) w
+          (λ (w : ranked.Tree). IsSpent p IsOpenLeaf undercut (node_of s.start) w
           place options s.budget) (sym marked_tree)
           (told_is_spent p (leaves.LeafPasses true p (claimed_cost (claim_with s.best)))
           (node_of s.start) s.pool.payloads linked t.kept.grown.fits of.order preorder told
           IsOpenLeaf still
-          (undercut_by count fs) wanted place options s.budget (stands_told h.can.is_open) h.may
+          undercut wanted place options s.budget (stands_told h.can.is_open) h.may
           h.least pending h.count_is h.over))
 
       exceeds : s.budget < length (tree_of s.pool.payloads of.order) + options
@@ -332,8 +335,40 @@ module _ (p : Problem) (valid : IsValid p) (count : ℕ) (s : Growing) (fs : Lis
           under_limit : (b n c k m : ℕ) → b < n + c → c ≡ k → n + k < m → b < m
           under_limit b n c k m h e l = omega (arith, h, e, l)
 
-      pub spent_telling : IsSpentTelling p count (networks_of fs) tree marks place options s.budget
+      pub spent_telling : IsSpentOf p undercut tree marks place options s.budget
       spent_telling = record { spent = spent; below_limit = below_limit }
+
+-- ---- the answer of a search for the best networks
+
+module _ (p : Problem) (valid : IsValid p) (count : ℕ) (s : Growing) (fs : List FoundAt)
+    (t : IsTreeKeptFor p (undercut_by count fs) s) (first : node_of s.start ≡ first_node)
+    (best : AreBest p count s.pool.payloads fs)
+    (ms : List (Option Shut)) (wanted place : ℕ) (tree : Tree) (marks : List Mark)
+    (of : IsNamedTree s.pool.payloads Only (names_of (length s.pool.payloads) fs) ms wanted tree
+    marks place) where
+  pub is_telling : (partial : Bool)
+      → Closes partial p (undercut_by count fs) s.pool.payloads ms
+      → Each IsSized (networks_of fs) → 1 ≤ count
+      → IsTelling partial p count (networks_of fs) tree marks
+  is_telling partial closes sized asked =
+      is_telling_of p valid (undercut_by count fs) s t first Only
+      (names_of (length s.pool.payloads) fs) ms wanted place tree marks of false partial count
+      (networks_of fs)
+      (leaf_passes partial p count (node_of s.start) (claimed_cost (claim_with s.best))
+      s.pool.payloads t.kept.grown.fits fs best ms closes)
+      (known_cells p valid (undercut_by count fs) s t first Only
+      (names_of (length s.pool.payloads) fs) ms wanted place tree marks of partial
+      (undercut_by count fs) closes)
+      (networks_pass p s.pool.payloads valid (node_of s.start) (claim_with s.best) t.kept.grown
+      t.passes t.kept.sound of.order
+      (shut_order Only (names_of (length s.pool.payloads) fs) ms s.pool.payloads
+      t.kept.grown.linked of.order of.is_preorder) fs
+      (each_there p s.pool.payloads fs best.there) best.apart best.rising)
+      (knows_networks p s.pool.payloads fs (each_there p s.pool.payloads fs best.there) sized)
+      asked
+      (let e : length (networks_of fs) ≡ length fs =
+      length-map fs (λ (f : FoundAt). f.network) in let b = best.few in omega (arith, e, b))
+      tt (counted_name (length s.pool.payloads) fs)
 
 -- ---- three facts of what is answered
 

@@ -23,8 +23,15 @@ module _ (Stops : PastPlaces) (p : Problem) (asked count budget : ℕ) (same : a
     (ws : List Network) (tree : Tree) (marks : List Mark) where
   pub whole_ranked : IsTelling false p count ws tree marks
       → IsRankedBy Stops p count budget
-      (Whole (record { count = asked; networks = ws; tree = tree; marks = marks; tail = whole }))
-  whole_ranked t = (refl, record { count_is = same; tells = t })
+      (Whole (record {
+        count = asked;
+        distinct = false;
+        networks = ws;
+        tree = tree;
+        marks = marks;
+        tail = whole;
+      }))
+  whole_ranked t = (refl, record { count_is = same; is_ranking = refl; tells = t })
 
   pub spent_ranked : (place options : ℕ) → IsTelling true p count ws tree marks
       → IsSpentTelling p count ws tree marks place options budget
@@ -32,6 +39,7 @@ module _ (Stops : PastPlaces) (p : Problem) (asked count budget : ℕ) (same : a
       (Spent
       (record {
         count = asked;
+        distinct = false;
         networks = ws;
         tree = tree;
         marks = marks;
@@ -40,7 +48,7 @@ module _ (Stops : PastPlaces) (p : Problem) (asked count budget : ℕ) (same : a
       }))
   spent_ranked place options t s =
       record {
-        ranking = record { count_is = same; tells = t };
+        ranking = record { count_is = same; is_ranking = refl; tells = t };
         next = place;
         options =
             options;
@@ -58,6 +66,7 @@ module _ (Stops : PastPlaces) (p : Problem) (asked count budget : ℕ) (same : a
       (Past
       (record {
         count = asked;
+        distinct = false;
         networks = ws;
         tree = tree;
         marks = marks;
@@ -65,7 +74,7 @@ module _ (Stops : PastPlaces) (p : Problem) (asked count budget : ℕ) (same : a
             past place h.stop.nonbasic h.stop.place;
       }))
   past_ranked place s h t stopped sound stands = record {
-    ranking = record { count_is = same; tells = t };
+    ranking = record { count_is = same; is_ranking = refl; tells = t };
     node = place;
     nonbasic = h.stop.nonbasic;
     place = h.stop.place;

@@ -58,7 +58,7 @@ resumed s stop =
     }
 
 module _ (p : Problem) (undercut : Option CostOver) (s : Growing) (stop : Option StoppedLeaf) where
-  tree_resumed : IsTreeKeptFor p undercut s → IsTreeKeptFor p undercut (resumed s stop)
+  pub tree_resumed : IsTreeKeptFor p undercut s → IsTreeKeptFor p undercut (resumed s stop)
   tree_resumed t = record {
     last = t.last;
     kept = t.kept;
@@ -70,7 +70,7 @@ module _ (p : Problem) (undercut : Option CostOver) (s : Growing) (stop : Option
     numbered = t.numbered;
   }
 
-  growing_resumed : {Past : PastPlaces} → IsGrowingFor Past p undercut s
+  pub growing_resumed : {Past : PastPlaces} → IsGrowingFor Past p undercut s
       → IsGrowingFor Past p undercut (resumed s stop)
   growing_resumed g =
       record {

@@ -1,11 +1,12 @@
--- The tree of a search as a ranked one: a bounded leaf at which one of the networks was found names
--- that network, and is in the ordinary tree an open leaf with a mark.
+-- The tree of a search as a ranked one: a bounded leaf that has a name names a network by its
+-- number, and is in the ordinary tree an open leaf with a mark.
 use Rattle.std.specs.Prelude.{◌≡◌, ℕ, suc, ◌<◌, List, [], ◌∷◌, ◌++◌, map, length, slice_set}
 use Rattle.std.specs.Prelude.{replicate, get_or, Option, Some, None}
 use Rattle.std.specs.List.{slice_get}
 use Rattle.tree_rules.specs.Tree.{End, branch, leaf, TreeNode}
 use Rattle.tree_rules.specs.Leaf.{Leaf, dead, clash, refuted, bounded, charged, untried}
 use Rattle.tree_rules.specs.Accepted.{Tree}
+use Rattle.rank_rules.specs.declared.naming.Naming.{Naming}
 use Rattle.rank_rules.specs.Marked.{Mark}
 use Rattle.ranked_tree.specs.declared.mark.Mark as marks
 use Rattle.ranked_tree.specs.View.{mark_of}
@@ -17,7 +18,7 @@ use Rattle.rank_search.specs.Found.{FoundAt}
 
 -- ---- names
 
--- for each leaf by its number the network that was found there, by its number, counted from 1
+-- for each leaf by its number a network, by its number, counted from 1
 abbrev pub Names : Type 0
 Names = List (Option ℕ)
 
@@ -26,7 +27,7 @@ abbrev pub AreWithin : ℕ → List FoundAt → Type 0
 AreWithin n [] = Unit {0}
 AreWithin n (f ∷ fs) = (f.leaf < n) × AreWithin n fs
 
--- the networks of the list are numbered from k on
+-- the networks of the list are those of the leaves at which they were found, numbered from k on
 abbrev pub names_with : Names → ℕ → List FoundAt → Names
 names_with names k [] = names
 names_with names k (f ∷ fs) = names_with (slice_set names f.leaf (Some k)) (suc k) fs
@@ -54,17 +55,18 @@ opened_end (Some k) (leaf (bounded d ys)) = leaf (untried None)
 opened_end (Some k) (leaf (charged h)) = leaf (charged h)
 opened_end (Some k) (leaf (untried low)) = leaf (untried low)
 
--- It has a mark with its network and its multipliers. An open leaf is marked as open, and no other
--- end has a mark.
-abbrev pub marks_at : Option ℕ → End Leaf → List Mark
-marks_at name (branch w) = []
-marks_at name (leaf (dead x)) = []
-marks_at name (leaf (clash x)) = []
-marks_at name (leaf (refuted ys)) = []
-marks_at None (leaf (bounded d ys)) = []
-marks_at (Some k) (leaf (bounded d ys)) = Some (record { network = k; d = d; ys = ys }) ∷ []
-marks_at name (leaf (charged h)) = []
-marks_at name (leaf (untried low)) = None ∷ []
+-- It has a mark with its network, how it names it, and its multipliers. An open leaf is marked as
+-- open, and no other end has a mark.
+abbrev pub marks_at : Naming → Option ℕ → End Leaf → List Mark
+marks_at way name (branch w) = []
+marks_at way name (leaf (dead x)) = []
+marks_at way name (leaf (clash x)) = []
+marks_at way name (leaf (refuted ys)) = []
+marks_at way None (leaf (bounded d ys)) = []
+marks_at way (Some k) (leaf (bounded d ys)) =
+    Some (record { way = way; network = k; d = d; ys = ys }) ∷ []
+marks_at way name (leaf (charged h)) = []
+marks_at way name (leaf (untried low)) = None ∷ []
 
 abbrev pub opened_node : Option ℕ → TreeNode Leaf → TreeNode Leaf
 opened_node name t = record { option = t.option; steps = t.steps; end = opened_end name t.end }
@@ -77,10 +79,10 @@ opened [] ts = ts
 opened (n ∷ ns) [] = []
 opened (n ∷ ns) (t ∷ ts) = opened_node n t ∷ opened ns ts
 
-abbrev pub marks_in : Names → Tree → List Mark
-marks_in [] ts = []
-marks_in (n ∷ ns) [] = []
-marks_in (n ∷ ns) (t ∷ ts) = marks_at n t.end ++ marks_in ns ts
+abbrev pub marks_in : Naming → Names → Tree → List Mark
+marks_in way [] ts = []
+marks_in way (n ∷ ns) [] = []
+marks_in way (n ∷ ns) (t ∷ ts) = marks_at way n t.end ++ marks_in way ns ts
 
 -- the mark of the code that an end may have
 abbrev pub marks_of : Option marks.Mark → List Mark
@@ -92,12 +94,12 @@ marks_of (Some m) = mark_of m ∷ []
 -- The nodes are those of all cells in preorder. Their open leaves end with the items at their
 -- numbers, and their named leaves are open leaves with these marks. The cell `wanted` is the node
 -- `place` there.
-pub record IsNamedTree (cells : List Cell) (fs : List FoundAt) (proofs : List (Option Shut))
-    (wanted : ℕ) (tree : Tree) (marks : List Mark) (place : ℕ) : Type 0 where
+pub record IsNamedTree (cells : List Cell) (way : Naming) (names : Names)
+    (proofs : List (Option Shut)) (wanted : ℕ) (tree : Tree) (marks : List Mark)
+    (place : ℕ) : Type 0 where
   pub order : List ℕ
   pub is_preorder : IsPreorder (shut_cells proofs cells) (0 ∷ []) order
   pub stands : slice_get order place ≡ Some wanted
-  pub tree_is : tree ≡ opened (names_at (names_of (length cells) fs) order)
-      (tree_of (shut_cells proofs cells) order)
-  pub marks_are : marks ≡ marks_in (names_at (names_of (length cells) fs) order)
+  pub tree_is : tree ≡ opened (names_at names order) (tree_of (shut_cells proofs cells) order)
+  pub marks_are : marks ≡ marks_in way (names_at names order)
       (tree_of (shut_cells proofs cells) order)

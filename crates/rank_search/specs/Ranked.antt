@@ -15,10 +15,11 @@ use Rattle.rank_search.specs.Told.{IsTelling, IsSpentTelling}
 use Rattle.rank_search.specs.declared.outcome.Ranked.{Ranked}
 use Rattle.rank_search.specs.declared.outcome.Ranked.TheVariants.{Whole, Spent, Past, Memory}
 
--- so many networks are asked for, and the networks with the tree and its marks are a ranked tree,
--- whole or partial, and lean
+-- so many networks are asked for, not a list of alternatives, and the networks with the tree and
+-- its marks are a ranked tree, whole or partial, and lean
 pub record IsRankingFor (partial : Bool) (p : Problem) (count : ℕ) (t : Text) : Type 0 where
   pub count_is : t.count ≡ count
+  pub is_ranking : t.distinct ≡ false
   pub tells : IsTelling partial p count t.networks t.tree t.marks
 
 -- the budget does not last for the children of the leaf `next`, a least one, and is below twice the

@@ -1,8 +1,8 @@
 -- The answer of a search for the best networks: the networks with a ranked tree, whole or so far.
-use Rattle.std.specs.Prelude.{ℕ, ◌-◌, ◌^◌, ◌<◌, Bool, List, length}
+use Rattle.std.specs.Prelude.{ℕ, ◌-◌, ◌^◌, ◌<◌, Bool, false, List, length, Option}
 use Rattle.problem_rules.specs.Each.{Each}
 use Rattle.problem_rules.specs.Problem.{Problem}
-use Rattle.tree_rules.specs.Claim.{Network}
+use Rattle.tree_rules.specs.Claim.{Network, CostOver}
 use Rattle.tree_rules.specs.Lean.{IsLean}
 use Rattle.tree_rules.specs.Stops.{IsSpent}
 use Rattle.tree_rules.specs.Accepted.{Tree, first_node}
@@ -16,19 +16,31 @@ use Rattle.tree_rules.specs.Proved.{IsBelowLimit}
 use Rattle.rank_rules.specs.Leaf.{IsOpenLeaf}
 
 -- So many networks were asked for, and these with the tree and its marks are a ranked tree, whole
--- or partial, and lean. All numbers are the problem's.
-pub record IsTelling (partial : Bool) (p : Problem) (count : ℕ) (ws : List Network) (tree : Tree)
-    (marks : List Mark) : Type 0 where
-  pub proves : Proves partial p (record { count = count; networks = ws; tree = marked marks tree })
-  pub lean : IsLean p IsOpenLeaf (to_undercut count ws) first_node (marked marks tree)
-  pub counted : IsCounted count ws tree marks
+-- or partial, and lean for what is claimed. All numbers are the problem's. A list of alternatives
+-- is distinct.
+pub record IsTellingOf (distinct partial : Bool) (p : Problem) (count : ℕ)
+    (claimed : Option CostOver) (ws : List Network) (tree : Tree) (marks : List Mark) : Type
+    0 where
+  pub proves : Proves partial p
+      (record { count = count; distinct = distinct; networks = ws; tree = marked marks tree })
+  pub lean : IsLean p IsOpenLeaf claimed first_node (marked marks tree)
+  pub counted : IsCounted count distinct ws tree marks
   pub of_networks : Each (KnowsNetwork p) ws
   pub of_tree : KnowsTree p tree
   pub few : length tree < 2 ^ 32 - 1
 
 -- the leaf at the place is branched next, into so many children, for which the budget does not last
-pub record IsSpentTelling (p : Problem) (count : ℕ) (ws : List Network) (tree : Tree)
-    (marks : List Mark) (place options budget : ℕ) : Type 0 where
-  pub spent : IsSpent p IsOpenLeaf (to_undercut count ws) first_node (marked marks tree) place
-      options budget
+pub record IsSpentOf (p : Problem) (claimed : Option CostOver) (tree : Tree) (marks : List Mark)
+    (place options budget : ℕ) : Type 0 where
+  pub spent : IsSpent p IsOpenLeaf claimed first_node (marked marks tree) place options budget
   pub below_limit : IsBelowLimit p budget
+
+-- in a ranking what is claimed is the cost of the last network, if as many are there as were asked
+-- for
+abbrev pub IsTelling : Bool → Problem → ℕ → List Network → Tree → List Mark → Type 0
+IsTelling partial p count ws tree marks =
+    IsTellingOf false partial p count (to_undercut count ws) ws tree marks
+
+abbrev pub IsSpentTelling : Problem → ℕ → List Network → Tree → List Mark → ℕ → ℕ → ℕ → Type 0
+IsSpentTelling p count ws tree marks place options budget =
+    IsSpentOf p (to_undercut count ws) tree marks place options budget

@@ -2,9 +2,9 @@
 ghost use Rattle.std.specs.Prelude.{◌≡◌, ◌≤◌, ◌+◌, ◌<◌, ◌^◌, [], length, take, drop, OnOk, OnErr};
 ghost use Rattle.std.specs.Prelude.{option_copied};
 ghost use Rattle.node_evaluation.specs.Looks.{cost_of};
-ghost use Rattle.rank_search.specs.Found.{undercut_by};
+ghost use Rattle.rank_search.specs.Found.{undercut_by, AreRising};
 ghost use Rattle.rank_search.specs.Listed.{IsListed, IsAdded, IsSomeAdded, AreAdded, IsFrontAdded};
-ghost use Rattle.rank_search.specs.Listed.{AreNoDearer, AreDearer};
+ghost use Rattle.rank_search.specs.Listed.{AreScaled, AreNoDearer, AreDearer};
 
 use branch_tree::Network;
 use node_evaluation::costs_no_more;
@@ -24,6 +24,18 @@ impl Model for FoundAt {
     ghost Value = { specs.FoundAt };
 
     ghost view = { λ f. record { network = f.network; leaf = f.leaf } };
+}
+
+/// The place of a network in a list that rises in cost, after all that cost no more.
+pub fn place_for(found: &[FoundAt], network: &Network) -> usize
+    requires rising { AreRising found.now }
+    requires scaled { AreScaled found.now }
+    ensures within { result ≤ length found.now }
+    ensures low { AreNoDearer (take result found.now) network.now }
+    ensures high { AreDearer (drop result found.now) network.now }
+{
+    network.is_sized();
+    found.partition_point(|other| costs_no_more(&other.network, network))
 }
 
 /// The best of the networks that were found, best first, and at most as many as are asked for. Of
@@ -96,17 +108,6 @@ impl FoundNetworks {
         let _count = self.count;
     }
 
-    /// The place of a network after all that cost no more.
-    fn place_for(&self, network: &Network) -> usize
-        ensures within { result ≤ length self.now.found }
-        ensures low { AreNoDearer (take result self.now.found) network.now }
-        ensures high { AreDearer (drop result self.now.found) network.now }
-    {
-        network.is_sized();
-        self.found
-            .partition_point(|other| costs_no_more(&other.network, network))
-    }
-
     /// Adds a network that was found at a leaf, after those that cost no more. If there are then
     /// more than are asked for, the last one drops out. After `Err`, which comes if memory is
     /// refused, all is as before.
@@ -116,7 +117,7 @@ impl FoundNetworks {
         ensures same { OnErr result (self.new ≡ self.old) }
     {
         network.is_sized();
-        let at = self.place_for(&network);
+        let at = place_for(&self.found, &network);
         let count = self.count as usize;
         if at >= count {
             return Ok(());

@@ -22,5 +22,9 @@ mod told;
 mod turns;
 mod whole;
 
+pub use found::{FoundAt, place_for};
+pub use naming::{NamedTree, named_tree};
 pub use outcome::Ranked;
+pub use telling::{Told, into_networks};
+pub use told::text_of;
 pub use whole::{rank, rank_watched, rank_with};

@@ -12,14 +12,15 @@ ghost use Rattle.rank_search.specs.Naming.{opened, opened_node, marks_in, marks_
 use crate::found::FoundAt;
 use branch_tree::{End, Tree, TreeNode};
 use node_pool::Pool;
-use ranked_tree::Mark;
+use rank_rules::Naming;
+use ranked_tree::{Mark, Name};
 use search_tree::{Cell, Shut, nodes_in_preorder};
 use std::alloc::{AllocError, Global};
 use std::mem;
 
 /// A tree with the marks of its open leaves in preorder, and the place of one of its nodes.
 #[derive(Drop)]
-pub(crate) struct NamedTree {
+pub struct NamedTree {
     pub tree: Tree,
     pub marks: Vec<Mark>,
     pub place: u32,
@@ -27,7 +28,11 @@ pub(crate) struct NamedTree {
 
 /// For each of so many nodes the network that was found there, by its number, counted from 1. The
 /// networks are sized.
-fn names_of(alloc: Global, found: &[FoundAt], nodes: usize) -> Result<Vec<Option<u32>>, AllocError>
+pub(crate) fn names_of(
+    alloc: Global,
+    found: &[FoundAt],
+    nodes: usize,
+) -> Result<Vec<Option<u32>>, AllocError>
     requires within { AreWithin nodes found.now }
     requires few { length found.now < 2 ^ 32 }
     ensures names { IfOk result (λ names. names.items ≡ names_of nodes found.now) }
@@ -53,16 +58,20 @@ fn name_at(names: &[Option<u32>], number: u32) -> Option<u32>
 }
 
 /// The mark of a node whose leaf has this name. A bounded leaf that has one becomes an open leaf.
-fn take_mark(node: &mut TreeNode, name: Option<u32>) -> Option<Mark>
+fn take_mark(node: &mut TreeNode, name: Option<u32>, way: Naming) -> Option<Mark>
     ensures node { node.new ≡ opened_node name node.old }
-    ensures mark { marks_of result ≡ marks_at name node.old.end }
+    ensures mark { marks_of result ≡ marks_at way name node.old.end }
 {
     if let End::Open(_) = node.end {
         return Some(Mark::Open);
     }
     let network = name?;
     match mem::replace(&mut node.end, End::Open(None)) {
-        End::Bound(scaled) => Some(Mark::Named { network, scaled }),
+        End::Bound(scaled) => Some(Mark::Named(Name {
+            way,
+            network,
+            scaled,
+        })),
         other => {
             node.end = other;
             None
@@ -77,49 +86,46 @@ fn take_marks(
     nodes: &mut [TreeNode],
     order: &[u32],
     names: &[Option<u32>],
+    way: Naming,
 ) -> Result<Vec<Mark>, AllocError>
     requires as_many { length nodes.old ≡ length order.now }
     ensures nodes { IfOk result
         (λ marks. nodes.new ≡ opened (names_at names.now order.now) nodes.old) }
     ensures marks { IfOk result
-        (λ marks. map mark_of marks.items ≡ marks_in (names_at names.now order.now) nodes.old) }
+        (λ marks. map mark_of marks.items
+        ≡ marks_in way (names_at names.now order.now) nodes.old) }
 {
     let mut marks = Vec::new(alloc);
     'naming: for (at, number) in order.iter().enumerate() {
         let name = name_at(names, *number);
-        if let Some(mark) = take_mark(&mut nodes[at], name) {
+        if let Some(mark) = take_mark(&mut nodes[at], name, way) {
             marks.push(mark)?;
         }
     }
     Ok(marks)
 }
 
-/// The tree of the nodes, and the place of a node in it. Leaves at which networks were found are
-/// named by these. An open leaf ends with the item of `proofs` at its number, if there is one.
-pub(crate) fn named_tree(
+/// The tree of the nodes, and the place of a node in it. Bounded leaves that have a name name their
+/// network in this way. An open leaf ends with the item of `proofs` at its number, if there is one.
+pub fn named_tree(
     alloc: Global,
     pool: &Pool<Cell>,
-    found: &[FoundAt],
+    way: Naming,
+    names: &[Option<u32>],
     proofs: &[Option<Shut>],
     leaf: u32,
-    nodes: u32,
 ) -> Result<NamedTree, AllocError>
     requires linked { IsLinked pool.now.payloads }
     requires root { (cell_at pool.now.payloads 0).option ≡ [] }
     requires leaf { leaf < length pool.now.payloads }
-    requires counted { nodes ≡ length pool.now.payloads }
-    requires within { AreWithin nodes found.now }
-    requires few { length found.now < 2 ^ 32 }
-    ensures tree { IfOk result
-        (λ t. IsNamedTree pool.now.payloads found.now proofs.now leaf t.tree
+    ensures { IfOk result
+        (λ t. IsNamedTree pool.now.payloads way names.now proofs.now leaf t.tree
         (map mark_of t.marks.items) t.place) }
-    ensures sized { IfOk result (λ t. Each IsSized (networks_of found.now)) }
 {
     search_tree::preorder_is_tree();
-    let names = names_of(alloc, found, nodes as usize)?;
     let preorder = nodes_in_preorder(alloc, pool, proofs, leaf)?;
     let mut told = preorder.nodes;
-    let marks = take_marks(alloc, &mut told, &preorder.order, &names)?;
+    let marks = take_marks(alloc, &mut told, &preorder.order, names, way)?;
     Ok(NamedTree {
         tree: Tree::from_nodes(told),
         marks,

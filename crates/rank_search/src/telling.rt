@@ -13,15 +13,17 @@ ghost use Rattle.search_tree.specs.Growth.{EndsOpen};
 ghost use Rattle.abb_search.specs.Closing.{ShutAll, EndSome, LeavesOpen, IsSpentFor};
 ghost use Rattle.abb_search.specs.Growing.{IsTreeKeptFor};
 ghost use Rattle.rank_search.specs.Found.{AreBest, networks_of, undercut_by};
-ghost use Rattle.rank_search.specs.Naming.{AreWithin, IsNamedTree};
+ghost use Rattle.rank_search.specs.Naming.{AreWithin, IsNamedTree, names_of};
+ghost use Rattle.rank_rules.specs.declared.naming.Naming.TheVariants.{Only};
 ghost use Rattle.rank_rules.specs.Leaf.{IsOpenLeaf};
 ghost use Rattle.rank_search.specs.Told.{IsTelling, IsSpentTelling};
 
-use crate::found::FoundNetworks;
-use crate::naming::named_tree;
+use crate::found::{FoundAt, FoundNetworks};
+use crate::naming::{named_tree, names_of};
 use abb_search::Growing;
 use branch_tree::{Network, Tree};
 use pgraph::Site;
+use rank_rules::Naming;
 use ranked_tree::Mark;
 use search_tree::Shut;
 use std::alloc::{AllocError, Global};
@@ -37,14 +39,10 @@ pub struct Told {
 }
 
 /// The networks without the leaves at which they were found.
-fn into_networks(alloc: Global, found: FoundNetworks) -> Result<Vec<Network>, AllocError>
-    ensures { IfOk result (λ ws. ws.items ≡ networks_of found.found) }
+pub fn into_networks(alloc: Global, found: Vec<FoundAt>) -> Result<Vec<Network>, AllocError>
+    ensures { IfOk result (λ ws. ws.items ≡ networks_of found.items) }
 {
-    found
-        .into_found()
-        .into_iter()
-        .map(|one| one.network)
-        .collect(alloc)
+    found.into_iter().map(|one| one.network).collect(alloc)
 }
 
 /// At least one network is asked for, and those of the list have numbers. A call proves this, and
@@ -73,20 +71,15 @@ fn tell(
     ensures asked { 1 ≤ found.count }
     ensures networks { IfOk result (λ t. t.networks.items ≡ networks_of found.found) }
     ensures tree { IfOk result
-        (λ t. IsNamedTree growing.now.pool.payloads found.found proofs.now leaf t.tree
+        (λ t. IsNamedTree growing.now.pool.payloads Only
+        (names_of (length growing.now.pool.payloads) found.found) proofs.now leaf t.tree
         (map mark_of t.marks.items) t.place) }
     ensures sized { IfOk result (λ t. Each IsSized (networks_of found.found)) }
 {
     are_numbered(&found);
-    let named = named_tree(
-        alloc,
-        &growing.pool,
-        found.found(),
-        proofs,
-        leaf,
-        growing.nodes,
-    )?;
-    let networks = into_networks(alloc, found)?;
+    let names = names_of(alloc, found.found(), growing.nodes as usize)?;
+    let named = named_tree(alloc, &growing.pool, Naming::Only, &names, proofs, leaf)?;
+    let networks = into_networks(alloc, found.into_found())?;
     Ok(Told {
         networks,
         tree: named.tree,

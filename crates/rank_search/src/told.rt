@@ -1,5 +1,5 @@
 //! The answer of a search that has ended, as a text.
-ghost use Rattle.std.specs.Prelude.{◌≡◌, IfOk, map};
+ghost use Rattle.std.specs.Prelude.{◌≡◌, false, IfOk, map};
 ghost use Rattle.branch_tree.specs.View.{tail_of};
 ghost use Rattle.ranked_tree.specs.View.{mark_of};
 ghost use Rattle.rank_rules.specs.Text.{IsCounted};
@@ -13,14 +13,16 @@ use abb_search::{Ending, Growing};
 use branch_tree::Tail;
 use node_evaluation::Evaluator;
 use pgraph::Site;
-use ranked_tree::RankText;
+use ranked_tree::{Asked, RankText};
 use std::alloc::{AllocError, Global};
 
 /// The answer, with the place at which the search stopped.
-fn text_of(count: u32, told: Told, tail: Tail) -> RankText
-    requires { IsCounted count told.networks.items told.tree (map mark_of told.marks.items) }
+pub fn text_of(asked: Asked, told: Told, tail: Tail) -> RankText
+    requires { IsCounted asked.count asked.distinct told.networks.items told.tree
+        (map mark_of told.marks.items) }
     ensures { result ≡ record {
-      count = count;
+      count = asked.count;
+      distinct = asked.distinct;
       networks = told.networks.items;
       tree =
           told.tree;
@@ -28,7 +30,7 @@ fn text_of(count: u32, told: Told, tail: Tail) -> RankText
       tail = tail_of tail;
     } }
 {
-    RankText::of(count, told.networks, told.tree, told.marks, tail)
+    RankText::of(asked, told.networks, told.tree, told.marks, tail)
 }
 
 /// What is found if the search ends in this way.
@@ -42,11 +44,14 @@ pub(crate) fn ranked_by<E: Evaluator>(
     requires { IsRankEnd E.past site.now growing.now.budget growing.now found ending }
     ensures { IfOk result (IsRankedBy E.past site.now found.count growing.now.budget) }
 {
-    let count = found.count();
+    let asked = Asked {
+        count: found.count(),
+        distinct: false,
+    };
     match ending {
         Ending::Whole(proofs) => {
             let told = tell_whole(alloc, site, growing, found, &proofs)?;
-            Ok(Ranked::Whole(text_of(count, told, Tail::Whole)))
+            Ok(Ranked::Whole(text_of(asked, told, Tail::Whole)))
         }
         Ending::Spent {
             leaf,
@@ -55,7 +60,7 @@ pub(crate) fn ranked_by<E: Evaluator>(
         } => {
             let told = tell_stopped(alloc, site, growing, found, &ends, leaf)?;
             let next = told.place;
-            Ok(Ranked::Spent(text_of(count, told, Tail::Spent { next, options })))
+            Ok(Ranked::Spent(text_of(asked, told, Tail::Spent { next, options })))
         }
         Ending::Past(stopped) => {
             let told = tell_stopped(alloc, site, growing, found, &[], stopped.leaf)?;
@@ -65,7 +70,7 @@ pub(crate) fn ranked_by<E: Evaluator>(
                 nonbasic: stopped.stop.nonbasic,
                 place: stopped.stop.place,
             };
-            Ok(Ranked::Past(text_of(count, told, tail)))
+            Ok(Ranked::Past(text_of(asked, told, tail)))
         }
     }
 }

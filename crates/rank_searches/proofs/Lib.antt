@@ -1,2 +1,3 @@
+mod DistinctLists
 mod Marks
 pub mod Rankings

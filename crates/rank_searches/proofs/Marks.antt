@@ -1,7 +1,7 @@
 -- A ranking with exactly one mark for each open leaf is the same ranked tree, and lines can have
 -- its text.
-use Rattle.std.proofs.Common.{◌≡◌, ◌+◌, ℕ, List, [], ◌∷◌, Some, None, length, refl, sym, ap, ◌∙◌}
-use Rattle.std.proofs.Common.{subst, arith}
+use Rattle.std.proofs.Common.{◌≡◌, ◌+◌, ℕ, Bool, List, [], ◌∷◌, Some, None, length, refl, sym, ap}
+use Rattle.std.proofs.Common.{◌∙◌, subst, arith}
 use Rattle.problem_rules.specs.Each.{Each}
 use Rattle.tree_rules.specs.Tree.{TreeNode, End, branch, leaf}
 use Rattle.tree_rules.specs.Leaf as leaves
@@ -9,7 +9,7 @@ use Rattle.tree_rules.specs.Accepted.{Tree}
 use Rattle.rank_rules.specs.Ranked as ranked
 use Rattle.rank_rules.specs.Marked.{Mark, marked, marked_node, marked_end, first_mark, other_marks}
 use Rattle.rank_rules.specs.Marked.{marks_behind}
-use Rattle.rank_rules.specs.Text.{AreNumbered, IsBareAt, AreBare}
+use Rattle.rank_rules.specs.Text.{AreNumbered, FitWays, IsBareAt, AreBare}
 use Rattle.rank_text.specs.Fits.{opens, opens_at, FitsMark}
 use Rattle.rank_searches.specs.Normal.{with_mark, marks_for, IsMarkInRange}
 
@@ -108,14 +108,41 @@ behind_numbered ms (leaf (leaves.bounded d ys)) h = h
 behind_numbered ms (leaf (leaves.charged c)) h = h
 behind_numbered ms (leaf (leaves.untried low)) h = others_numbered ms h
 
--- a mark in range that is numbered
-mark_fits : (m : Mark) → AreNumbered (m ∷ []) → IsMarkInRange m → FitsMark m
-mark_fits None numbered kept = tt
-mark_fits (Some m) numbered kept = ((numbered.0, kept.0), kept.1, kept.2)
+first_way : (distinct : Bool) (ms : List Mark) → FitWays distinct ms
+    → FitWays distinct (first_mark ms ∷ [])
+first_way distinct [] h = tt
+first_way distinct (None ∷ ms) h = tt
+first_way distinct (Some m ∷ ms) h = (h.0, tt)
 
-first_fits : (ms : List Mark) → AreNumbered ms → Each IsMarkInRange ms → FitsMark (first_mark ms)
-first_fits [] numbered kept = tt
-first_fits (m ∷ ms) numbered kept = mark_fits m (first_numbered (m ∷ ms) numbered) kept.0
+other_ways : (distinct : Bool) (ms : List Mark) → FitWays distinct ms
+    → FitWays distinct (other_marks ms)
+other_ways distinct [] h = tt
+other_ways distinct (None ∷ ms) h = h
+other_ways distinct (Some m ∷ ms) h = h.1
+
+behind_ways : (distinct : Bool) (ms : List Mark) (e : End leaves.Leaf) → FitWays distinct ms
+    → FitWays distinct (marks_behind ms e)
+behind_ways distinct ms (branch w) h = h
+behind_ways distinct ms (leaf (leaves.dead x)) h = h
+behind_ways distinct ms (leaf (leaves.clash k)) h = h
+behind_ways distinct ms (leaf (leaves.refuted ys)) h = h
+behind_ways distinct ms (leaf (leaves.bounded d ys)) h = h
+behind_ways distinct ms (leaf (leaves.charged c)) h = h
+behind_ways distinct ms (leaf (leaves.untried low)) h = other_ways distinct ms h
+
+-- a mark in range that is numbered, and names its network in a way that the list has
+mark_fits : (distinct : Bool) (m : Mark) → AreNumbered (m ∷ []) → FitWays distinct (m ∷ [])
+    → IsMarkInRange m → FitsMark distinct m
+mark_fits distinct None numbered ways kept = tt
+mark_fits distinct (Some m) numbered ways kept =
+    (ways.0, (numbered.0, kept.0), kept.1, kept.2)
+
+first_fits : (distinct : Bool) (ms : List Mark) → AreNumbered ms → FitWays distinct ms
+    → Each IsMarkInRange ms → FitsMark distinct (first_mark ms)
+first_fits distinct [] numbered ways kept = tt
+first_fits distinct (m ∷ ms) numbered ways kept =
+    mark_fits distinct m (first_numbered (m ∷ ms) numbered) (first_way distinct (m ∷ ms) ways)
+    kept.0
 
 others_kept : (ms : List Mark) → Each IsMarkInRange ms → Each IsMarkInRange (other_marks ms)
 others_kept [] kept = tt
@@ -131,21 +158,22 @@ behind_kept ms (leaf (leaves.bounded d ys)) h = h
 behind_kept ms (leaf (leaves.charged c)) h = h
 behind_kept ms (leaf (leaves.untried low)) h = others_kept ms h
 
-with_mark_fits : (ms : List Mark) (e : End leaves.Leaf) (behind : List Mark) → AreNumbered ms
-    → Each IsMarkInRange ms → Each FitsMark behind → Each FitsMark (with_mark ms e behind)
-with_mark_fits ms (branch w) behind numbered kept fits = fits
-with_mark_fits ms (leaf (leaves.dead x)) behind numbered kept fits = fits
-with_mark_fits ms (leaf (leaves.clash k)) behind numbered kept fits = fits
-with_mark_fits ms (leaf (leaves.refuted ys)) behind numbered kept fits = fits
-with_mark_fits ms (leaf (leaves.bounded d ys)) behind numbered kept fits = fits
-with_mark_fits ms (leaf (leaves.charged c)) behind numbered kept fits = fits
-with_mark_fits ms (leaf (leaves.untried low)) behind numbered kept fits =
-    (first_fits ms numbered kept, fits)
+with_mark_fits : (distinct : Bool) (ms : List Mark) (e : End leaves.Leaf) (behind : List Mark)
+    → AreNumbered ms → FitWays distinct ms → Each IsMarkInRange ms
+    → Each (FitsMark distinct) behind → Each (FitsMark distinct) (with_mark ms e behind)
+with_mark_fits distinct ms (branch w) behind numbered ways kept fits = fits
+with_mark_fits distinct ms (leaf (leaves.dead x)) behind numbered ways kept fits = fits
+with_mark_fits distinct ms (leaf (leaves.clash k)) behind numbered ways kept fits = fits
+with_mark_fits distinct ms (leaf (leaves.refuted ys)) behind numbered ways kept fits = fits
+with_mark_fits distinct ms (leaf (leaves.bounded d ys)) behind numbered ways kept fits = fits
+with_mark_fits distinct ms (leaf (leaves.charged c)) behind numbered ways kept fits = fits
+with_mark_fits distinct ms (leaf (leaves.untried low)) behind numbered ways kept fits =
+    (first_fits distinct ms numbered ways kept, fits)
 
-pub marks_for_fit : (ts : Tree) (ms : List Mark) → AreNumbered ms → Each IsMarkInRange ms
-    → Each FitsMark (marks_for ts ms)
-marks_for_fit [] ms numbered kept = tt
-marks_for_fit (t ∷ ts) ms numbered kept =
-    with_mark_fits ms t.end (marks_for ts (marks_behind ms t.end)) numbered kept
-    (marks_for_fit ts (marks_behind ms t.end) (behind_numbered ms t.end numbered)
-    (behind_kept ms t.end kept))
+pub marks_for_fit : (distinct : Bool) (ts : Tree) (ms : List Mark) → AreNumbered ms
+    → FitWays distinct ms → Each IsMarkInRange ms → Each (FitsMark distinct) (marks_for ts ms)
+marks_for_fit distinct [] ms numbered ways kept = tt
+marks_for_fit distinct (t ∷ ts) ms numbered ways kept =
+    with_mark_fits distinct ms t.end (marks_for ts (marks_behind ms t.end)) numbered ways kept
+    (marks_for_fit distinct ts (marks_behind ms t.end) (behind_numbered ms t.end numbered)
+    (behind_ways distinct ms t.end ways) (behind_kept ms t.end kept))

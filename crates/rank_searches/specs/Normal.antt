@@ -27,6 +27,7 @@ abbrev pub normal : Text → Text
 normal t =
     record {
       count = t.count;
+      distinct = t.distinct;
       networks = t.networks;
       tree = t.tree;
       marks =

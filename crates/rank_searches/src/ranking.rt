@@ -1,14 +1,15 @@
-//! The text of what a search for the best networks found.
-ghost use Rattle.std.specs.Prelude.{◌≡◌, ◌<◌, ◌^◌, ℕ, Ok, length, map};
+//! The text of what a search for networks found.
+ghost use Rattle.std.specs.Prelude.{◌≡◌, ◌<◌, ◌^◌, Ok, Some, length, map};
 ghost use Rattle.problem_rules.specs.Each.{Each};
 ghost use Rattle.branch_tree.specs.Sized.{IsKept};
 ghost use Rattle.ranked_tree.specs.View.{mark_of};
 ghost use Rattle.rank_text.specs.Known.{KnowsText};
+ghost use Rattle.rank_rules.specs.Text.{Text};
 ghost use Rattle.rank_rules.specs.Read.{read_text};
 ghost use Rattle.rank_rules.specs.Spelling.{rank_text};
-ghost use Rattle.rank_search.specs.Ranked.{IsRankedTo};
 ghost use Rattle.rank_searches.specs.Normal.{normal, IsMarkInRange};
-ghost use Rattle.rank_searches.specs.Found.{ranking_found, RankingSays, FoundSays};
+ghost use Rattle.rank_searches.specs.Found.{ranking_found, CanPrint, RankingSays};
+ghost use Rattle.rank_searches.specs.Found.{FoundSays};
 ghost use Rattle.studio_rules.specs.Ending.{Ends, Tells};
 
 use branch_tree::Network;
@@ -50,9 +51,9 @@ fn mark_is_in_range(mark: &Mark)
 {
     match mark {
         Mark::Open => {}
-        Mark::Named { network, scaled } => {
-            let _network = *network;
-            scaled.are_in_range();
+        Mark::Named(name) => {
+            let _network = name.network;
+            name.scaled.are_in_range();
         }
     }
 }
@@ -118,7 +119,7 @@ pub(crate) fn say_found<K: Sink, E: Sink>(
     ranked: Ranked,
     budget: u64,
 ) -> Status
-    requires { (count : ℕ) × (budget : ℕ) × IsRankedTo problem.now count budget ranked }
+    requires { (t : Text) → ranking_found ranked ≡ Some t → CanPrint problem.now t }
     ensures { Ends (Tells (FoundSays problem.now ranked)) out.old out.new result }
 {
     match ranking_found(ranked) {

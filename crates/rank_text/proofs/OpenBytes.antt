@@ -1,7 +1,7 @@
 -- A text is made of its lines, also with `open` in place of each line that names a network.
 use Rattle.std.proofs.Common.{◌≡◌, ◌≤◌, Bool, true, false, cond, ℕ, List, [], ◌∷◌, ◌++◌, map}
 use Rattle.std.proofs.Common.{flat_map, length, take, drop, refl, sym, ap, ◌∙◌, append_assoc}
-use Rattle.std.proofs.Common.{append-nil, if◌then◌else◌}
+use Rattle.std.proofs.Common.{append-nil, Option, Some, None}
 use Rattle.std.specs.List.{list_any, slice_split, onto_first}
 use Rattle.std.proofs.lemmas.Bool.{or_from}
 use Rattle.std.proofs.lemmas.List.{length-take-le}
@@ -12,8 +12,8 @@ use Rattle.text_lines.proofs.Cutting.{parts_some}
 use Rattle.tree_text_rules.specs.Line.{Line, is_feed, lines_from, lines_of, word_text}
 use Rattle.tree_text_rules.specs.declared.Word.TheVariants.{Open, Unknown}
 use Rattle.tree_reading.proofs.Cutting.{more_pieces}
-use Rattle.rank_rules.specs.Opened.{begins_by, opened, unknown_line, line_bytes}
-use Rattle.rank_rules.specs.Spelling.{named_word}
+use Rattle.rank_rules.specs.declared.naming.Naming.{Naming}
+use Rattle.rank_rules.specs.Opened.{way_of, opened_by, opened, unknown_line, line_bytes}
 
 abbrev pub bytes_of : List Line → List ℕ
 bytes_of lines = flat_map line_bytes lines
@@ -43,71 +43,76 @@ front_line text lines clear rest =
     ∙ more_pieces text (slice_split is_feed (bytes_of lines)) (parts_some is_feed (bytes_of lines))
     ∙ ap (λ (ls : List Line). record { text = text; ended = true } ∷ ls) rest
 
--- the line, or `open` in its place
-abbrev opened_as : Bool → Line → Line
-opened_as named line = if named then record { text = word_text Open; ended = line.ended } else line
-
-front_opened : (named : Bool) (text : List ℕ) (lines : List Line) → IsClear text
+front_opened : (way : Option Naming) (text : List ℕ) (lines : List Line) → IsClear text
     → lines_of (bytes_of lines) ≡ lines
     → lines_of
-    (line_bytes (opened_as named (record { text = text; ended = true })) ++ bytes_of lines)
-    ≡ opened_as named (record { text = text; ended = true }) ∷ lines
-front_opened true text lines clear rest = front_line (word_text Open) lines refl rest
-front_opened false text lines clear rest = front_line text lines clear rest
+    (line_bytes (opened_by way (record { text = text; ended = true })) ++ bytes_of lines)
+    ≡ opened_by way (record { text = text; ended = true }) ∷ lines
+front_opened (Some way) text lines clear rest = front_line (word_text Open) lines refl rest
+front_opened None text lines clear rest = front_line text lines clear rest
 
-last_opened : (named : Bool) (c : ℕ) (cs : List ℕ) → IsClear (c ∷ cs)
-    → lines_of (line_bytes (opened_as named (record { text = c ∷ cs; ended = false })) ++ [])
-    ≡ opened_as named (record { text = c ∷ cs; ended = false }) ∷ []
-last_opened true c cs clear = refl
-last_opened false c cs clear = ap lines_of (append-nil (c ∷ cs))
+last_opened : (way : Option Naming) (c : ℕ) (cs : List ℕ) → IsClear (c ∷ cs)
+    → lines_of (line_bytes (opened_by way (record { text = c ∷ cs; ended = false })) ++ [])
+    ≡ opened_by way (record { text = c ∷ cs; ended = false }) ∷ []
+last_opened (Some way) c cs clear = refl
+last_opened None c cs clear = ap lines_of (append-nil (c ∷ cs))
     ∙ ap lines_from (split_none is_feed (c ∷ cs) clear)
 
-opened_again : (pieces : List (List ℕ)) → Each IsClear pieces
-    → lines_of (bytes_of (map opened (lines_from pieces))) ≡ map opened (lines_from pieces)
-opened_again [] each = refl
-opened_again ([] ∷ []) each = refl
-opened_again ((c ∷ cs) ∷ []) each =
-    last_opened (begins_by named_word (record { text = c ∷ cs; ended = false })) c cs each.0
-opened_again (piece ∷ next ∷ pieces) each =
-    front_opened (begins_by named_word (record { text = piece; ended = true })) piece
-    (map opened (lines_from (next ∷ pieces))) each.0 (opened_again (next ∷ pieces) each.1)
+opened_again : (distinct : Bool) (pieces : List (List ℕ)) → Each IsClear pieces
+    → lines_of (bytes_of (map (opened distinct) (lines_from pieces)))
+    ≡ map (opened distinct) (lines_from pieces)
+opened_again distinct [] each = refl
+opened_again distinct ([] ∷ []) each = refl
+opened_again distinct ((c ∷ cs) ∷ []) each =
+    last_opened (way_of distinct (record { text = c ∷ cs; ended = false })) c cs each.0
+opened_again distinct (piece ∷ next ∷ pieces) each =
+    front_opened (way_of distinct (record { text = piece; ended = true })) piece
+    (map (opened distinct) (lines_from (next ∷ pieces))) each.0
+    (opened_again distinct (next ∷ pieces) each.1)
 
 -- ---- a text that is made line by line
 
 -- the text after what is before the place
-abbrev pub opened_from : List ℕ → ℕ → List ℕ
-opened_from bytes at = bytes_of (unknown_line ∷ map opened (lines_of (drop at bytes)))
+abbrev pub opened_from : Bool → List ℕ → ℕ → List ℕ
+opened_from distinct bytes at =
+    bytes_of (unknown_line ∷ map (opened distinct) (lines_of (drop at bytes)))
 
 -- before the first line
-pub text_begun : (bytes made : List ℕ) (at : ℕ) → made ≡ take at bytes ++ line_bytes unknown_line
-    → made ++ bytes_of (map opened (lines_of (drop at bytes))) ≡ take at bytes
-    ++ opened_from bytes at
-text_begun bytes made at is =
-    ap (λ (bs : List ℕ). bs ++ bytes_of (map opened (lines_of (drop at bytes)))) is
+pub text_begun : (distinct : Bool) (bytes made : List ℕ) (at : ℕ)
+    → made ≡ take at bytes ++ line_bytes unknown_line
+    → made ++ bytes_of (map (opened distinct) (lines_of (drop at bytes))) ≡ take at bytes
+    ++ opened_from distinct bytes at
+text_begun distinct bytes made at is =
+    ap (λ (bs : List ℕ). bs ++ bytes_of (map (opened distinct) (lines_of (drop at bytes)))) is
     ∙ append_assoc (take at bytes) (line_bytes unknown_line)
-    (bytes_of (map opened (lines_of (drop at bytes))))
+    (bytes_of (map (opened distinct) (lines_of (drop at bytes))))
 
 -- one line more
-pub text_on : (made next : List ℕ) (left rest : List Line) (line : Line) (whole : List ℕ)
-    → made ++ bytes_of (map opened left) ≡ whole → left ≡ line ∷ rest
-    → next ≡ made ++ line_bytes (opened line) → next ++ bytes_of (map opened rest) ≡ whole
-text_on made next left rest line whole e cut is =
-    ap (λ (bs : List ℕ). bs ++ bytes_of (map opened rest)) is
-    ∙ append_assoc made (line_bytes (opened line)) (bytes_of (map opened rest))
-    ∙ ap (λ (ls : List Line). made ++ bytes_of (map opened ls)) (sym cut)
+pub text_on : (distinct : Bool) (made next : List ℕ) (left rest : List Line) (line : Line)
+    (way : Option Naming) (whole : List ℕ)
+    → made ++ bytes_of (map (opened distinct) left) ≡ whole → left ≡ line ∷ rest
+    → way ≡ way_of distinct line → next ≡ made ++ line_bytes (opened_by way line)
+    → next ++ bytes_of (map (opened distinct) rest) ≡ whole
+text_on distinct made next left rest line way whole e cut way_is is =
+    ap (λ (bs : List ℕ). bs ++ bytes_of (map (opened distinct) rest))
+    (is ∙ ap (λ (w : Option Naming). made ++ line_bytes (opened_by w line)) way_is)
+    ∙ append_assoc made (line_bytes (opened distinct line)) (bytes_of (map (opened distinct) rest))
+    ∙ ap (λ (ls : List Line). made ++ bytes_of (map (opened distinct) ls)) (sym cut)
     ∙ e
 
 -- no line is left
-pub text_done : (bytes made : List ℕ) (at : ℕ) (left : List Line) → at ≤ length bytes
-    → made ++ bytes_of (map opened left) ≡ take at bytes ++ opened_from bytes at → left ≡ []
-    → lines_of (drop at made) ≡ unknown_line ∷ map opened (lines_of (drop at bytes))
-text_done bytes made at left within e none =
+pub text_done : (distinct : Bool) (bytes made : List ℕ) (at : ℕ) (left : List Line)
+    → at ≤ length bytes
+    → made ++ bytes_of (map (opened distinct) left) ≡ take at bytes
+    ++ opened_from distinct bytes at → left ≡ []
+    → lines_of (drop at made) ≡ unknown_line ∷ map (opened distinct) (lines_of (drop at bytes))
+text_done distinct bytes made at left within e none =
     let front : length (take at bytes) ≡ at = length-take-le at bytes within in
-    let lines : List Line = map opened (lines_of (drop at bytes)) in
+    let lines : List Line = map (opened distinct) (lines_of (drop at bytes)) in
     ap (λ (bs : List ℕ). lines_of (drop at bs))
     (sym (append-nil made)
-    ∙ ap (λ (ls : List Line). made ++ bytes_of (map opened ls)) (sym none) ∙ e)
-    ∙ ap (λ (n : ℕ). lines_of (drop n (take at bytes ++ opened_from bytes at))) (sym front)
-    ∙ ap lines_of (drop-append_seam (take at bytes) (opened_from bytes at))
+    ∙ ap (λ (ls : List Line). made ++ bytes_of (map (opened distinct) ls)) (sym none) ∙ e)
+    ∙ ap (λ (n : ℕ). lines_of (drop n (take at bytes ++ opened_from distinct bytes at))) (sym front)
+    ∙ ap lines_of (drop-append_seam (take at bytes) (opened_from distinct bytes at))
     ∙ front_line (word_text Unknown) lines refl
-    (opened_again (slice_split is_feed (drop at bytes)) (pieces_clear (drop at bytes)))
+    (opened_again distinct (slice_split is_feed (drop at bytes)) (pieces_clear (drop at bytes)))

@@ -1,7 +1,8 @@
 -- The lines of a tree and a tail consist of tokens, and have a form with a place for the mark of
 -- each open leaf. With the marks in these places they are the lines of the ranked tree.
-use Rattle.std.proofs.Common.{◌≡◌, ◌+◌, ℕ, ℤ, List, [], ◌∷◌, ◌++◌, map, length, Option, Some, None}
-use Rattle.std.proofs.Common.{Ok, refl, sym, ap, ◌∙◌, subst, append_assoc, append-nil, zero-add}
+use Rattle.std.proofs.Common.{◌≡◌, ◌+◌, ℕ, ℤ, Bool, List, [], ◌∷◌, ◌++◌, map, length, Option, Some}
+use Rattle.std.proofs.Common.{None, Ok, refl, sym, ap, ◌∙◌, subst, append_assoc, append-nil}
+use Rattle.std.proofs.Common.{zero-add}
 use Rattle.problem_rules.specs.Each.{Each}
 use Rattle.problem_rules.specs.Problem.{Problem}
 use Rattle.problem_rules.specs.WellFormed.{IsWellFormed}
@@ -87,16 +88,16 @@ module _ (p : Problem) where
 
   steps_shut : (ss : List nodes.Step) → Each IsShut (map (plain.step_line p) ss)
   steps_shut [] = tt
-  steps_shut (nodes.raw u ∷ ss) = ((refl, refl), steps_shut ss)
-  steps_shut (nodes.rival u ∷ ss) = ((refl, refl), steps_shut ss)
-  steps_shut (nodes.starve x ∷ ss) = ((refl, refl), steps_shut ss)
-  steps_shut (nodes.loose us ∷ ss) = ((refl, refl), steps_shut ss)
-  steps_shut (nodes.sole x u ∷ ss) = ((refl, refl), steps_shut ss)
+  steps_shut (nodes.raw u ∷ ss) = ((refl, (refl, refl)), steps_shut ss)
+  steps_shut (nodes.rival u ∷ ss) = ((refl, (refl, refl)), steps_shut ss)
+  steps_shut (nodes.starve x ∷ ss) = ((refl, (refl, refl)), steps_shut ss)
+  steps_shut (nodes.loose us ∷ ss) = ((refl, (refl, refl)), steps_shut ss)
+  steps_shut (nodes.sole x u ∷ ss) = ((refl, (refl, refl)), steps_shut ss)
 
   set_shut : (weight : ℤ) (b : Option ℕ) (us : List ℕ)
       → IsShut (plain.set_line p weight b us)
-  set_shut weight None us = (refl, refl)
-  set_shut weight (Some u) us = (refl, refl)
+  set_shut weight None us = (refl, (refl, refl))
+  set_shut weight (Some u) us = (refl, (refl, refl))
 
   sets_shut : (cs : List Cover) → Each IsShut (map (plain.cover_line p) cs)
   sets_shut [] = tt
@@ -116,7 +117,7 @@ module _ (p : Problem) where
 
   low_shut : (l : leaves.Scaled)
       → IsLow (plain.end_line p (trees.leaf (leaves.untried (Some l))))
-  low_shut l = record { opens = refl; not_named = refl; more = λ e. absurd cc }
+  low_shut l = record { opens = refl; not_named = (refl, refl); more = λ e. absurd cc }
 
   -- the lines of an end, if the first mark is that of an open leaf
   abbrev end_form : trees.End leaves.Leaf → Form → Form
@@ -154,7 +155,7 @@ module _ (p : Problem) where
         (λ (n : ℕ). Spells ms (map still lines ++ form) (lines ++ ranked) (lines ++ rest)
         n)
         (sym (zero-add count))
-        (shut_lines lines ((refl, refl), sets_shut h.covers) s)
+        (shut_lines lines ((refl, (refl, refl)), sets_shut h.covers) s)
 
     open_end : Spells (other_marks ms) form ranked rest count
         → Spells ms (place ∷ form)
@@ -191,20 +192,20 @@ module _ (p : Problem) where
         → Spells ms (end_form e form) (end_with_sets p (marked_end ms e) ++ ranked)
         (plain.end_with_sets p e ++ rest) (opens_at e + count)
     end_spells (trees.leaf (leaves.dead x)) s =
-        shut_end (plain.end_line p (trees.leaf (leaves.dead x))) (refl, refl) s
+        shut_end (plain.end_line p (trees.leaf (leaves.dead x))) (refl, (refl, refl)) s
     end_spells (trees.leaf (leaves.clash k)) s =
-        shut_end (plain.end_line p (trees.leaf (leaves.clash k))) (refl, refl) s
+        shut_end (plain.end_line p (trees.leaf (leaves.clash k))) (refl, (refl, refl)) s
     end_spells (trees.leaf (leaves.refuted ys)) s =
-        shut_end (plain.end_line p (trees.leaf (leaves.refuted ys))) (refl, refl) s
+        shut_end (plain.end_line p (trees.leaf (leaves.refuted ys))) (refl, (refl, refl)) s
     end_spells (trees.leaf (leaves.bounded d ys)) s =
-        shut_end (plain.end_line p (trees.leaf (leaves.bounded d ys))) (refl, refl) s
+        shut_end (plain.end_line p (trees.leaf (leaves.bounded d ys))) (refl, (refl, refl)) s
     end_spells (trees.leaf (leaves.charged h)) s = shut_charge h s
     end_spells (trees.leaf (leaves.untried None)) s = open_end s
     end_spells (trees.leaf (leaves.untried (Some l))) s = low_end l s
     end_spells (trees.branch (ways.at_material x c)) s =
-        shut_end (plain.end_line p (trees.branch (ways.at_material x c))) (refl, refl) s
+        shut_end (plain.end_line p (trees.branch (ways.at_material x c))) (refl, (refl, refl)) s
     end_spells (trees.branch (ways.either u)) s =
-        shut_end (plain.end_line p (trees.branch (ways.either u))) (refl, refl) s
+        shut_end (plain.end_line p (trees.branch (ways.either u))) (refl, (refl, refl)) s
 
   module _ (ms : List Mark) (form : Form) where
     -- an end with a bound names no network exactly if its form is open
@@ -257,7 +258,7 @@ module _ (p : Problem) where
   tree_spells (t ∷ ts) ms form rest spells =
       let head : List (List Token) = plain.head_lines p t.option t.steps in
       let s =
-      shut_lines head ((refl, refl), steps_shut t.steps)
+      shut_lines head ((refl, (refl, refl)), steps_shut t.steps)
       (end_spells ms t.end (tree_spells ts (marks_behind ms t.end) form rest spells)) in
       spelled_as
       (apart head (end_with_sets p (marked_end ms t.end))
@@ -288,10 +289,12 @@ module _ (p : Problem) where
   -- ---- the lines of a tree and a tail
 
   tail_shut : (tail : tails.Tail) → Each IsShut (plain.tail_lines p tail)
-  tail_shut tails.whole = ((refl, refl), tt)
-  tail_shut (tails.spent next options) = ((refl, refl), ((refl, refl), tt))
-  tail_shut (tails.past node nonbasic at_place) =
-      ((refl, refl), ((refl, refl), ((refl, refl), ((refl, refl), tt))))
+  tail_shut tails.whole = ((refl, (refl, refl)), tt)
+  tail_shut (tails.spent next options) = ((refl, (refl, refl)), ((refl, (refl, refl)), tt))
+  tail_shut (tails.past node nonbasic at_place) = (
+    (refl, (refl, refl)),
+    ((refl, (refl, refl)), ((refl, (refl, refl)), ((refl, (refl, refl)), tt))),
+  )
 
   tail_spells : (tail : tails.Tail) (ms : List Mark)
       → Spells ms (map still (plain.tail_lines p tail) ++ []) (plain.tail_lines p tail)
@@ -318,7 +321,7 @@ module _ (p : Problem) where
       (plain.tail_lines p tail)
       (tail_spells tail)
 
-  module _ (ts : Tree) (tail : tails.Tail) (ms : List Mark)
+  module _ (distinct : Bool) (ts : Tree) (tail : tails.Tail) (ms : List Mark)
       (each : Each (Each IsToken) (lines_of_both ts tail)) where
     tokens : Each (Each IsToken) (filled [] (form_of ts tail))
     tokens =
@@ -326,30 +329,30 @@ module _ (p : Problem) where
         (sym (spelled ts tail ms).plain_is) each
 
     -- the lines of the ranked tree give these lines and the marks
-    pub both_given : Each FitsMark ms → length ms ≡ opens ts → AreBare ms ts
-        → Gives ms (tree_lines p (marked ms ts) ++ plain.tail_lines p tail)
+    pub both_given : Each (FitsMark distinct) ms → length ms ≡ opens ts → AreBare ms ts
+        → Gives distinct ms (tree_lines p (marked ms ts) ++ plain.tail_lines p tail)
         (lines_of_both ts tail)
     both_given fits count bare =
         let s = spelled ts tail ms in
         let opened =
         tree_open ts ms (map still (plain.tail_lines p tail) ++ [])
         (λ ns. open_still ns (plain.tail_lines p tail) [] tt) bare in
-        subst (λ (ls : List (List Token)). Gives ms ls (lines_of_both ts tail))
+        subst (λ (ls : List (List Token)). Gives distinct ms ls (lines_of_both ts tail))
         (s.filled_is opened)
-        (subst (λ (ls : List (List Token)). Gives ms (filled ms (form_of ts tail)) ls)
+        (subst (λ (ls : List (List Token)). Gives distinct ms (filled ms (form_of ts tail)) ls)
         s.plain_is
-        (gives (form_of ts tail) ms s.shut tokens fits (count ∙ sym s.places_are) opened))
+        (gives distinct (form_of ts tail) ms s.shut tokens fits (count ∙ sym s.places_are) opened))
 
     -- and no others do
     pub both_come : (lines : List Line) (number : ℕ)
-        → map opened lines ≡ lines_said (lines_of_both ts tail)
-        → marks_taken number lines ≡ Ok ms
+        → map (opened distinct) lines ≡ lines_said (lines_of_both ts tail)
+        → marks_taken distinct number lines ≡ Ok ms
         → (lines ≡ lines_said (tree_lines p (marked ms ts) ++ plain.tail_lines p tail))
-        × Each FitsMark ms × (length ms ≡ opens ts) × AreBare ms ts
+        × Each (FitsMark distinct) ms × (length ms ≡ opens ts) × AreBare ms ts
     both_come lines number are read =
         let s = spelled ts tail ms in
         let c =
-        comes (form_of ts tail) lines s.shut tokens (are ∙ ap lines_said (sym s.plain_is))
+        comes distinct (form_of ts tail) lines s.shut tokens (are ∙ ap lines_said (sym s.plain_is))
         number ms read in (
           c.lines_are ∙ ap lines_said (s.filled_is c.opened),
           c.fits,

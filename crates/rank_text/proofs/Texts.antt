@@ -1,7 +1,8 @@
 -- The text of a ranking reads as the ranking, and no other text does.
 use Rattle.std.proofs.Common.{◌≡◌, ◌≤◌, ◌+◌, Bool, true, false, nat_le, ℕ, zero, suc, List, [], ◌∷◌}
 use Rattle.std.proofs.Common.{◌++◌, length, map, flat_map, decimal, Some, None, Result, Ok, Err}
-use Rattle.std.proofs.Common.{refl, sym, ap, ap₂, ◌∙◌, subst, arith, append_assoc, if◌then◌else◌}
+use Rattle.std.proofs.Common.{refl, sym, ap, ap₂, ◌∙◌, ◌&&◌, subst, arith, append_assoc}
+use Rattle.std.proofs.Common.{if◌then◌else◌}
 use Rattle.std.specs.Str.{bytes_eq}
 use Rattle.std.proofs.lemmas.Bool.{leb-true, le-leb}
 use Rattle.std.proofs.lemmas.List.{map-append}
@@ -15,7 +16,7 @@ use Rattle.tree_rules.specs.Accepted.{Tree}
 use Rattle.tree_rules.specs.Tail.{Tail}
 use Rattle.tree_text_rules.specs.Line.{Token, Line, lines_of, tokens_of}
 use Rattle.tree_text_rules.specs.LineRead.{one}
-use Rattle.tree_text_rules.specs.Read.{Fault, Taken, first_line, then_read, network_taken}
+use Rattle.tree_text_rules.specs.Read.{Fault, Taken, then_read, network_taken}
 use Rattle.tree_text_rules.specs.Read.{tree_taken, tail_taken}
 use Rattle.tree_text_rules.specs.Spelling as plain
 use Rattle.tree_text_rules.specs.Token.{judged, count_of}
@@ -33,23 +34,30 @@ use Rattle.tree_text_laws.specs.Lines.{lines_said, TakesJust, TakesBefore, Reads
 use Rattle.tree_text_laws.proofs.Tails.{tail_no_set}
 use Rattle.tree_text_laws.proofs.Parts.{good_is, on_line_ok, then_ok, first_back, first_again}
 use Rattle.rank_rules.specs.Marked.{Mark}
-use Rattle.rank_rules.specs.Text.{Text, AreNumbered, AreBare}
+use Rattle.rank_rules.specs.Text.{Text, AreNumbered, FitWays, AreBare}
 use Rattle.rank_rules.specs.Opened.{opened, marks_taken}
 use Rattle.rank_rules.specs.Read.{file_type_read, behind_word, word_read, count_read, networks_read}
 use Rattle.rank_rules.specs.Read.{with_network, networks_taken, Grown, with_tail, grown_taken}
-use Rattle.rank_rules.specs.Read.{put_together, behind_networks, rest_taken, lines_taken, read_text}
-use Rattle.rank_rules.specs.Spelling.{file_type, count_word, networks_word, grown_lines}
-use Rattle.rank_rules.specs.Spelling.{rank_text_lines, rank_text}
+use Rattle.rank_rules.specs.Read.{put_together, behind_networks, is_distinct, listed_taken}
+use Rattle.rank_rules.specs.Read.{asked_taken, rest_taken, lines_taken, read_text}
+use Rattle.rank_rules.specs.Spelling.{file_type, count_word, distinct_word, networks_word}
+use Rattle.rank_rules.specs.Spelling.{grown_lines, distinct_lines, listed_lines, rank_text_lines}
+use Rattle.rank_rules.specs.Spelling.{rank_text}
 use Rattle.rank_text.specs.Fits.{Fits, FitsMark, opens}
 use Rattle.rank_text.specs.Laws.{IsSpelled}
 use Rattle.rank_text.proofs.OpenLines.{Gives}
 use Rattle.rank_text.proofs.Shapes.{network_tokens, both_tokens, both_given, both_come}
 
--- marks that can be spelled are numbered
-pub numbered : (ms : List Mark) → Each FitsMark ms → AreNumbered ms
-numbered [] fits = tt
-numbered (None ∷ ms) fits = numbered ms fits.1
-numbered (Some n ∷ ms) fits = (fits.0.0.0, numbered ms fits.1)
+-- marks that can be spelled are numbered, and name networks in ways that the list has
+pub numbered : (distinct : Bool) (ms : List Mark) → Each (FitsMark distinct) ms → AreNumbered ms
+numbered distinct [] fits = tt
+numbered distinct (None ∷ ms) fits = numbered distinct ms fits.1
+numbered distinct (Some n ∷ ms) fits = (fits.0.1.0, numbered distinct ms fits.1)
+
+pub ways : (distinct : Bool) (ms : List Mark) → Each (FitsMark distinct) ms → FitWays distinct ms
+ways distinct [] fits = tt
+ways distinct (None ∷ ms) fits = ways distinct ms fits.1
+ways distinct (Some n ∷ ms) fits = (fits.0.0, ways distinct ms fits.1)
 
 -- ---- the counts
 
@@ -124,23 +132,38 @@ type_back line u e = at line.ended refl (bytes_eq line.text file_type) refl e
     at true ended false same f = absurd cc
     at false ended same is f = absurd cc
 
+-- ---- the line of a list of alternatives
+
+distinct_back : (line : Line) → is_distinct line ≡ true → line ≡ line_of (distinct_word ∷ [])
+distinct_back line e = at line.ended refl (bytes_eq line.text distinct_word) refl e
+  where
+    at : (ended : Bool) → line.ended ≡ ended → (same : Bool)
+        → bytes_eq line.text distinct_word ≡ same → (ended && same) ≡ true
+        → line ≡ line_of (distinct_word ∷ [])
+    at true ended true same f =
+        ap₂ (λ (t : List ℕ) (b : Bool). let l : Line = record { text = t; ended = b } in l)
+        ((bytes_eq-Decides line.text distinct_word).0 same) ended
+    at true ended false same f = absurd cc
+    at false ended same is f = absurd cc
+
 -- ---- both readings
 
-together_ok : (count : ℕ) (ws : List Network) (m : Result (List Mark) Fault)
-    (g : Result Grown Fault) (t : Text) → put_together count ws m g ≡ Ok t
+together_ok : (count : ℕ) (distinct : Bool) (ws : List Network) (m : Result (List Mark) Fault)
+    (g : Result Grown Fault) (t : Text) → put_together count distinct ws m g ≡ Ok t
     → (ms : List Mark) × (grown : Grown) × (m ≡ Ok ms) × (g ≡ Ok grown)
     × (t ≡ record {
       count = count;
+      distinct = distinct;
       networks = ws;
       tree = grown.tree;
       marks = ms;
       tail =
           grown.tail;
     })
-together_ok count ws (Ok ms) (Ok grown) t e = (ms, grown, refl, refl, cc)
-together_ok count ws (Ok ms) (Err other) t e = absurd cc
-together_ok count ws (Err fault) (Ok grown) t e = absurd cc
-together_ok count ws (Err fault) (Err other) t e = absurd cc
+together_ok count distinct ws (Ok ms) (Ok grown) t e = (ms, grown, refl, refl, cc)
+together_ok count distinct ws (Ok ms) (Err other) t e = absurd cc
+together_ok count distinct ws (Err fault) (Ok grown) t e = absurd cc
+together_ok count distinct ws (Err fault) (Err other) t e = absurd cc
 
 tail_ok : (tree : Tree) (r : Result Tail Fault) (g : Grown) → with_tail tree r ≡ Ok g
     → (tail : Tail) × (r ≡ Ok tail) × (g ≡ record { tree = tree; tail = tail })
@@ -193,9 +216,11 @@ module _ (p : Problem) (formed : IsWellFormed p)
       )
 
   -- the lines after the networks
-  pub record Behind (count : ℕ) (ws : List Network) (lines : List Line) (t : Text) : Type 0 where
+  pub record Behind (count : ℕ) (distinct : Bool) (ws : List Network) (lines : List Line)
+      (t : Text) : Type 0 where
     pub is : t ≡ record {
       count = count;
+      distinct = distinct;
       networks = ws;
       tree = t.tree;
       marks = t.marks;
@@ -204,24 +229,25 @@ module _ (p : Problem) (formed : IsWellFormed p)
     }
     pub lines_are : lines ≡ lines_said (grown_lines p t)
     pub tree : FitsTree p t.tree
-    pub marks : Each FitsMark t.marks
+    pub marks : Each (FitsMark distinct) t.marks
     pub marked : length t.marks ≡ opens t.tree
     pub bare : AreBare t.marks t.tree
     pub tail : FitsTail p t.tail
 
-  pub behind_back : (count : ℕ) (ws : List Network) (number : ℕ) (lines : List Line) (t : Text)
-      → behind_networks p count ws number lines ≡ Ok t → Behind count ws lines t
-  behind_back count ws number lines t e =
+  pub behind_back : (count : ℕ) (distinct : Bool) (ws : List Network) (number : ℕ)
+      (lines : List Line) (t : Text) → behind_networks p count distinct ws number lines ≡ Ok t
+      → Behind count distinct ws lines t
+  behind_back count distinct ws number lines t e =
       let both =
-      together_ok count ws (marks_taken number lines) (grown_taken p number (map opened lines))
-      t e in
+      together_ok count distinct ws (marks_taken distinct number lines)
+      (grown_taken p number (map (opened distinct) lines)) t e in
       let ms = both.0 in
       let g = both.1 in
-      let grown = grown_back number (map opened lines) g both.3 in
+      let grown = grown_back number (map (opened distinct) lines) g both.3 in
       let come =
-      both_come p g.tree g.tail ms (both_tokens p formed g.tree g.tail grown.1 grown.2) lines
-      number grown.0 both.2 in
-      subst (λ (t : Text). Behind count ws lines t) (sym both.4)
+      both_come p distinct g.tree g.tail ms (both_tokens p formed g.tree g.tail grown.1 grown.2)
+      lines number grown.0 both.2 in
+      subst (λ (t : Text). Behind count distinct ws lines t) (sym both.4)
       record {
         is = refl;
         lines_are = come.0;
@@ -297,59 +323,90 @@ module _ (p : Problem) (formed : IsWellFormed p)
 
     -- ---- the lines after the first one, and how they are read
 
+    abbrev asked_lines : Text → List (List Token)
+    asked_lines t = distinct_lines t.distinct ++ listed_lines p t
+
     abbrev counted_lines : Text → List (List Token)
-    counted_lines t = (count_word ∷ decimal t.count ∷ [])
-        ∷ (networks_word ∷ decimal (length t.networks) ∷ [])
-        ∷ (list_lines t.networks ++ grown_lines p t)
+    counted_lines t = (count_word ∷ decimal t.count ∷ []) ∷ asked_lines t
 
-    abbrev list_then_rest : ℕ → ℕ → List Line → Result Text Fault
-    list_then_rest count k lines = then_read (networks_taken p k 4 lines) (behind_networks p count)
+    abbrev list_then_rest : ℕ → Bool → ℕ → ℕ → List Line → Result Text Fault
+    list_then_rest count distinct number k lines =
+        then_read (networks_taken p k (suc number) lines) (behind_networks p count distinct)
 
-    abbrev networks_then : ℕ → List Line → Result Text Fault
-    networks_then count lines = first_line (networks_read count) 3 lines (list_then_rest count)
+    abbrev asked_then : ℕ → List Line → Result Text Fault
+    asked_then count lines = asked_taken p count 3 lines
 
     module _ (t : Text) (fits : Fits p t) where
-      all_given : Gives t.marks (grown_lines p t) (plain_grown t.tree t.tail)
+      all_given : Gives t.distinct t.marks (grown_lines p t) (plain_grown t.tree t.tail)
       all_given =
-          both_given p t.tree t.tail t.marks
+          both_given p t.distinct t.tree t.tail t.marks
           (both_tokens p formed t.tree t.tail fits.tree fits.tail) fits.marks fits.marked fits.bare
 
       behind_again : (number : ℕ)
-          → behind_networks p t.count t.networks number (lines_said (grown_lines p t)) ≡ Ok t
+          → behind_networks p t.count t.distinct t.networks number (lines_said (grown_lines p t))
+          ≡ Ok t
       behind_again number =
           ap₂ (λ (m : Result (List Mark) Fault) (g : Result Grown Fault). put_together t.count
-          t.networks m g)
+          t.distinct t.networks m g)
           (all_given.marks_are number)
           (ap (grown_taken p number) all_given.opened_are
           ∙ grown_again t.tree t.tail number fits.tree fits.tail)
 
+      listed_tokens : Each (Each IsToken) (listed_lines p t)
+      listed_tokens = (
+        (networks_line t.count fits.count.1).tokens (length t.networks) fits.within,
+        each-append (Each IsToken) (list_lines t.networks) (grown_lines p t)
+            (list_tokens t.networks fits.networks) all_given.tokens,
+      )
+
+      distinct_tokens : (distinct : Bool)
+          → Each (Each IsToken) (distinct_lines distinct ++ listed_lines p t)
+      distinct_tokens false = listed_tokens
+      distinct_tokens true = (
+        (record { some = refl; space = refl; feed = refl }, tt),
+        listed_tokens,
+      )
+
       all_tokens : Each (Each IsToken) (rank_text_lines p t)
-      all_tokens =
-          let found =
-          each-append (Each IsToken) (list_lines t.networks) (grown_lines p t)
-          (list_tokens t.networks fits.networks) all_given.tokens in (
-            (record { some = refl; space = refl; feed = refl }, tt),
-            (
-              count_line.tokens t.count fits.count,
-              ((networks_line t.count fits.count.1).tokens (length t.networks) fits.within, found),
-            ),
-          )
+      all_tokens = (
+        (record { some = refl; space = refl; feed = refl }, tt),
+        (count_line.tokens t.count fits.count, distinct_tokens t.distinct),
+      )
+
+      listed_again : (number : ℕ)
+          → listed_taken p t.count t.distinct number (lines_said (listed_lines p t)) ≡ Ok t
+      listed_again number =
+          let found : List Line = lines_said (list_lines t.networks ++ grown_lines p t) in
+          let list =
+          list_again t.networks (suc number) (lines_said (grown_lines p t)) fits.networks in
+          first_again (networks_read t.count) (λ k. networks_word ∷ decimal k ∷ [])
+          (λ k. k ≤ t.count) (networks_line t.count fits.count.1) number (length t.networks) found
+          (list_then_rest t.count t.distinct number) fits.within
+          ∙ ap
+          (λ (r : Result (Taken (List Network)) Fault). then_read r
+          (behind_networks p t.count t.distinct))
+          (ap (networks_taken p (length t.networks) (suc number))
+          (map-append line_of (list_lines t.networks) (grown_lines p t)) ∙ list.1)
+          ∙ behind_again list.0
+
+      asked_again : (distinct : Bool) → t.distinct ≡ distinct → (number : ℕ)
+          → asked_taken p t.count number
+          (lines_said (distinct_lines distinct ++ listed_lines p t)) ≡ Ok t
+      asked_again true is number =
+          subst
+          (λ (d : Bool). listed_taken p t.count d (suc number) (lines_said (listed_lines p t))
+          ≡ Ok t)
+          is (listed_again (suc number))
+      asked_again false is number =
+          subst
+          (λ (d : Bool). listed_taken p t.count d number (lines_said (listed_lines p t)) ≡ Ok t)
+          is (listed_again number)
 
       rest_again : rest_taken p 2 (lines_said (counted_lines t)) ≡ Ok t
       rest_again =
-          let found : List Line = lines_said (list_lines t.networks ++ grown_lines p t) in
-          let list = list_again t.networks 4 (lines_said (grown_lines p t)) fits.networks in
           first_again count_read (λ n. count_word ∷ decimal n ∷ []) IsSomeCount count_line 2 t.count
-          (line_of (networks_word ∷ decimal (length t.networks) ∷ []) ∷ found) networks_then
-          fits.count
-          ∙ first_again (networks_read t.count) (λ k. networks_word ∷ decimal k ∷ [])
-          (λ k. k ≤ t.count) (networks_line t.count fits.count.1) 3 (length t.networks) found
-          (list_then_rest t.count) fits.within
-          ∙ ap
-          (λ (r : Result (Taken (List Network)) Fault). then_read r (behind_networks p t.count))
-          (ap (networks_taken p (length t.networks) 4)
-          (map-append line_of (list_lines t.networks) (grown_lines p t)) ∙ list.1)
-          ∙ behind_again list.0
+          (lines_said (asked_lines t)) asked_then fits.count
+          ∙ asked_again t.distinct refl 3
 
       pub text_read : read_text p (rank_text p t) ≡ Ok t
       text_read =
@@ -360,32 +417,34 @@ module _ (p : Problem) (formed : IsWellFormed p)
 
     -- ---- no other text does
 
-    rest_back : (lines : List Line) (t : Text) → rest_taken p 2 lines ≡ Ok t
-        → (lines ≡ lines_said (counted_lines t)) × Fits p t
-    rest_back lines t e =
-        let one =
-        first_back count_read (λ n. count_word ∷ decimal n ∷ []) IsSomeCount count_line 2 lines
-        networks_then t e in
+    listed_back : (count : ℕ) → IsSomeCount count → (distinct : Bool) (number : ℕ)
+        (lines : List Line) (t : Text) → listed_taken p count distinct number lines ≡ Ok t
+        → (t.count ≡ count) × (t.distinct ≡ distinct)
+        × (lines ≡ lines_said (listed_lines p t)) × Fits p t
+    listed_back count some distinct number lines t e =
         let two =
-        first_back (networks_read one.what) (λ k. networks_word ∷ decimal k ∷ [])
-        (λ k. k ≤ one.what) (networks_line one.what one.fits.1) 3 one.rest
-        (list_then_rest one.what) t one.reads in
+        first_back (networks_read count) (λ k. networks_word ∷ decimal k ∷ [])
+        (λ k. k ≤ count) (networks_line count some.1) number lines
+        (list_then_rest count distinct number) t e in
         let three =
-        then_ok (networks_taken p two.what 4 two.rest) (behind_networks p one.what) t
-        two.reads in
-        let list = list_back two.what 4 two.rest three.0 three.1 in
+        then_ok (networks_taken p two.what (suc number) two.rest)
+        (behind_networks p count distinct) t two.reads in
+        let list = list_back two.what (suc number) two.rest three.0 three.1 in
         let ws = three.0.what in
-        let back = behind_back one.what ws three.0.number three.0.behind t three.2 in
-        let few : length ws ≤ one.what = subst (λ (k : ℕ). k ≤ one.what) (sym list.2) two.fits in
-        subst (λ (t : Text). (lines ≡ lines_said (counted_lines t)) × Fits p t) (sym back.is) (
-          one.lines_are ∙ ap (λ (ls : List Line). line_of (count_word ∷ decimal one.what ∷ []) ∷ ls)
-              (two.lines_are
+        let back = behind_back count distinct ws three.0.number three.0.behind t three.2 in
+        let few : length ws ≤ count = subst (λ (k : ℕ). k ≤ count) (sym list.2) two.fits in
+        subst
+        (λ (t : Text). (t.count ≡ count) × (t.distinct ≡ distinct)
+        × (lines ≡ lines_said (listed_lines p t)) × Fits p t) (sym back.is) (
+          refl,
+          refl,
+          two.lines_are
               ∙ ap₂ (λ (k : ℕ) (ls : List Line). line_of (networks_word ∷ decimal k ∷ []) ∷ ls)
               (sym list.2)
               (list.0 ∙ ap (λ (ls : List Line). lines_said (list_lines ws) ++ ls) back.lines_are
-              ∙ sym (map-append line_of (list_lines ws) (grown_lines p t)))),
+              ∙ sym (map-append line_of (list_lines ws) (grown_lines p t))),
           record {
-            count = one.fits;
+            count = some;
             within = few;
             networks = list.1;
             tree = back.tree;
@@ -395,6 +454,46 @@ module _ (p : Problem) (formed : IsWellFormed p)
             bare = back.bare;
             tail = back.tail;
           },
+        )
+
+    asked_back : (count : ℕ) → IsSomeCount count → (number : ℕ) (lines : List Line) (t : Text)
+        → asked_taken p count number lines ≡ Ok t
+        → (t.count ≡ count) × (lines ≡ lines_said (asked_lines t)) × Fits p t
+    asked_back count some number [] t e = absurd cc
+    asked_back count some number (line ∷ lines) t e = at (is_distinct line) refl e
+      where
+        at : (b : Bool) → is_distinct line ≡ b
+            → (if b then listed_taken p count true (suc number) lines
+            else listed_taken p count false number (line ∷ lines)) ≡ Ok t
+            → (t.count ≡ count) × (line ∷ lines ≡ lines_said (asked_lines t)) × Fits p t
+        at true is f =
+            let back = listed_back count some true (suc number) lines t f in (
+              back.0,
+              ap₂ (λ (l : Line) (ls : List Line). l ∷ ls) (distinct_back line is) back.2
+                  ∙ ap (λ (d : Bool). lines_said (distinct_lines d ++ listed_lines p t))
+                  (sym back.1),
+              back.3,
+            )
+        at false is f =
+            let back = listed_back count some false number (line ∷ lines) t f in (
+              back.0,
+              back.2
+                  ∙ ap (λ (d : Bool). lines_said (distinct_lines d ++ listed_lines p t))
+                  (sym back.1),
+              back.3,
+            )
+
+    rest_back : (lines : List Line) (t : Text) → rest_taken p 2 lines ≡ Ok t
+        → (lines ≡ lines_said (counted_lines t)) × Fits p t
+    rest_back lines t e =
+        let one =
+        first_back count_read (λ n. count_word ∷ decimal n ∷ []) IsSomeCount count_line 2 lines
+        asked_then t e in
+        let back = asked_back one.what one.fits 3 one.rest t one.reads in (
+          one.lines_are
+              ∙ ap₂ (λ (n : ℕ) (ls : List Line). line_of (count_word ∷ decimal n ∷ []) ∷ ls)
+              (sym back.0) back.1,
+          back.2,
         )
 
     lines_back : (lines : List Line) (t : Text) → lines_taken p lines ≡ Ok t

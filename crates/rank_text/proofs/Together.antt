@@ -1,6 +1,8 @@
 -- What is read of the parts of a text is joined.
-use Rattle.std.proofs.Common.{◌≡◌, ◌<◌, ◌≤◌, ◌-◌, ℕ, suc, List, [], ◌∷◌, ◌++◌, drop, map, Option}
-use Rattle.std.proofs.Common.{Some, None, IfSome, IfNone, Result, Ok, Err, refl, sym, ap, ap₂, ◌∙◌}
+use Rattle.std.proofs.Common.{if◌then◌else◌, true, false}
+use Rattle.std.proofs.Common.{◌≡◌, ◌<◌, ◌≤◌, ◌-◌, ℕ, suc, Bool, List, [], ◌∷◌, ◌++◌, drop, map}
+use Rattle.std.proofs.Common.{Option, Some, None, IfSome, IfNone, Result, Ok, Err, refl, sym, ap}
+use Rattle.std.proofs.Common.{ap₂, ◌∙◌}
 use Rattle.std.proofs.Common.{arith, append-nil}
 use Rattle.problem_rules.specs.Problem.{Problem}
 use Rattle.tree_rules.specs.Accepted.{Tree}
@@ -14,6 +16,7 @@ use Rattle.tree_text_rules.specs.Read as rules
 use Rattle.tree_text_rules.specs.Read.{Fault, Taken, Certificate, on_line, then_read, network_taken}
 use Rattle.tree_text_rules.specs.Read.{claim_behind, tree_taken, tail_taken}
 use Rattle.tree_text_rules.specs.declared.TreeKind.{TreeKind}
+use Rattle.tree_text_rules.specs.declared.TreeKind.TheVariants.{BadLine}
 use Rattle.text_lines.specs.Tells.{Tells}
 use Rattle.text_lines.specs.declared.fault.TextFault.{TextFault}
 use Rattle.text_lines.specs.declared.fault.TextFault.TheVariants.{At, Memory}
@@ -21,7 +24,8 @@ use Rattle.rank_rules.specs.Marked.{Mark}
 use Rattle.rank_rules.specs.Text.{Text}
 use Rattle.rank_rules.specs.Opened.{opened, unknown_line, marks_taken, so_far}
 use Rattle.rank_rules.specs.Read.{Grown, with_network, with_tail, networks_taken, grown_taken}
-use Rattle.rank_rules.specs.Read.{earlier, put_together, behind_networks}
+use Rattle.rank_rules.specs.Read.{earlier, put_together, behind_networks, is_distinct}
+use Rattle.rank_rules.specs.Read.{listed_taken, asked_taken}
 
 -- ---- networks
 
@@ -109,42 +113,51 @@ claims_nothing p number lines =
     ∙ tree_grown p (tree_taken p (suc number) lines)
 
 -- the marks of a text of open leaves, and what is read of its lines
-module _ (p : Problem) (count : ℕ) (ws : List Network) (number : ℕ) (lines : List Line)
+module _ (p : Problem) (count : ℕ) (distinct : Bool) (ws : List Network) (number : ℕ)
+    (lines : List Line)
     (ms : List Mark) (fault : Option Fault) (place : ℕ) (made text : List ℕ)
-    (marks : so_far ms fault (Ok []) ≡ marks_taken number lines)
-    (text_is : lines_of (drop place text) ≡ unknown_line ∷ map opened lines)
+    (marks : so_far ms fault (Ok []) ≡ marks_taken distinct number lines)
+    (text_is : lines_of (drop place text) ≡ unknown_line ∷ map (opened distinct) lines)
     (made_is : made ≡ text) (some : 1 ≤ number) where
   abbrev IsRead : Result Certificate Fault → Type 0
   IsRead r = rules.rest_taken p (number - 1) (lines_of (drop place made)) ≡ r
 
   grown_read : (r : Result Certificate Fault) → IsRead r
-      → grown_taken p number (map opened lines) ≡ grown_of r
+      → grown_taken p number (map (opened distinct) lines) ≡ grown_of r
   grown_read r e =
-      ap (λ (n : ℕ). grown_taken p n (map opened lines))
+      ap (λ (n : ℕ). grown_taken p n (map (opened distinct) lines))
       (let q : number ≡ suc (number - 1) = omega (arith, some) in q)
-      ∙ sym (claims_nothing p (number - 1) (map opened lines))
+      ∙ sym (claims_nothing p (number - 1) (map (opened distinct) lines))
       ∙ ap (λ (all : List Line). grown_of (rules.rest_taken p (number - 1) all))
       (sym (ap (λ (bs : List ℕ). lines_of (drop place bs)) made_is ∙ text_is))
       ∙ ap grown_of e
 
   abbrev Stands : Result Text Fault → Type 0
-  Stands r = behind_networks p count ws number lines ≡ r
+  Stands r = behind_networks p count distinct ws number lines ≡ r
 
   together : (f : Option Fault) (r : Result Certificate Fault) → fault ≡ f → IsRead r
-      → Stands (put_together count ws (so_far ms f (Ok [])) (grown_of r))
+      → Stands (put_together count distinct ws (so_far ms f (Ok [])) (grown_of r))
   together f r is e =
-      ap₂ (λ (m : Result (List Mark) Fault) (g : Result Grown Fault). put_together count ws m g)
+      ap₂ (λ (m : Result (List Mark) Fault) (g : Result Grown Fault). put_together count distinct
+      ws m g)
       (sym marks ∙ ap (λ (f : Option Fault). so_far ms f (Ok [])) is) (grown_read r e)
 
   -- without a fault of a line that names a network the marks are whole
   unmarred : (r : Result Certificate Fault) → fault ≡ None → IsRead r
-      → Stands (put_together count ws (Ok ms) (grown_of r))
+      → Stands (put_together count distinct ws (Ok ms) (grown_of r))
   unmarred r is e = together None r is e
-      ∙ ap (λ (xs : List Mark). put_together count ws (Ok xs) (grown_of r)) (append-nil ms)
+      ∙ ap (λ (xs : List Mark). put_together count distinct ws (Ok xs) (grown_of r)) (append-nil ms)
 
   pub both_ok : (c : Certificate) → fault ≡ None → IsRead (Ok c)
       → Stands
-      (Ok (record { count = count; networks = ws; tree = c.tree; marks = ms; tail = c.tail }))
+      (Ok (record {
+        count = count;
+        distinct = distinct;
+        networks = ws;
+        tree = c.tree;
+        marks = ms;
+        tail = c.tail;
+      }))
   both_ok c none e = unmarred (Ok c) none e
 
   pub named_bad : (c : Certificate) (f : Fault) → fault ≡ Some f → IsRead (Ok c) → Stands (Err f)
@@ -159,3 +172,28 @@ module _ (p : Problem) (count : ℕ) (ws : List Network) (number : ℕ) (lines :
       at None is some none = unmarred (Err other) is e ∙ ap (λ (f : Fault). Err f) (sym none)
       at (Some f) is some none = together (Some f) (Err other) is e
           ∙ ap (λ (f : Fault). Err f) (sym some)
+
+-- ---- the line of a list of alternatives, or none
+
+module _ (p : Problem) (count number : ℕ) where
+  abbrev either_listed : Line → List Line → Bool → Result Text Fault
+  either_listed line lines b =
+      if b then listed_taken p count true (suc number) lines
+      else listed_taken p count false number (line ∷ lines)
+
+  pub asked_distinct : (line : Line) (lines all : List Line) → all ≡ line ∷ lines
+      → is_distinct line ≡ true
+      → listed_taken p count true (suc number) lines ≡ asked_taken p count number all
+  asked_distinct line lines all e is =
+      sym (ap (asked_taken p count number) e ∙ ap (either_listed line lines) is)
+
+  pub asked_ranking : (line : Line) (lines all : List Line) → all ≡ line ∷ lines
+      → is_distinct line ≡ false
+      → listed_taken p count false number all ≡ asked_taken p count number all
+  asked_ranking line lines all e is =
+      ap (listed_taken p count false number) e
+      ∙ sym (ap (asked_taken p count number) e ∙ ap (either_listed line lines) is)
+
+  pub asked_none : (all : List Line) → all ≡ [] → asked_taken p count number all
+      ≡ Err (number, BadLine)
+  asked_none all e = ap (asked_taken p count number) e

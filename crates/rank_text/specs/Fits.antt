@@ -1,7 +1,7 @@
 -- What the text of a ranking can have: networks, a tree and a tail that a tree text can have, and
 -- for each open leaf of the tree one mark, with numbers in range. An open leaf with a bound names
 -- no network.
-use Rattle.std.specs.Prelude.{◌≡◌, ◌≤◌, ◌+◌, ℕ, [], ◌∷◌, length, Some, None}
+use Rattle.std.specs.Prelude.{◌≡◌, ◌≤◌, ◌+◌, ℕ, Bool, [], ◌∷◌, length, Some, None}
 use Rattle.integer_laws.specs.Range.{InRange, AllInRange}
 use Rattle.problem_rules.specs.Each.{Each}
 use Rattle.problem_rules.specs.Problem.{Problem}
@@ -11,7 +11,7 @@ use Rattle.tree_rules.specs.Accepted.{Tree}
 use Rattle.tree_text_laws.specs.LineFits.{IsSomeCount}
 use Rattle.tree_text_laws.specs.Fits.{FitsNetwork, FitsTree, FitsTail}
 use Rattle.rank_rules.specs.Marked.{Mark}
-use Rattle.rank_rules.specs.Text.{Text, AreBare}
+use Rattle.rank_rules.specs.Text.{Text, FitsWay, AreBare}
 
 -- how many open leaves there are
 abbrev pub opens_at : trees.End leaves.Leaf → ℕ
@@ -27,16 +27,17 @@ abbrev pub opens : Tree → ℕ
 opens [] = 0
 opens (t ∷ ts) = opens_at t.end + opens ts
 
-abbrev pub FitsMark : Mark → Type 0
-FitsMark None = Unit {0}
-FitsMark (Some m) = IsSomeCount m.network × InRange m.d × AllInRange m.ys
+abbrev pub FitsMark : Bool → Mark → Type 0
+FitsMark distinct None = Unit {0}
+FitsMark distinct (Some m) =
+    FitsWay distinct m.way × IsSomeCount m.network × InRange m.d × AllInRange m.ys
 
 pub record Fits (p : Problem) (t : Text) : Type 0 where
   pub count : IsSomeCount t.count
   pub within : length t.networks ≤ t.count
   pub networks : Each (FitsNetwork p) t.networks
   pub tree : FitsTree p t.tree
-  pub marks : Each FitsMark t.marks
+  pub marks : Each (FitsMark t.distinct) t.marks
   pub marked : length t.marks ≡ opens t.tree
   pub bare : AreBare t.marks t.tree
   pub tail : FitsTail p t.tail

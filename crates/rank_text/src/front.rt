@@ -1,10 +1,12 @@
 //! What a line begins with, and the first three lines.
 ghost use Rattle.std.specs.Prelude.{◌≡◌, ◌≤◌, IfOk};
 ghost use Rattle.tree_reading.specs.View.{line_of};
-ghost use Rattle.rank_rules.specs.Opened.{begins_by};
+ghost use Rattle.rank_rules.specs.Opened.{begins_by, way_of};
+ghost use Rattle.rank_rules.specs.Read.{file_type_read, word_read, count_read, is_distinct};
 ghost use Rattle.rank_rules.specs.Headed.{is_first_of_ranking};
-ghost use Rattle.rank_rules.specs.Read.{file_type_read, word_read, count_read, networks_read};
+ghost use Rattle.rank_rules.specs.Read.{networks_read};
 
+use rank_rules::Naming;
 use tree_reading::{Line, first_token, one_count, parts_of};
 use tree_text_rules::TreeKind;
 
@@ -21,6 +23,19 @@ pub fn is_first_of_ranking(line: &Line) -> bool
     ensures { result ≡ is_first_of_ranking (line_of line.now) }
 {
     line.ended && line.text == b"file_type=PNS_rank_v1".as_slice()
+}
+
+/// How the line names a network, if it does. Only a list of alternatives has lines `over`.
+pub fn way_of(distinct: bool, line: &Line) -> Option<Naming>
+    ensures { result ≡ way_of distinct (line_of line.now) }
+{
+    if begins_by(b"named", line) {
+        Some(Naming::Only)
+    } else if distinct && begins_by(b"over", line) {
+        Some(Naming::Within)
+    } else {
+        None
+    }
 }
 
 /// The first line.
@@ -64,6 +79,13 @@ pub fn count_line(line: &Line) -> Result<u32, TreeKind>
         }
         Err(kind) => Err(kind),
     }
+}
+
+/// Whether the line says that the text is a list of alternatives.
+pub fn is_distinct(line: &Line) -> bool
+    ensures { result ≡ is_distinct (line_of line.now) }
+{
+    line.ended && line.text == b"distinct".as_slice()
 }
 
 /// How many networks are there, at most the number that was asked for.

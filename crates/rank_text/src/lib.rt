@@ -2,11 +2,12 @@
 //!
 //! [`print_rank`] writes the one text of a ranked tree: the networks, best first, and the tree that
 //! proves that no other is better. [`read_rank`] gives the ranked tree that a text stands for, or
-//! its first fault. A leaf that names a network has a line of its own, `named K D Y ..`; all other
-//! lines are those of a tree text. In `rank_rules`, `Spelling` has the text, `Opened` the lines of
-//! open leaves, and `Read` what a text stands for. The text of a ranking reads back as the ranking,
-//! and what a text stands for has no other text. [`laws`] has both laws (`specs/Laws`) as contracts
-//! of functions that do nothing.
+//! its first fault. A leaf that names a network has a line of its own, `named K D Y ..`; in a list
+//! of alternatives, which has the line `distinct`, it may be `over K D Y ..`. All other lines are
+//! those of a tree text. In `rank_rules`, `Spelling` has the text, `Opened` the lines of open
+//! leaves, and `Read` what a text stands for. The text of a ranking reads back as the ranking, and
+//! what a text stands for has no other text. [`laws`] has both laws (`specs/Laws`) as contracts of
+//! functions that do nothing.
 //!
 //! Modules: `line`, lines that no tree text has; `print`; `front`, what a line begins with and the
 //! first three lines; `networks`; `mark`, the line of an open leaf; `opening`, a tree text made of

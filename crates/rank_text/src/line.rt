@@ -2,9 +2,10 @@
 ghost use Rattle.std.specs.Prelude.{◌≡◌, ◌∷◌, [], OnOk, map, decimal, string_bytes};
 ghost use Rattle.std.specs.Fmt.{signed_decimal};
 ghost use Rattle.text_rules.specs.Canonical.{joined};
-ghost use Rattle.rank_rules.specs.Spelling.{named_word};
+ghost use Rattle.rank_rules.specs.Spelling.{way_word};
 
-use branch_tree::Scaled;
+use rank_rules::Naming;
+use ranked_tree::Name;
 use std::alloc::AllocError;
 use tree_text::{begin, push_count, push_number, push_numbers};
 
@@ -16,17 +17,27 @@ pub fn count_line(line: &mut String, word: &str, count: u32) -> Result<(), Alloc
     push_count(line, count)
 }
 
+/// The first word of the end of a leaf that names a network this way.
+fn way_word(way: Naming) -> &'static str
+    ensures { result.now ≡ way_word way }
+{
+    match way {
+        Naming::Only => "named",
+        Naming::Within => "over",
+    }
+}
+
 /// The end of a leaf that names a network.
-pub fn named_line(line: &mut String, network: u32, scaled: &Scaled) -> Result<(), AllocError>
+pub fn named_line(line: &mut String, name: &Name) -> Result<(), AllocError>
     ensures { OnOk result
         (string_bytes line.new
         ≡ joined 32
-        (named_word ∷ decimal network ∷ signed_decimal scaled.now.d
-        ∷ map signed_decimal scaled.now.ys)) }
+        (way_word name.now.way ∷ decimal name.now.network ∷ signed_decimal name.now.scaled.d
+        ∷ map signed_decimal name.now.scaled.ys)) }
 {
-    begin(line, "named")?;
-    push_count(line, network)?;
-    push_number(line, scaled.d())?;
-    push_numbers(line, scaled.ys())?;
+    begin(line, way_word(name.way))?;
+    push_count(line, name.network)?;
+    push_number(line, name.scaled.d())?;
+    push_numbers(line, name.scaled.ys())?;
     Ok(())
 }

@@ -9,7 +9,8 @@ ghost use Rattle.rank_rules.specs.Opened.{mark_with, named_read};
 
 use branch_tree::{End, Scaled};
 use pns_problem::Problem;
-use ranked_tree::Mark;
+use rank_rules::Naming;
+use ranked_tree::{Mark, Name};
 use std::alloc::Global;
 use tree_reading::{
     Line, LineFault, LineParts, children_of, end_line, lesser, next_token, parts_of,
@@ -45,30 +46,40 @@ fn scaled_fields(
 fn named_fields(
     alloc: Global,
     problem: &Problem,
+    way: Naming,
     network: Result<u32, TreeKind>,
     behind: Option<&[u8]>,
 ) -> Result<Mark, LineFault>
     ensures ok { IfOk result
-        (λ m. mark_with network
+        (λ m. mark_with way network
         (one_and_more rules.number_of rules.number_of (tokens_in behind.entry)) ≡ Ok (mark_of m)) }
     ensures fault { IfErr result
         (TellsLine
-        (mark_with network
+        (mark_with way network
         (one_and_more rules.number_of rules.number_of (tokens_in behind.entry)))) }
 {
     match (network, scaled_fields(alloc, problem, behind)) {
         (_, Err(LineFault::Memory)) => Err(LineFault::Memory),
-        (Ok(network), Ok(scaled)) => Ok(Mark::Named { network, scaled }),
+        (Ok(network), Ok(scaled)) => Ok(Mark::Named(Name {
+            way,
+            network,
+            scaled,
+        })),
         (Ok(_), Err(LineFault::Kind(kind))) => Err(LineFault::Kind(kind)),
         (Err(kind), Ok(_)) => Err(LineFault::Kind(kind)),
         (Err(kind), Err(LineFault::Kind(other))) => Err(LineFault::Kind(lesser(kind, other))),
     }
 }
 
-/// What a line that begins with the word `named` says of its leaf.
-pub fn named_line(alloc: Global, problem: &Problem, line: &Line) -> Result<Mark, LineFault>
-    ensures ok { IfOk result (λ m. named_read (line_of line.now) ≡ Ok (mark_of m)) }
-    ensures fault { IfErr result (TellsLine (named_read (line_of line.now))) }
+/// What a line that names a network this way says of its leaf.
+pub fn named_line(
+    alloc: Global,
+    problem: &Problem,
+    way: Naming,
+    line: &Line,
+) -> Result<Mark, LineFault>
+    ensures ok { IfOk result (λ m. named_read way (line_of line.now) ≡ Ok (mark_of m)) }
+    ensures fault { IfErr result (TellsLine (named_read way (line_of line.now))) }
 {
     let parts = parts_of(line);
     if !parts.formed {
@@ -77,5 +88,5 @@ pub fn named_line(alloc: Global, problem: &Problem, line: &Line) -> Result<Mark,
     let Some((token, behind)) = next_token(parts.fields) else {
         return Err(LineFault::Kind(TreeKind::BadLine));
     };
-    named_fields(alloc, problem, children_of(token), behind)
+    named_fields(alloc, problem, way, children_of(token), behind)
 }

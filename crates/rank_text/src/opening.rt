@@ -6,15 +6,16 @@ ghost use Rattle.std.specs.Prelude.{map};
 ghost use Rattle.tree_reading.specs.View.{line_of};
 ghost use Rattle.tree_reading.specs.Place.{IsCut, lines_at};
 ghost use Rattle.ranked_tree.specs.View.{mark_of};
-ghost use Rattle.rank_rules.specs.Opened.{begins_by, opened, unknown_line, line_bytes};
-ghost use Rattle.rank_rules.specs.Opened.{marks_taken};
-ghost use Rattle.rank_rules.specs.Opened.{so_far};
-ghost use Rattle.rank_rules.specs.Spelling.{named_word};
+ghost use Rattle.tree_text_rules.specs.Line.{word_text};
+ghost use Rattle.tree_text_rules.specs.declared.Word.TheVariants.{Open};
+ghost use Rattle.rank_rules.specs.Opened.{begins_by, opened_by, opened, unknown_line, line_bytes};
+ghost use Rattle.rank_rules.specs.Opened.{mark_read_by, marks_taken, so_far};
 ghost use Rattle.rank_text.specs.Takes.{TakesMark};
 
-use crate::front::begins_by;
+use crate::front::{begins_by, way_of};
 use crate::mark::named_line;
 use pns_problem::Problem;
+use rank_rules::Naming;
 use ranked_tree::Mark;
 use std::alloc::{AllocError, Global};
 use tree_reading::{Cut, Line, LineFault, line_at};
@@ -33,15 +34,13 @@ pub struct OpenText {
 }
 
 // Appends the bytes of the line, or those of `open` in its place.
-fn push_opened(bytes: &mut Vec<u8>, line: &Line, is_named: bool) -> Result<(), AllocError>
-    requires { is_named ≡ begins_by named_word (line_of line.now) }
+fn push_opened(bytes: &mut Vec<u8>, line: &Line, way: Option<Naming>) -> Result<(), AllocError>
     ensures { OnOk result
-        (bytes.new.items ≡ bytes.old.items ++ line_bytes (opened (line_of line.now))) }
+        (bytes.new.items ≡ bytes.old.items ++ line_bytes (opened_by way (line_of line.now))) }
 {
-    if is_named {
-        bytes.extend_from_slice(b"open")?;
-    } else {
-        bytes.extend_from_slice(line.text)?;
+    match way {
+        Some(_) => bytes.extend_from_slice(b"open")?,
+        None => bytes.extend_from_slice(line.text)?,
     }
     if line.ended {
         bytes.push(b'\n')?;
@@ -58,16 +57,16 @@ fn take_mark(
     fault: Option<(u32, TreeKind)>,
     number: u32,
     line: &Line,
-    is_named: bool,
+    way: Option<Naming>,
 ) -> Result<Option<(u32, TreeKind)>, AllocError>
-    requires { is_named ≡ begins_by named_word (line_of line.now) }
     ensures { IfOk result
-        (TakesMark (map mark_of marks.old.items) fault number (line_of line.now)
+        (TakesMark (map mark_of marks.old.items) fault number
+        (mark_read_by way (begins_by (word_text Open) (line_of line.now)) (line_of line.now))
         (map mark_of marks.new.items)) }
 {
-    match fault {
-        Some(found) => Ok(Some(found)),
-        None if is_named => match named_line(alloc, problem, line) {
+    match (fault, way) {
+        (Some(found), _) => Ok(Some(found)),
+        (None, Some(way)) => match named_line(alloc, problem, way, line) {
             Ok(mark) => {
                 marks.push(mark)?;
                 Ok(None)
@@ -75,7 +74,7 @@ fn take_mark(
             Err(LineFault::Kind(kind)) => Ok(Some((number, kind))),
             Err(LineFault::Memory) => Err(AllocError),
         },
-        None => {
+        (None, None) => {
             if begins_by(b"open", line) {
                 marks.push(Mark::Open)?;
             }
@@ -85,12 +84,14 @@ fn take_mark(
 }
 
 /// All bytes before the place, the line `unknown`, and the lines from the place on as those of a
-/// tree text, with the marks of open leaves. The only error is that there is no memory; it is also
+/// tree text, with the marks of open leaves. A list of alternatives, which is distinct, has lines
+/// `over`. The only error is that there is no memory; it is also
 /// given for a text of 2^32 - 1 bytes or more. The time is linear in the bytes.
 #[tactic(auto, using(crate::proofs::OpenBytes::text_begun, crate::proofs::OpenBytes::text_on, crate::proofs::OpenBytes::text_done))]
 pub fn open_lines(
     alloc: Global,
     problem: &Problem,
+    distinct: bool,
     bytes: &[u8],
     cut: Cut,
 ) -> Result<OpenText, AllocError>
@@ -98,12 +99,12 @@ pub fn open_lines(
     requires few { length bytes.now < 2 ^ 32 - 1 }
     ensures lines { IfOk result
         (λ t. lines_at t.bytes.items cut ≡ unknown_line
-        ∷ map opened (lines_at bytes.now cut)) }
+        ∷ map (opened distinct) (lines_at bytes.now cut)) }
     ensures some { IfOk result (λ t. cut.at ≤ length t.bytes.items) }
     ensures few { IfOk result (λ t. length t.bytes.items < 2 ^ 32 - 1) }
     ensures marks { IfOk result
         (λ t. so_far (map mark_of t.marks.items) t.fault (Ok [])
-        ≡ marks_taken cut.line (lines_at bytes.now cut)) }
+        ≡ marks_taken distinct cut.line (lines_at bytes.now cut)) }
 {
     let mut opened = bytes[..cut.at].to_vec(alloc)?;
     opened.extend_from_slice(b"unknown\n")?;
@@ -111,9 +112,9 @@ pub fn open_lines(
     let mut fault = None;
     let mut at = cut;
     'opening: while let Some((line, behind)) = line_at(bytes, at) {
-        let is_named = begins_by(b"named", &line);
-        push_opened(&mut opened, &line, is_named)?;
-        fault = take_mark(alloc, problem, &mut marks, fault, at.line, &line, is_named)?;
+        let way = way_of(distinct, &line);
+        push_opened(&mut opened, &line, way)?;
+        fault = take_mark(alloc, problem, &mut marks, fault, at.line, &line, way)?;
         at = behind;
     }
     if opened.len() >= TOO_MANY_BYTES {

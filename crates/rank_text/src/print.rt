@@ -1,5 +1,5 @@
 //! The text of a ranking, line by line.
-ghost use Rattle.std.specs.Prelude.{◌≡◌, ◌≤◌, ◌++◌, ◌∷◌, [], length, map, flat_map, decimal};
+ghost use Rattle.std.specs.Prelude.{◌≡◌, ◌≤◌, ◌++◌, ◌∷◌, [], map, flat_map, decimal};
 ghost use Rattle.problem_rules.specs.Each.{Each};
 ghost use Rattle.tree_rules.specs.Known.{KnowsEnd, KnowsNode, KnowsTree};
 ghost use Rattle.branch_tree.specs.View.{end_of};
@@ -9,14 +9,15 @@ ghost use Rattle.rank_rules.specs.Marked.{marked, marked_node, marked_end, marks
 ghost use Rattle.ranked_tree.specs.View.{mark_of};
 ghost use Rattle.ranked_tree.specs.Known.{KnowsNetwork};
 ghost use Rattle.rank_text.specs.Known.{KnowsText};
-ghost use Rattle.rank_rules.specs.Spelling.{count_word, networks_word, file_type, named_line};
-ghost use Rattle.rank_rules.specs.Spelling.{end_with_sets, node_lines, tree_lines, rank_text_lines};
+ghost use Rattle.rank_rules.specs.Spelling.{count_word, file_type, named_line, end_with_sets};
+ghost use Rattle.rank_rules.specs.Spelling.{node_lines, tree_lines, distinct_lines, listed_lines};
+ghost use Rattle.rank_rules.specs.Spelling.{rank_text_lines};
 
 use crate::line::{count_line, named_line};
-use branch_tree::{End, Network, Scaled, TreeNode};
+use branch_tree::{End, Network, TreeNode};
 use pns_io::Sink;
 use pns_problem::Problem;
-use ranked_tree::{Mark, RankText};
+use ranked_tree::{Mark, Name, RankText};
 use std::alloc::Global;
 use tree_text::{PrintFault, begin, print_end, print_head, print_network, print_tail, put_line};
 
@@ -30,20 +31,30 @@ fn put_count<K: Sink>(alloc: Global, word: &str, count: u32, out: &mut K) -> Res
     put_line(out, &mut line, made)
 }
 
-// The first three lines.
+// The first two lines.
 fn put_front<K: Sink>(alloc: Global, text: &RankText, out: &mut K) -> Result<(), PrintFault>
     ensures prints { Prints
-        ((file_type ∷ []) ∷ (count_word ∷ decimal text.now.count ∷ [])
-        ∷ (networks_word ∷ decimal (length text.now.networks) ∷ []) ∷ []) (K.state out.old)
+        ((file_type ∷ []) ∷ (count_word ∷ decimal text.now.count ∷ []) ∷ []) (K.state out.old)
         (K.state out.new) result }
     ensures later { (K.state out.old).faults ≤ (K.state out.new).faults }
 {
-    text.is_counted();
     let mut line = String::new(alloc);
     let made = begin(&mut line, "file_type=PNS_rank_v1");
     put_line(out, &mut line, made)?;
-    put_count(alloc, "count", text.count(), out)?;
-    put_count(alloc, "networks", text.networks().len() as u32, out)
+    put_count(alloc, "count", text.count(), out)
+}
+
+// The line of a list of alternatives.
+fn put_distinct<K: Sink>(alloc: Global, distinct: bool, out: &mut K) -> Result<(), PrintFault>
+    ensures prints { Prints (distinct_lines distinct) (K.state out.old) (K.state out.new) result }
+    ensures later { (K.state out.old).faults ≤ (K.state out.new).faults }
+{
+    if !distinct {
+        return Ok(());
+    }
+    let mut line = String::new(alloc);
+    let made = begin(&mut line, "distinct");
+    put_line(out, &mut line, made)
 }
 
 fn put_networks<K: Sink>(
@@ -64,18 +75,14 @@ fn put_networks<K: Sink>(
 }
 
 // The line of a leaf that names a network.
-fn put_named<K: Sink>(
-    alloc: Global,
-    network: u32,
-    scaled: &Scaled,
-    out: &mut K,
-) -> Result<(), PrintFault>
-    ensures prints { Prints (named_line network scaled.now.d scaled.now.ys ∷ []) (K.state out.old)
-        (K.state out.new) result }
+fn put_named<K: Sink>(alloc: Global, name: &Name, out: &mut K) -> Result<(), PrintFault>
+    ensures prints { Prints
+        (named_line name.now.way name.now.network name.now.scaled.d name.now.scaled.ys ∷ [])
+        (K.state out.old) (K.state out.new) result }
     ensures later { (K.state out.old).faults ≤ (K.state out.new).faults }
 {
     let mut line = String::new(alloc);
-    let made = named_line(&mut line, network, scaled);
+    let made = named_line(&mut line, name);
     put_line(out, &mut line, made)
 }
 
@@ -96,7 +103,7 @@ fn put_end<K: Sink>(
 {
     match end {
         End::Open(_) => match marks {
-            [Mark::Named { network, scaled }, ..] => put_named(alloc, *network, scaled, out),
+            [Mark::Named(name), ..] => put_named(alloc, name, out),
             [Mark::Open, ..] | [] => print_end(alloc, problem, end, out),
         },
         _ => print_end(alloc, problem, end, out),
@@ -152,6 +159,25 @@ fn put_nodes<K: Sink>(
     Ok(())
 }
 
+// All lines from the number of networks on.
+fn put_listed<K: Sink>(
+    alloc: Global,
+    problem: &Problem,
+    text: &RankText,
+    out: &mut K,
+) -> Result<(), PrintFault>
+    requires known { KnowsText problem.now text.now }
+    ensures prints { Prints (listed_lines problem.now text.now) (K.state out.old) (K.state out.new)
+        result }
+    ensures later { (K.state out.old).faults ≤ (K.state out.new).faults }
+{
+    text.is_counted();
+    put_count(alloc, "networks", text.networks().len() as u32, out)?;
+    put_networks(alloc, problem, text.networks(), out)?;
+    put_nodes(alloc, problem, text.tree().nodes(), text.marks(), out)?;
+    print_tail(alloc, problem, text.tail(), out)
+}
+
 /// Prints a ranked tree, whole: its one text. `WriteFault` comes only if the sink's count of faults
 /// rose; a front of the text is then printed. If there is no memory, first lines of it are printed,
 /// each whole.
@@ -167,7 +193,6 @@ pub fn print_rank<K: Sink>(
     ensures later { (K.state out.old).faults ≤ (K.state out.new).faults }
 {
     put_front(alloc, text, out)?;
-    put_networks(alloc, problem, text.networks(), out)?;
-    put_nodes(alloc, problem, text.tree().nodes(), text.marks(), out)?;
-    print_tail(alloc, problem, text.tail(), out)
+    put_distinct(alloc, text.is_distinct(), out)?;
+    put_listed(alloc, problem, text, out)
 }

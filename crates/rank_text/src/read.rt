@@ -6,16 +6,16 @@ ghost use Rattle.tree_reading.specs.Place.{IsCut, lines_at};
 ghost use Rattle.text_lines.specs.Tells.{Tells};
 ghost use Rattle.ranked_tree.specs.Known.{KnowsNetwork};
 ghost use Rattle.rank_text.specs.Known.{KnowsText};
-ghost use Rattle.rank_rules.specs.Read.{behind_networks, rest_taken, read_text, earlier};
+ghost use Rattle.rank_rules.specs.Read.{behind_networks, listed_taken, asked_taken, rest_taken};
+ghost use Rattle.rank_rules.specs.Read.{read_text, earlier};
 ghost use Rattle.rank_rules.specs.Headed.{is_ranking};
-ghost use Rattle.rank_text.specs.Takes.{listed_taken};
 
-use crate::front::{count_line, file_type_line, is_first_of_ranking, networks_line};
+use crate::front::{count_line, file_type_line, is_distinct, is_first_of_ranking, networks_line};
 use crate::networks::read_networks;
 use crate::opening::{OpenText, open_lines};
 use branch_tree::Network;
 use pns_problem::Problem;
-use ranked_tree::RankText;
+use ranked_tree::{Asked, RankText};
 use std::alloc::Global;
 use tree_reading::{Cut, TreeFault, kind_at, line_at, read_rest};
 use tree_text_laws::{tails_are_read, trees_are_taken};
@@ -37,7 +37,7 @@ fn earlier(named: Option<(u32, TreeKind)>, line: u32, kind: TreeKind) -> (u32, T
 fn read_behind(
     alloc: Global,
     problem: &Problem,
-    count: u32,
+    asked: Asked,
     networks: Vec<Network>,
     bytes: &[u8],
     cut: Cut,
@@ -45,17 +45,18 @@ fn read_behind(
     requires cut { IsCut bytes.now cut }
     requires few { length bytes.now < 2 ^ 32 - 1 }
     requires numbered { 1 ≤ cut.line }
-    requires asked { 1 ≤ count }
-    requires within { length networks.items ≤ count }
+    requires asked { 1 ≤ asked.count }
+    requires within { length networks.items ≤ asked.count }
     requires known { Each (KnowsNetwork problem.now) networks.items }
     ensures read { IfOk result
-        (λ t. behind_networks problem.now count networks.items cut.line (lines_at bytes.now cut)
-        ≡ Ok t) }
+        (λ t. behind_networks problem.now asked.count asked.distinct networks.items cut.line
+        (lines_at bytes.now cut) ≡ Ok t) }
     ensures few { IfOk result (λ t. length t.tree < 2 ^ 32) }
     ensures known { IfOk result (KnowsText problem.now) }
     ensures fault { IfErr result
         (Tells
-        (behind_networks problem.now count networks.items cut.line (lines_at bytes.now cut))) }
+        (behind_networks problem.now asked.count asked.distinct networks.items cut.line
+        (lines_at bytes.now cut))) }
 {
     problem.is_valid();
     trees_are_taken();
@@ -64,7 +65,7 @@ fn read_behind(
         bytes: opened,
         marks,
         fault,
-    } = open_lines(alloc, problem, bytes, cut)?;
+    } = open_lines(alloc, problem, asked.distinct, bytes, cut)?;
     let front = Cut {
         at: cut.at,
         line: cut.line - 1,
@@ -77,13 +78,46 @@ fn read_behind(
         }
         Ok((_, tree, tail)) => match fault {
             Some((line, kind)) => Err(TreeFault::At { line, kind }),
-            None => Ok(RankText::of(count, networks, tree, marks, tail)),
+            None => Ok(RankText::of(asked, networks, tree, marks, tail)),
         },
     }
 }
 
-// All that follows the line with the number of networks that were asked for.
+// All from the line with the number of networks on.
 fn read_listed(
+    alloc: Global,
+    problem: &Problem,
+    asked: Asked,
+    bytes: &[u8],
+    cut: Cut,
+) -> Result<RankText, TreeFault>
+    requires cut { IsCut bytes.now cut }
+    requires few { length bytes.now < 2 ^ 32 - 1 }
+    requires numbered { 1 ≤ cut.line }
+    requires asked { 1 ≤ asked.count }
+    ensures read { IfOk result
+        (λ t. listed_taken problem.now asked.count asked.distinct cut.line (lines_at bytes.now cut)
+        ≡ Ok t) }
+    ensures few { IfOk result (λ t. length t.tree < 2 ^ 32) }
+    ensures known { IfOk result (KnowsText problem.now) }
+    ensures fault { IfErr result
+        (Tells
+        (listed_taken problem.now asked.count asked.distinct cut.line (lines_at bytes.now cut))) }
+{
+    let Some((line, first)) = line_at(bytes, cut) else {
+        return Err(kind_at(cut, TreeKind::BadLine));
+    };
+    match networks_line(asked.count, &line) {
+        Ok(number) => {
+            let (networks, behind) = read_networks(alloc, problem, number, bytes, first)?;
+            read_behind(alloc, problem, asked, networks, bytes, behind)
+        }
+        Err(kind) => Err(kind_at(cut, kind)),
+    }
+}
+
+// All that follows the line with the number of networks that were asked for.
+fn read_asked(
     alloc: Global,
     problem: &Problem,
     count: u32,
@@ -95,21 +129,27 @@ fn read_listed(
     requires numbered { 1 ≤ cut.line }
     requires asked { 1 ≤ count }
     ensures read { IfOk result
-        (λ t. listed_taken problem.now count cut.line (lines_at bytes.now cut) ≡ Ok t) }
+        (λ t. asked_taken problem.now count cut.line (lines_at bytes.now cut) ≡ Ok t) }
     ensures few { IfOk result (λ t. length t.tree < 2 ^ 32) }
     ensures known { IfOk result (KnowsText problem.now) }
     ensures fault { IfErr result
-        (Tells (listed_taken problem.now count cut.line (lines_at bytes.now cut))) }
+        (Tells (asked_taken problem.now count cut.line (lines_at bytes.now cut))) }
 {
-    let Some((line, first)) = line_at(bytes, cut) else {
+    let Some((line, behind)) = line_at(bytes, cut) else {
         return Err(kind_at(cut, TreeKind::BadLine));
     };
-    match networks_line(count, &line) {
-        Ok(number) => {
-            let (networks, behind) = read_networks(alloc, problem, number, bytes, first)?;
-            read_behind(alloc, problem, count, networks, bytes, behind)
-        }
-        Err(kind) => Err(kind_at(cut, kind)),
+    if is_distinct(&line) {
+        let asked = Asked {
+            count,
+            distinct: true,
+        };
+        read_listed(alloc, problem, asked, bytes, behind)
+    } else {
+        let asked = Asked {
+            count,
+            distinct: false,
+        };
+        read_listed(alloc, problem, asked, bytes, cut)
     }
 }
 
@@ -133,7 +173,7 @@ fn read_counted(
         return Err(kind_at(cut, TreeKind::BadLine));
     };
     match count_line(&line) {
-        Ok(count) => read_listed(alloc, problem, count, bytes, behind),
+        Ok(count) => read_asked(alloc, problem, count, bytes, behind),
         Err(kind) => Err(kind_at(cut, kind)),
     }
 }

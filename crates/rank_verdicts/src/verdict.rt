@@ -57,7 +57,8 @@ pub fn rank_verdict_of(
 ) -> Result<RankVerdict, RankUnjudged>
     requires few { length text.now.tree < 2 ^ 32 }
     ensures verdict { IfOk result (λ v. IsRankVerdict site.now (ranking_of text.now) v) }
-    ensures listed { IfOk result (λ v. ArePassing site.now [] text.now.networks) }
+    ensures listed { IfOk result
+        (λ v. ArePassing text.now.distinct site.now [] text.now.networks) }
     ensures unjudged { IfErr result (IsRankUnjudged site.now (ranking_of text.now)) }
 {
     match check_rank(alloc, site, text) {

@@ -2,8 +2,12 @@
 use Rattle.std.specs.Prelude.{Some, None}
 use Rattle.ranked_tree.specs.declared.mark.Mark.{Mark}
 use Rattle.ranked_tree.specs.declared.mark.Mark.TheVariants.{Open, Named}
+use Rattle.ranked_tree.specs.declared.mark.Name.{Name}
 use Rattle.rank_rules.specs.Marked as specs
+
+abbrev pub name_of : Name → specs.Name
+name_of n = record { way = n.way; network = n.network; d = n.scaled.d; ys = n.scaled.ys }
 
 abbrev pub mark_of : Mark → specs.Mark
 mark_of Open = None
-mark_of (Named network s) = Some (record { network = network; d = s.d; ys = s.ys })
+mark_of (Named n) = Some (name_of n)

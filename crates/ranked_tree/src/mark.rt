@@ -1,12 +1,21 @@
 //! What an open leaf of the tree stands for.
 use branch_tree::Scaled;
+use rank_rules::Naming;
+
+/// How a leaf names a network, the number of the network, counted from 1, and multipliers over
+/// their scale that bound the cost of the flows of the node.
+#[derive(Drop)]
+pub struct Name {
+    pub way: Naming,
+    pub network: u32,
+    pub scaled: Scaled,
+}
 
 /// What an open leaf of the tree stands for in a ranked tree.
 #[derive(Drop)]
 pub enum Mark {
     /// The leaf is open.
     Open,
-    /// The leaf names the network of this number, counted from 1, with multipliers over their scale
-    /// that bound the cost of its flows.
-    Named { network: u32, scaled: Scaled },
+    /// The leaf names a network.
+    Named(Name),
 }

@@ -8,14 +8,23 @@ use crate::mark::Mark;
 use branch_tree::{Network, Tail, Tree};
 use std::marker::Model;
 
+/// What was asked for.
+#[derive(Clone, Copy, Debug, PartialEq, Eq)]
+pub struct Asked {
+    /// How many networks.
+    pub count: u32,
+    /// Whether none of them may be another with something idle: a list of alternatives.
+    pub distinct: bool,
+}
+
 /// The number of networks asked for, those that were found, best first, and the tree that is to
 /// prove that no other is better. With the tree are a mark for each of its open leaves in preorder,
 /// and the tail, which says why a search stopped. At least one network was asked for, no more are
 /// there, and networks are named by their numbers from 1 on. A leaf that names one has no bound of
-/// its own.
+/// its own. In a list of alternatives a leaf may name a network that each structure there contains.
 #[derive(Drop)]
 pub struct RankText {
-    count: u32,
+    asked: Asked,
     networks: Vec<Network>,
     tree: Tree,
     marks: Vec<Mark>,
@@ -31,7 +40,8 @@ impl Model for RankText {
     ghost Value = { specs.Text };
 
     ghost view = { λ t. record {
-      count = t.count;
+      count = t.asked.count;
+      distinct = t.asked.distinct;
       networks = t.networks.items;
       tree =
           t.tree;
@@ -39,23 +49,25 @@ impl Model for RankText {
       tail = tail_of t.tail;
     } };
 
-    ghost invariant = { λ t. specs.IsCounted t.count t.networks.items t.tree
-        (map mark_of t.marks.items) };
+    ghost invariant = { λ t. specs.IsCounted t.asked.count t.asked.distinct
+        t.networks.items t.tree (map mark_of t.marks.items) };
 }
 
 impl RankText {
     /// The ranked tree of these parts.
     pub fn of(
-        count: u32,
+        asked: Asked,
         networks: Vec<Network>,
         tree: Tree,
         marks: Vec<Mark>,
         tail: Tail,
     ) -> RankText
-        requires { IsCounted count networks.items tree (map mark_of marks.items) }
+        requires { IsCounted asked.count asked.distinct networks.items tree
+            (map mark_of marks.items) }
         ensures { result
             ≡ record {
-              count = count;
+              count = asked.count;
+              distinct = asked.distinct;
               networks = networks.items;
               tree = tree;
               marks =
@@ -64,7 +76,7 @@ impl RankText {
             } }
     {
         RankText {
-            count,
+            asked,
             networks,
             tree,
             marks,
@@ -76,7 +88,14 @@ impl RankText {
     pub fn count(&self) -> u32
         ensures { result ≡ self.now.count }
     {
-        self.count
+        self.asked.count
+    }
+
+    /// Whether it is a list of alternatives.
+    pub fn is_distinct(&self) -> bool
+        ensures { result ≡ self.now.distinct }
+    {
+        self.asked.distinct
     }
 
     /// The networks, best first.
@@ -109,9 +128,10 @@ impl RankText {
 
     /// The counts are within their bounds. A call shows this to a proof, and does nothing.
     pub fn is_counted(&self)
-        ensures counted { IsCounted self.now.count self.now.networks self.now.tree self.now.marks }
+        ensures counted { IsCounted self.now.count self.now.distinct self.now.networks self.now.tree
+            self.now.marks }
         ensures few { length self.now.networks < 2 ^ 32 }
     {
-        let _count = self.count;
+        let _count = self.asked.count;
     }
 }

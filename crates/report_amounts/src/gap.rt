@@ -49,7 +49,7 @@ fn low_part(network: &Network, low: &LowerBound) -> Number
 }
 
 /// How far the network's cost is above the lower bound, over the size of that cost.
-fn gap(network: &Network, low: &LowerBound) -> Number
+pub fn gap_above(network: &Network, low: &LowerBound) -> Number
     requires { network.now.cost ≡ pos 0 → ⊥ }
     ensures { result ≡ gap network.now low.now }
 {
@@ -66,6 +66,6 @@ pub fn push_gap(text: &mut String, network: &Network, low: &LowerBound) -> Resul
     if network.cost() == 0 {
         return Ok(());
     }
-    let thousandths = gap(network, low).times(&quotient(1000, 1));
+    let thousandths = gap_above(network, low).times(&quotient(1000, 1));
     thousandths.push_gap(text)
 }

@@ -1,5 +1,5 @@
 //! The object of a ranking.
-ghost use Rattle.std.specs.Prelude.{◌≡◌, [], IfOk, codes};
+ghost use Rattle.std.specs.Prelude.{◌≡◌, [], ℕ, List, IfOk, codes};
 ghost use Rattle.rank_rules.specs.Networks.{ArePassing};
 ghost use Rattle.rank_rules.specs.Text.{ranking_of};
 ghost use Rattle.json_rules.specs.Facts as facts;
@@ -8,6 +8,7 @@ ghost use Rattle.json_rules.specs.Ranked as ranked;
 ghost use Rattle.studio_rules.specs.Lines.{text_of};
 ghost use Rattle.studio_rules.specs.RankJson as rules;
 
+use crate::first::first_marginals;
 use json_pieces::Json;
 use json_text::{count_member, first_of, networks_member, text_member};
 use pgraph::Site;
@@ -62,6 +63,12 @@ fn why_member(alloc: Global, verdict: RankVerdict) -> Result<Json, AllocError>
     Json::member(alloc, "why", &why)
 }
 
+fn claim_word(distinct: bool) -> &'static str
+    ensures { result.now ≡ rules.claim_word distinct }
+{
+    if distinct { "alternatives" } else { "ranking" }
+}
+
 /// How many networks were asked for, under its key.
 fn asked_member(alloc: Global, ranking: &RankText) -> Result<Json, AllocError>
     ensures { IfOk result (λ json. json ≡ facts.count_member (codes "asked") ranking.now.count) }
@@ -86,18 +93,21 @@ pub(crate) fn rank_object(
     ranking: &RankText,
     verdict: RankVerdict,
 ) -> Result<Vec<u8>, AllocError>
-    requires listed { ArePassing site.now [] ranking.now.networks }
+    requires listed { ArePassing ranking.now.distinct site.now [] ranking.now.networks }
     ensures { IfOk result
-        (λ bytes. bytes.items
-        ≡ text_of (rules.rank_json_lines site.now (ranking_of ranking.now) verdict)) }
+        (λ bytes. (lines : List (List ℕ))
+        × rules.RankFactsSay site.now (ranking_of ranking.now) verdict lines
+        × (bytes.items ≡ text_of lines)) }
 {
     let stated = text_member(alloc, "verdict", verdict_word(verdict))?;
     let node = node_member(alloc, verdict)?;
     let why = why_member(alloc, verdict)?;
-    let claimed = text_member(alloc, "claim", "ranking")?;
+    let claimed = text_member(alloc, "claim", claim_word(ranking.is_distinct()))?;
     let asked = asked_member(alloc, ranking)?;
     let listed = listed_member(alloc, site, ranking)?;
     let head = [stated, node, why, claimed, asked, listed];
-    let bytes = first_of(alloc, &head, site, ranking.networks())?;
+    let networks = ranking.networks();
+    let marginals = first_marginals(alloc, site, networks)?;
+    let bytes = first_of(alloc, &head, site, networks, &marginals)?;
     Ok(bytes)
 }

@@ -2,7 +2,7 @@
 ghost use Rattle.std.specs.Prelude.{◌≡◌, ◌<◌, ◌≤◌, ◌^◌, [], ℕ, List, IfOk, length};
 ghost use Rattle.rank_rules.specs.Networks.{ArePassing};
 ghost use Rattle.rank_rules.specs.Text.{ranking_of};
-ghost use Rattle.report_commands.specs.Works.{RankWork, rank_lines};
+ghost use Rattle.report_commands.specs.Works.{RankWork, RankLines};
 ghost use Rattle.studio_rules.specs.Lines.{line, text_of};
 ghost use Rattle.studio_rules.specs.RankWords.{network_line};
 ghost use Rattle.studio_rules.specs.TextFile.{RankSays};
@@ -13,7 +13,7 @@ use crate::form::Form;
 use crate::object::rank_object;
 use crate::report::rank_report;
 use command_files::say_tree_fault;
-use endings::say::{say_made, say_memory, tell_made};
+use endings::say::{say_memory, say_told, tell_made};
 use messages::{Format, Notes, Source, refused};
 use pgraph::{Graph, Site};
 use pns_io::{Outputs, Sink};
@@ -36,10 +36,11 @@ fn text_of(
     ranking: &RankText,
     verdict: RankVerdict,
 ) -> Result<Vec<u8>, AllocError>
-    requires listed { ArePassing site.now [] ranking.now.networks }
+    requires listed { ArePassing ranking.now.distinct site.now [] ranking.now.networks }
     ensures { IfOk result
-        (λ bytes. bytes.items
-        ≡ text_of (rank_lines form site.now (ranking_of ranking.now) verdict)) }
+        (λ bytes. (lines : List (List ℕ))
+        × RankLines form site.now (ranking_of ranking.now) verdict lines
+        × (bytes.items ≡ text_of lines)) }
 {
     match form {
         Form::Report => rank_report(alloc, site, ranking, verdict),
@@ -51,7 +52,7 @@ fn text_of(
 fn notes_on(alloc: Global, why: RankWhy) -> Notes {
     match why {
         RankWhy::Plain(cause) => refused(alloc, cause),
-        RankWhy::Order | RankWhy::Named => Notes::new(alloc),
+        RankWhy::Order | RankWhy::Contains | RankWhy::Named | RankWhy::Over => Notes::new(alloc),
     }
 }
 
@@ -86,7 +87,7 @@ fn say_judged<K: Sink, E: Sink>(
     ensures { Ends (Tells (RankWork form site.now ranking.now)) out.old out.new result }
 {
     match rank_verdict_of(alloc, site, ranking) {
-        Ok(verdict) => say_made(out, text_of(alloc, form, site, ranking, verdict)),
+        Ok(verdict) => say_told(out, text_of(alloc, form, site, ranking, verdict)),
         Err(RankUnjudged::Network { number, why }) => say_network(alloc, out, number, why),
         Err(RankUnjudged::Memory) => say_memory(out),
     }

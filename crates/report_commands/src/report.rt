@@ -1,13 +1,14 @@
 //! The report of a ranking.
-ghost use Rattle.std.specs.Prelude.{◌≡◌, ◌++◌, ◌∷◌, [], IfOk, length};
+ghost use Rattle.std.specs.Prelude.{◌≡◌, ◌++◌, ◌∷◌, [], ℕ, List, IfOk, length};
 ghost use Rattle.rank_rules.specs.Networks.{ArePassing};
 ghost use Rattle.rank_rules.specs.Text.{ranking_of};
 ghost use Rattle.studio_rules.specs.Lines.{text_of};
-ghost use Rattle.studio_rules.specs.RankReport.{rank_first_line, rank_report_lines};
+ghost use Rattle.studio_rules.specs.RankReport.{rank_first_line, RankVerdictSays};
 
+use crate::first::first_marginals;
 use crate::words::push_first_line;
 use pgraph::Site;
-use ranked_tree::RankText;
+use ranked_tree::{Asked, RankText};
 use report_rules::RankVerdict;
 use report_tables::ranking_of;
 use std::alloc::{AllocError, Global};
@@ -20,18 +21,30 @@ fn found_in(text: &RankText) -> u32
     text.networks().len() as u32
 }
 
+/// What was asked for.
+fn asked_of(text: &RankText) -> Asked
+    ensures count { result.count ≡ text.now.count }
+    ensures distinct { result.distinct ≡ text.now.distinct }
+{
+    Asked {
+        count: text.count(),
+        distinct: text.is_distinct(),
+    }
+}
+
 /// The first line, with its line feed.
 fn first_text(
     alloc: Global,
-    count: u32,
+    asked: Asked,
     found: u32,
     verdict: RankVerdict,
 ) -> Result<Vec<u8>, AllocError>
     ensures { IfOk result
-        (λ bytes. bytes.items ≡ rank_first_line count found verdict ++ 10 ∷ []) }
+        (λ bytes. bytes.items
+        ≡ rank_first_line asked.distinct asked.count found verdict ++ 10 ∷ []) }
 {
     let mut text = String::new(alloc);
-    push_first_line(&mut text, count, found, verdict)?;
+    push_first_line(&mut text, asked, found, verdict)?;
     text.push('\n')?;
     Ok(text.into_bytes())
 }
@@ -43,14 +56,17 @@ pub(crate) fn rank_report(
     ranking: &RankText,
     verdict: RankVerdict,
 ) -> Result<Vec<u8>, AllocError>
-    requires listed { ArePassing site.now [] ranking.now.networks }
+    requires listed { ArePassing ranking.now.distinct site.now [] ranking.now.networks }
     ensures { IfOk result
-        (λ bytes. bytes.items
-        ≡ text_of (rank_report_lines site.now (ranking_of ranking.now) verdict)) }
+        (λ bytes. (lines : List (List ℕ))
+        × RankVerdictSays site.now (ranking_of ranking.now) verdict lines
+        × (bytes.items ≡ text_of lines)) }
 {
     ranking.is_counted();
-    let mut bytes = first_text(alloc, ranking.count(), found_in(ranking), verdict)?;
-    let tables = ranking_of(alloc, site, ranking.networks())?;
+    let mut bytes = first_text(alloc, asked_of(ranking), found_in(ranking), verdict)?;
+    let networks = ranking.networks();
+    let marginals = first_marginals(alloc, site, networks)?;
+    let tables = ranking_of(alloc, site, networks, &marginals)?;
     bytes.extend_from_slice(&tables)?;
     Ok(bytes)
 }

@@ -12,7 +12,7 @@ use Rattle.report_rules.specs.declared.rank_verdict.RankVerdict.TheVariants.{Fai
 
 -- the networks pass, and the node is the first that does not, for the cause
 abbrev pub StopsAt : Problem → Ranking → ℕ → RankWhy → Type 0
-StopsAt p r node why = ArePassing p [] r.networks × NodeIsFault false p r node why
+StopsAt p r node why = ArePassing r.distinct p [] r.networks × NodeIsFault false p r node why
 
 -- Either the ranking is accepted. Or its networks pass, and the first node that does not is open,
 -- or fails for another cause.

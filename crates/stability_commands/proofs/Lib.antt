@@ -1,3 +1,5 @@
 mod Named
 mod Printed
+mod RangeRows
+mod Stopped
 mod Told

@@ -23,8 +23,10 @@ use Rattle.structure_commands.proofs.ListingStart.{not_start, set_of}
 use Rattle.studio_rules.specs.Reading.{AreHeld, FileFault, GivesProblem, OnFile}
 use Rattle.studio_rules.specs.TreeFile.{tree_limit}
 use Rattle.studio_rules.specs.Rank.{RankWork}
+use Rattle.studio_rules.specs.Alternates.{AlternatesWork}
 use Rattle.studio_rules.specs.Solve.{SolveWork}
 use Rattle.studio_rules.specs.Command.{Command, Listing, Checking, RankChecking, Solving, Ranking}
+use Rattle.studio_rules.specs.Command.{Alternatives}
 use Rattle.studio_rules.specs.Command.{command_of}
 use Rattle.studio_rules.specs.Lines.{line, text_of}
 use Rattle.studio_rules.specs.Ending.{Finishes}
@@ -35,9 +37,10 @@ use Rattle.studio_rules.specs.declared.status.Status.TheVariants.{Done, ReadFaul
 use Rattle.studio_rules.specs.declared.status.Status.TheVariants.{Memory, TooLong, BadToken}
 use Rattle.studio_rules.specs.Answers.{AnswersTo, CommandAnswers, WordsSay}
 use Rattle.studio.specs.SolveLaws.{IsAcceptedOrLong, SolvedIsAccepted}
-use Rattle.studio.specs.RankLaws.{RankedIsAccepted}
+use Rattle.studio.specs.RankLaws.{RankedIsAccepted, AlternativesAreAccepted}
 use Rattle.studio.specs.Calls.{Call, IsCall, Calls, Puts, Holds, Keep, EndsWith, HasFailed, Accepts}
 use Rattle.studio.specs.Calls.{CheckAcceptsSolved, RankcheckAcceptsRanked, ListingsJoin}
+use Rattle.studio.specs.Calls.{RankcheckAcceptsAlternatives}
 use Rattle.studio.proofs.Accepted.{is_held, no_fault, one_problem}
 
 -- ---- what the shelf holds
@@ -182,6 +185,18 @@ rankcheck_accepts_ranked law ranking checking file rank count budget text calls 
     (law checking.shelf_before.held file rank keep.0 count budget said.lines keep.2
     (moved (RankWork count budget) ranking.shelf_before.held checking.shelf_before.held file keep.0
     Done said.lines keep.1 keep.2 said.answers)
+    (holds ∙ ap (λ (t : List ℕ). Some (Some t)) said.text_is) s lines h))
+
+pub rankcheck_accepts_alternatives : AlternativesAreAccepted → RankcheckAcceptsAlternatives
+rankcheck_accepts_alternatives law listing checking file rank count budget text calls puts judges
+    between holds =
+    let keep = same_file listing checking (Alternatives file count budget) file calls between in
+    let said = answered listing (Alternatives file count budget) text calls puts in
+    judged checking (RankChecking file rank) rank text judges (λ s lines h.
+    subst (λ (t : List ℕ). IsAcceptedOrLong rank t s lines) (sym said.text_is)
+    (law checking.shelf_before.held file rank keep.0 count budget said.lines keep.2
+    (moved (AlternatesWork count budget) listing.shelf_before.held checking.shelf_before.held file
+    keep.0 Done said.lines keep.1 keep.2 said.answers)
     (holds ∙ ap (λ (t : List ℕ). Some (Some t)) said.text_is) s lines h))
 
 -- ---- the last line of a text

@@ -16,6 +16,7 @@ use Rattle.tree_rules.specs.Tail.{Tail, whole, spent, past}
 use Rattle.stability_rules.specs.declared.spot.Spot.{Spot}
 use Rattle.stability_rules.specs.declared.spot.SpotKind.{SpotKind}
 use Rattle.stability_rules.specs.Spot.{valued}
+use Rattle.studio_rules.specs.Command.{Alternatives}
 use Rattle.studio_rules.specs.Command.{Command, Flows, Solving, Showing, Ranking, Trial, Ranging}
 use Rattle.studio_rules.specs.Command.{Planning, Parting, PartingAgainst, command_of}
 use Rattle.studio_rules.specs.Reading.{AreHeld}
@@ -39,6 +40,7 @@ use Rattle.studio_rules.specs.declared.status.Status.TheVariants.{BadNode, NotBe
 use Rattle.studio_rules.specs.declared.status.Status.TheVariants.{BadClaim}
 use Rattle.studio.proofs.Statuses.{finished, show_finished, rank_finished, search_finished}
 use Rattle.studio.proofs.Statuses.{fault_not_stopped, plan_status, tree_status}
+use Rattle.studio.proofs.Statuses.{alternatives_finished}
 
 -- ---- files that give nothing
 
@@ -193,6 +195,11 @@ command_finished held (Ranking name count budget) s lines can (file, is, inl fau
     fault_not_stopped name file s lines fault
 command_finished held (Ranking name count budget) s lines can (file, is, inr (p, given, work)) =
     rank_finished count budget p s lines (can file p is given) work
+command_finished held (Alternatives name count budget) s lines can (file, is, inl fault) =
+    fault_not_stopped name file s lines fault
+command_finished held (Alternatives name count budget) s lines can
+    (file, is, inr (p, given, work)) =
+    alternatives_finished count budget p s lines (can file p is given) work
 command_finished held (Trial number units budget) s lines can h =
     search_finished budget (generated number units) s lines can h
 command_finished held (Parting name us vs budget) s lines can (file, is, inl fault) =

@@ -1,6 +1,6 @@
--- What `rank` prints with status 0 is accepted by `rankcheck`.
-use Rattle.std.proofs.Common.{◌≡◌, ◌≤◌, ℕ, false, List, Result, Ok, Err, length, refl, sym, ◌∙◌}
-use Rattle.std.proofs.Common.{subst, inl, inr}
+-- What `rank` and `alternatives` print with status 0 is accepted by `rankcheck`.
+use Rattle.std.proofs.Common.{◌≡◌, ◌≤◌, ℕ, false, List, Some, Result, Ok, Err, length, refl}
+use Rattle.std.proofs.Common.{sym, ◌∙◌, subst, inl, inr}
 use Rattle.problem_rules.specs.Problem.{Problem}
 use Rattle.rank_rules.specs.Ranked.{IsRanked}
 use Rattle.rank_laws.specs.Laws.{PassingNetworksHaveNoFault, PassingTreeHasNoFault}
@@ -8,16 +8,20 @@ use Rattle.tree_rules.specs.Tail.{Tail, whole, spent, past}
 use Rattle.tree_text_rules.specs.Read.{Fault}
 use Rattle.rank_rules.specs.Text.{Text, ranking_of}
 use Rattle.rank_rules.specs.Read.{read_text}
-use Rattle.studio_rules.specs.Rank.{Holds}
+use Rattle.studio_rules.specs.Rank.{AreTextOf, Holds}
+use Rattle.studio_rules.specs.Alternates.{AlternatesHold}
+use Rattle.studio_rules.specs.Command.{RankChecking}
+use Rattle.studio_rules.specs.Answers.{CommandAnswers}
+use Rattle.text_rules.specs.Outside.{Told}
 use Rattle.studio_rules.specs.Rankcheck.{RankcheckSays, RankcheckWork}
 use Rattle.studio_rules.specs.Solve.{status_of}
 use Rattle.studio_rules.specs.Lines.{text_of}
 use Rattle.studio_rules.specs.declared.status.Status.{Status}
 use Rattle.studio_rules.specs.declared.status.Status.TheVariants.{Done, Refused, BadTree, TooLong}
-use Rattle.studio_rules.specs.Reading.{FileFault, GivesProblem}
+use Rattle.studio_rules.specs.Reading.{AreHeld, FileFault, GivesProblem}
 use Rattle.studio_rules.specs.TreeFile.{tree_limit}
 use Rattle.studio.specs.SolveLaws.{IsAcceptedOrLong}
-use Rattle.studio.specs.RankLaws.{RankedIsAccepted}
+use Rattle.studio.specs.RankLaws.{RankedIsAccepted, AlternativesAreAccepted}
 use Rattle.studio.proofs.Accepted.{is_held, no_fault, one_problem}
 
 -- the ranking of a text with status 0
@@ -26,6 +30,12 @@ proves : (count budget : ℕ) (p : Problem) (t : Text) (tail : Tail) → Done �
 proves count budget p t whole e holds = holds.lists.proves
 proves count budget p t (spent next options) e holds = cc
 proves count budget p t (past node nonbasic place) e holds = cc
+
+list_proves : (count budget : ℕ) (p : Problem) (t : Text) (tail : Tail) → Done ≡ status_of tail
+    → AlternatesHold count budget p t tail → IsRanked p (ranking_of t)
+list_proves count budget p t whole e holds = holds.lists.proves
+list_proves count budget p t (spent next options) e holds = cc
+list_proves count budget p t (past node nonbasic place) e holds = cc
 
 module _ (no_network_fault : PassingNetworksHaveNoFault)
     (no_tree_fault : PassingTreeHasNoFault) where
@@ -53,24 +63,43 @@ module _ (no_network_fault : PassingNetworksHaveNoFault)
       checked p other name file s lines given.0
       (subst (λ (d : Text). IsRanked p (ranking_of d)) one ranked) work
 
-  pub ranked_is_accepted : RankedIsAccepted
-  ranked_is_accepted held file rank bytes count budget ranked is (f, there, inl fault) text s lines
-      said = absurd fault
-  ranked_is_accepted held file rank bytes count budget ranked is
-      (f, there, inr (p, given, (t, e, holds, are))) text s lines (g, again, inl fault) =
+  -- a text that reads as a ranked tree for the problem of the file
+  accepted : (held : List ℕ → Told) (file rank bytes : List ℕ) (listed : List (List ℕ))
+      → held file ≡ Some (Some bytes) → (f : List ℕ) → AreHeld (held file) f → (p : Problem)
+      → GivesProblem f p → (t : Text) → IsRanked p (ranking_of t) → AreTextOf p t listed
+      → held rank ≡ Some (Some (text_of listed)) → (s : Status) (lines : List (List ℕ))
+      → CommandAnswers held (RankChecking file rank) s lines
+      → IsAcceptedOrLong rank (text_of listed) s lines
+  accepted held file rank bytes listed is f there p given t ranked are text s lines
+      (g, again, inl fault) =
       let same : g ≡ f = is_held (held file) bytes g is again
       ∙ sym (is_held (held file) bytes f is there) in
       absurd
       (no_fault file f p s lines given
       (subst (λ (b : List ℕ). FileFault file b s lines) same fault))
-  ranked_is_accepted held file rank bytes count budget ranked is
-      (f, there, inr (p, given, (t, e, holds, are))) text s lines
+  accepted held file rank bytes listed is f there p given t ranked are text s lines
       (g, again, inr (q, gives, (b, told, judged))) =
       let same : g ≡ f = is_held (held file) bytes g is again
       ∙ sym (is_held (held file) bytes f is there) in
       let one : q ≡ p =
       one_problem f p q given (subst (λ (c : List ℕ). GivesProblem c q) same gives) in
-      let the_text : b ≡ text_of ranked = is_held (held rank) (text_of ranked) b text told in
-      read p t rank (text_of ranked) s lines are.reads (proves count budget p t t.tail e holds)
+      let the_text : b ≡ text_of listed = is_held (held rank) (text_of listed) b text told in
+      read p t rank (text_of listed) s lines are.reads ranked
       (subst (λ (c : List ℕ). RankcheckSays rank p c s lines) the_text
       (subst (λ (r : Problem). RankcheckSays rank r b s lines) one judged))
+
+  pub ranked_is_accepted : RankedIsAccepted
+  ranked_is_accepted held file rank bytes count budget ranked is (f, there, inl fault) text s lines
+      said = absurd fault
+  ranked_is_accepted held file rank bytes count budget ranked is
+      (f, there, inr (p, given, (t, e, holds, are))) text s lines said =
+      accepted held file rank bytes ranked is f there p given t
+      (proves count budget p t t.tail e holds) are text s lines said
+
+  pub alternatives_are_accepted : AlternativesAreAccepted
+  alternatives_are_accepted held file rank bytes count budget listed is (f, there, inl fault) text
+      s lines said = absurd fault
+  alternatives_are_accepted held file rank bytes count budget listed is
+      (f, there, inr (p, given, (t, e, holds, are))) text s lines said =
+      accepted held file rank bytes listed is f there p given t
+      (list_proves count budget p t t.tail e holds) are text s lines said

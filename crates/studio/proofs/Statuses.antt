@@ -12,11 +12,12 @@ use Rattle.io_rules.specs.State.{ShelfState, OutputsState}
 use Rattle.studio_rules.specs.Command.{Command, Max, Axioms, Flows, Listing, Linting, Make}
 use Rattle.studio_rules.specs.Command.{Migrate}
 use Rattle.studio_rules.specs.Command.{Editing, Undoing, Checking, RankChecking, Solving, Showing}
+use Rattle.studio_rules.specs.Command.{Alternatives}
 use Rattle.studio_rules.specs.Command.{Ranking, Trial, Telling, command_of, IsFileOf, IsFileWord}
 use Rattle.studio_rules.specs.Command.{Table, Splitting, Expanding, Drawing, DrawingNetwork}
 use Rattle.studio_rules.specs.Command.{Reporting, Json, Ranging, Planning, Parting}
 use Rattle.studio_rules.specs.Command.{PartingAgainst}
-use Rattle.studio_rules.specs.Command.{Merging}
+use Rattle.studio_rules.specs.Command.{Merging, RangingAll}
 use Rattle.studio_rules.specs.Reading.{AreHeld, FileFault, file_limit}
 use Rattle.studio_rules.specs.Max.{MaxWork}
 use Rattle.studio_rules.specs.Lint.{LintWork}
@@ -35,6 +36,7 @@ use Rattle.studio_rules.specs.Check.{CheckWork}
 use Rattle.rank_rules.specs.Text.{Text}
 use Rattle.studio_rules.specs.Rank as rankings
 use Rattle.studio_rules.specs.Rank.{RankWork}
+use Rattle.studio_rules.specs.Alternates.{AlternatesHold, AlternatesWork}
 use Rattle.studio_rules.specs.Rankcheck.{RankFault, RankcheckWork, FilesListBest, AcceptedAreBest}
 use Rattle.studio_rules.specs.Network.{OnNetwork, ClaimRefusal}
 use Rattle.studio_rules.specs.Table.{TableWork}
@@ -58,6 +60,7 @@ use Rattle.studio_rules.specs.Periods.{PeriodsWork}
 use Rattle.stability_rules.specs.declared.spot.Spot.{Spot}
 use Rattle.stability_rules.specs.declared.spot.SpotKind.{SpotKind}
 use Rattle.studio_rules.specs.Stable.{spot_named, SpotWork, NamedWork, StableWork}
+use Rattle.studio_rules.specs.StableTable.{RangesWork}
 use Rattle.studio_rules.specs.Best.{FilesClaimBest, AcceptedIsBest}
 use Rattle.tree_rules.specs.Tail.{Tail, whole, spent, past}
 use Rattle.problem_rules.specs.Generated.{generated}
@@ -243,6 +246,10 @@ show_status budget p s lines h = tail_status h.0.tail s h.2.0
 pub rank_status : (count budget : ℕ) (p : Problem) (s : Status) (lines : List (List ℕ))
     → RankWork count budget p s lines → (s ≡ Done) ⊎ ((s ≡ Spent) ⊎ (s ≡ Past))
 rank_status count budget p s lines h = tail_status h.0.tail s h.1
+
+pub alternatives_status : (count budget : ℕ) (p : Problem) (s : Status) (lines : List (List ℕ))
+    → AlternatesWork count budget p s lines → (s ≡ Done) ⊎ ((s ≡ Spent) ⊎ (s ≡ Past))
+alternatives_status count budget p s lines h = tail_status h.0.tail s h.1
 
 pub search_status : (budget : ℕ) (p : Problem) (s : Status) (lines : List (List ℕ))
     → SummaryWork budget p s lines → (s ≡ Done) ⊎ ((s ≡ Spent) ⊎ (s ≡ Past))
@@ -438,6 +445,19 @@ stable_status None budget p claim tree s lines h = inl h.0
 stable_status (Some spot) budget p claim tree s lines (inl refusal) = inr (inl refusal.0)
 stable_status (Some spot) budget p claim tree s lines (inr rest) =
     inr (inr (spot_status spot budget p rest.0 s lines rest.2))
+
+ranges_status : (budget : ℕ) (p : Problem) (w : Network) (s : Status) (lines : List (List ℕ))
+    → RangesWork budget p w s lines → (s ≡ Done) ⊎ (s ≡ NotBest)
+ranges_status budget p w Done lines h = inl refl
+ranges_status budget p w NotBest lines h = inr refl
+ranges_status budget p w s lines h = absurd h
+
+pub table_of_ranges_status : (budget : ℕ) (p : Problem) (claim : Claim) (tree : Tree) (s : Status)
+    (lines : List (List ℕ)) → OnNetwork (RangesWork budget) p claim tree s lines → (s ≡ BadClaim)
+    ⊎ ((s ≡ Done) ⊎ (s ≡ NotBest))
+table_of_ranges_status budget p claim tree s lines (inl refusal) = inl refusal.0
+table_of_ranges_status budget p claim tree s lines (inr rest) =
+    inr (ranges_status budget p rest.0 s lines rest.2)
 
 command_status : (held : List ℕ → Told) (command : Command) (s : Status) (lines : List (List ℕ))
     → CommandAnswers held command s lines
@@ -693,6 +713,30 @@ command_status held (Ranging name tree kind word budget) s lines
         ]
       ]
     ]
+command_status held (RangingAll name tree budget) s lines (file, is, inl fault) short =
+    elim (fault_status name file s lines fault) [
+      | inl q ↦ inr (inr (inl q))
+      | inr q
+          ↦ absurd
+          (within_limit (held name) file_limit file (short name file_limit (inl (refl, refl))) is
+          q.1)
+    ]
+command_status held (RangingAll name tree budget) s lines
+    (file, is, inr (p, given, (bytes, there, inl fault))) short =
+    elim (tree_status tree p bytes s lines fault) [
+      | inl q ↦ inr (inr (inr (inl q)))
+      | inr q
+          ↦ absurd
+          (within_limit (held tree) tree_limit bytes (short tree tree_limit (inr (refl, refl)))
+          there
+          q.1)
+    ]
+command_status held (RangingAll name tree budget) s lines
+    (file, is, inr (p, given, (bytes, there, inr rest))) short =
+    elim (table_of_ranges_status budget p rest.0 rest.1 s lines rest.3) [
+      | inl q ↦ inr (inl q)
+      | inr o ↦ elim o [ inl q ↦ inl q | inr q ↦ inr (inr (inr (inr (inl q)))) ]
+    ]
 command_status held (Planning name plan budget) s lines (file, is, inl fault) short =
     elim (fault_status name file s lines fault) [
       | inl q ↦ inr (inr (inr (inr (inl q))))
@@ -826,6 +870,18 @@ command_status held (Ranking name count budget) s lines (file, is, inr work) sho
       | inl q ↦ inl q
       | inr o ↦ elim o [ inl q ↦ inr (inl q) | inr q ↦ inr (inr (inl q)) ]
     ]
+command_status held (Alternatives name count budget) s lines (file, is, inl fault) short =
+    elim (fault_status name file s lines fault) [
+      | inl q ↦ inr (inr (inr (inl q)))
+      | inr q
+          ↦ absurd
+          (within_limit (held name) file_limit file (short name file_limit (refl, refl)) is q.1)
+    ]
+command_status held (Alternatives name count budget) s lines (file, is, inr work) short =
+    elim (alternatives_status count budget work.0 s lines work.2) [
+      | inl q ↦ inl q
+      | inr o ↦ elim o [ inl q ↦ inr (inl q) | inr q ↦ inr (inr (inl q)) ]
+    ]
 command_status held (Trial number units budget) s lines h short =
     elim (search_status budget (generated number units) s lines h) [
       | inl q ↦ inl q
@@ -938,6 +994,13 @@ answer_status held (Ranging name tree kind word budget) lines
                 ]
           ]
     ]
+answer_status held (RangingAll name tree budget) lines (file, is, inl fault) = absurd fault
+answer_status held (RangingAll name tree budget) lines
+    (file, is, inr (p, given, (bytes, there, inl fault))) = absurd fault
+answer_status held (RangingAll name tree budget) lines
+    (file, is, inr (p, given, (bytes, there, inr rest))) =
+    elim (table_of_ranges_status budget p rest.0 rest.1 Usage lines rest.3)
+    [ inl q ↦ cc | inr o ↦ elim o [ inl q ↦ cc | inr q ↦ cc ] ]
 answer_status held (Planning name plan budget) lines (file, is, inl fault) = absurd fault
 answer_status held (Planning name plan budget) lines
     (file, is, inr (p, given, (bytes, there, inl fault))) = absurd fault
@@ -981,6 +1044,10 @@ answer_status held (Ranking name count budget) lines (file, is, inl fault) = abs
 answer_status held (Ranking name count budget) lines (file, is, inr work) =
     elim (rank_status count budget work.0 Usage lines work.2)
     [ inl q ↦ cc | inr o ↦ elim o [ inl q ↦ cc | inr q ↦ cc ] ]
+answer_status held (Alternatives name count budget) lines (file, is, inl fault) = absurd fault
+answer_status held (Alternatives name count budget) lines (file, is, inr work) =
+    elim (alternatives_status count budget work.0 Usage lines work.2)
+    [ inl q ↦ cc | inr o ↦ elim o [ inl q ↦ cc | inr q ↦ cc ] ]
 answer_status held (Trial number units budget) lines h =
     elim (search_status budget (generated number units) Usage lines h)
     [ inl q ↦ cc | inr o ↦ elim o [ inl q ↦ cc | inr q ↦ cc ] ]
@@ -1012,6 +1079,7 @@ memory_status (Drawing file) = inr (inr (inl refl))
 memory_status (DrawingNetwork file tree) = inr (inr (inr (inr (inl refl))))
 memory_status (Ranging file tree kind name budget) =
     inr (inr (inr (inr (inr (inr (inr (inr (inl refl))))))))
+memory_status (RangingAll file tree budget) = inr (inr (inr (inr (inr (inl refl)))))
 memory_status (Planning file plan budget) = inr (inr (inr (inr (inr (inl refl)))))
 memory_status (Parting file inside outside budget) = inr (inr (inr (inr (inr (inl refl)))))
 memory_status (PartingAgainst file inside outside budget tree) =
@@ -1020,6 +1088,7 @@ memory_status (Merging file tree parts) = inr (inr (inr (inr (inr (inl refl)))))
 memory_status (Solving file budget) = inr (inr (inr (inr (inl refl))))
 memory_status (Showing file budget) = inr (inr (inr (inr (inl refl))))
 memory_status (Ranking file count budget) = inr (inr (inr (inr (inl refl))))
+memory_status (Alternatives file count budget) = inr (inr (inr (inr (inl refl))))
 memory_status (Trial number units budget) = inr (inr (inr (inl refl)))
 memory_status (Telling text) = inr (inl refl)
 
@@ -1051,6 +1120,17 @@ pub rank_finished : (count budget : ℕ) (p : Problem) (s : Status) (lines : Lis
 rank_finished count budget p s lines can (t, e, holds, text) = at t.tail e holds
   where
     at : (tail : Tail) → s ≡ status_of tail → rankings.Holds count budget p t tail
+        → IsNotStopped s
+    at whole e holds = ((λ q. cc), (λ q. cc))
+    at (spent next options) e holds = absurd (can.enough holds.2)
+    at (past node nonbasic place) e holds = let h =
+        holds.1 in absurd (can.in_range h.node nonbasic place h.sound h.reduced h.past.past)
+
+pub alternatives_finished : (count budget : ℕ) (p : Problem) (s : Status) (lines : List (List ℕ))
+    → CanFinish budget p → AlternatesWork count budget p s lines → IsNotStopped s
+alternatives_finished count budget p s lines can (t, e, holds, text) = at t.tail e holds
+  where
+    at : (tail : Tail) → s ≡ status_of tail → AlternatesHold count budget p t tail
         → IsNotStopped s
     at whole e holds = ((λ q. cc), (λ q. cc))
     at (spent next options) e holds = absurd (can.enough holds.2)
@@ -1116,6 +1196,8 @@ missing_says held (DrawingNetwork file tree) name s lines first gone h = let sam
     cc in nothing_held (held file) h.0 (ap held same ∙ gone) h.1
 missing_says held (Ranging file tree kind word budget) name s lines first gone h =
     let same : file ≡ name = cc in nothing_held (held file) h.0 (ap held same ∙ gone) h.1
+missing_says held (RangingAll file tree budget) name s lines first gone h =
+    let same : file ≡ name = cc in nothing_held (held file) h.0 (ap held same ∙ gone) h.1
 missing_says held (Planning file plan budget) name s lines first gone h = let same : file ≡ name =
     cc in nothing_held (held file) h.0 (ap held same ∙ gone) h.1
 missing_says held (Parting file inside outside budget) name s lines first gone h =
@@ -1126,6 +1208,8 @@ missing_says held (Merging file tree parts) name s lines first gone h = let same
     cc in nothing_held (held file) h.0 (ap held same ∙ gone) h.1
 missing_says held (Ranking file count budget) name s lines first gone h = let same : file ≡ name =
     cc in nothing_held (held file) h.0 (ap held same ∙ gone) h.1
+missing_says held (Alternatives file count budget) name s lines first gone h =
+    let same : file ≡ name = cc in nothing_held (held file) h.0 (ap held same ∙ gone) h.1
 missing_says held (Solving file budget) name s lines first gone h = let same : file ≡ name =
     cc in nothing_held (held file) h.0 (ap held same ∙ gone) h.1
 missing_says held (Showing file budget) name s lines first gone h = let same : file ≡ name =

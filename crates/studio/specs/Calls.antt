@@ -4,6 +4,7 @@ use Rattle.std.specs.Prelude.{◌≡◌, ◌⊎◌, ◌≤◌, ◌<◌, ◌+◌,
 use Rattle.io_rules.specs.State.{ShelfState, OutputsState}
 use Rattle.studio_rules.specs.TreeFile.{tree_limit}
 use Rattle.studio_rules.specs.Command.{Command, Listing, Checking, RankChecking, Solving, Ranking}
+use Rattle.studio_rules.specs.Command.{Alternatives}
 use Rattle.studio_rules.specs.Command.{Splitting, Merging, command_of}
 use Rattle.studio_rules.specs.Lines.{line, text_of}
 use Rattle.studio_rules.specs.Ending.{Finishes, Writes, IsOneOf}
@@ -78,6 +79,15 @@ RankcheckAcceptsRanked =
     (ranking checking : Call) (file rank : List ℕ) (count budget : ℕ) (text : List ℕ)
     → Calls ranking (Ranking file count budget) → Puts ranking text
     → Calls checking (RankChecking file rank) → Keep ranking checking file
+    → Holds checking rank text
+    → Accepts checking rank text ⊎ HasFailed checking
+
+-- and what `alternatives` put out
+abbrev pub RankcheckAcceptsAlternatives : Type 0
+RankcheckAcceptsAlternatives =
+    (listing checking : Call) (file rank : List ℕ) (count budget : ℕ) (text : List ℕ)
+    → Calls listing (Alternatives file count budget) → Puts listing text
+    → Calls checking (RankChecking file rank) → Keep listing checking file
     → Holds checking rank text
     → Accepts checking rank text ⊎ HasFailed checking
 

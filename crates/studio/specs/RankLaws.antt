@@ -1,10 +1,10 @@
--- A law over what `rank` and `rankcheck` print.
+-- Laws over what `rank`, `alternatives` and `rankcheck` print.
 use Rattle.std.specs.Prelude.{◌≡◌, ℕ, List, Some}
 use Rattle.text_rules.specs.Outside.{Told}
 use Rattle.studio_rules.specs.Lines.{text_of}
 use Rattle.studio_rules.specs.declared.status.Status.{Status}
 use Rattle.studio_rules.specs.declared.status.Status.TheVariants.{Done}
-use Rattle.studio_rules.specs.Command.{Ranking, RankChecking}
+use Rattle.studio_rules.specs.Command.{Ranking, Alternatives, RankChecking}
 use Rattle.studio_rules.specs.Answers.{CommandAnswers}
 use Rattle.studio.specs.SolveLaws.{IsAcceptedOrLong}
 
@@ -19,3 +19,14 @@ RankedIsAccepted =
     → (status : Status) (checked : List (List ℕ))
     → CommandAnswers held (RankChecking file rank) status checked
     → IsAcceptedOrLong rank (text_of ranked) status checked
+
+-- and so is what `alternatives` prints with it
+abbrev pub AlternativesAreAccepted : Type 0
+AlternativesAreAccepted =
+    (held : List ℕ → Told) (file rank bytes : List ℕ) (count budget : ℕ) (listed : List (List ℕ))
+    → held file ≡ Some (Some bytes)
+    → CommandAnswers held (Alternatives file count budget) Done listed
+    → held rank ≡ Some (Some (text_of listed))
+    → (status : Status) (checked : List (List ℕ))
+    → CommandAnswers held (RankChecking file rank) status checked
+    → IsAcceptedOrLong rank (text_of listed) status checked

@@ -35,11 +35,12 @@ use period_searches::planned::periods;
 use pns_io::{Failed, Outputs, Shelf, Sink};
 use progress::{Effort, Watch};
 use rank_commands::{accepted_are_best, rankcheck};
-use rank_searches::rank;
+use rank_searches::{alternatives, rank};
 use report_commands::call::{json, report};
 use searches::solve::solve;
 use searches::trial::trial;
 use shows::show::show;
+use stability_commands::ranges::{Asked, ranges};
 use stability_commands::stable::stable;
 use std::alloc::Global;
 use structure_commands::axioms::axioms;
@@ -87,6 +88,13 @@ fn perform<F: Shelf, K: Sink, E: Sink, W: Watch>(
             };
             stable(alloc, file, tree, kind, name, effort, shelf, out)
         }
+        Command::RangingAll(file, tree, budget) => {
+            let effort = Effort {
+                budget: budget as u32,
+                watch,
+            };
+            ranges(alloc, file, Asked { tree, effort }, shelf, out)
+        }
         Command::Planning(file, plan, budget) => {
             let effort = Effort {
                 budget: budget as u32,
@@ -129,6 +137,13 @@ fn perform<F: Shelf, K: Sink, E: Sink, W: Watch>(
                 watch,
             };
             rank(alloc, file, count, effort, shelf, out)
+        }
+        Command::Alternatives(file, count, budget) => {
+            let effort = Effort {
+                budget: budget as u32,
+                watch,
+            };
+            alternatives(alloc, file, count, effort, shelf, out)
         }
         Command::Trial(number, units, budget) => {
             let effort = Effort {
@@ -265,10 +280,10 @@ pub fn studio<F: Shelf, K: Sink, E: Sink, W: Watch>(
     ensures accepted { (file : List ℕ) (tree : List ℕ)
         → command_of (map string_bytes words.now) ≡ Some (rules.Checking file tree)
         → result ≡ Status.Done → FilesClaimBest (F.state shelf.old).held file tree }
-    // If `rankcheck` ends with status 0, its files give a valid problem and a ranking that is
-    // right. No flows for the units of a listed network cost less than it. No other clash-free
-    // solution structure costs less than the last one; if fewer are listed than were asked for, no
-    // other has flows.
+    // If `rankcheck` ends with status 0, its files give a valid problem and a list of alternatives
+    // that is right, or a ranking. No flows for the units of a network of that cost less than it.
+    // No other clash-free solution structure costs less than its last one; if fewer are listed than
+    // were asked for, no other has flows.
     ensures ranked { (file : List ℕ) (rank : List ℕ)
         → command_of (map string_bytes words.now) ≡ Some (rules.RankChecking file rank)
         → result ≡ Status.Done → FilesListBest (F.state shelf.old).held file rank }

@@ -2,8 +2,9 @@
 //! function that does nothing. A law over calls excepts that a read, an output or memory fails.
 ghost use Rattle.structure_commands.specs.ListingLaws.{PartsJoin};
 ghost use Rattle.studio.specs.SolveLaws.{SolvedIsAccepted};
-ghost use Rattle.studio.specs.RankLaws.{RankedIsAccepted};
+ghost use Rattle.studio.specs.RankLaws.{RankedIsAccepted, AlternativesAreAccepted};
 ghost use Rattle.studio.specs.Calls.{CheckAcceptsSolved, RankcheckAcceptsRanked};
+ghost use Rattle.studio.specs.Calls.{RankcheckAcceptsAlternatives};
 ghost use Rattle.studio.specs.Calls.{CheckAcceptsMerged, ListingsJoin};
 
 use part_laws::{grafts_are_partial, open_leaves_stand};
@@ -37,6 +38,15 @@ pub fn ranked_is_accepted()
     ranking_has_one_fault();
 }
 
+/// What `alternatives` prints with status 0 is accepted by `rankcheck` on the same problem, or is
+/// too long for it.
+pub fn alternatives_are_accepted()
+    ensures { AlternativesAreAccepted }
+{
+    network_has_one_fault();
+    ranking_has_one_fault();
+}
+
 /// `check` accepts what a call of `solve` printed with 0. The text is kept as TREE, and the problem
 /// file stays the same. Or `check` says that the text is too long.
 pub fn check_accepts_solved()
@@ -51,6 +61,14 @@ pub fn rankcheck_accepts_ranked()
     ensures { RankcheckAcceptsRanked }
 {
     ranked_is_accepted();
+}
+
+/// `rankcheck` accepts what a call of `alternatives` printed with 0. The text is kept as RANK, and
+/// the problem file stays the same. Or `rankcheck` says that the text is too long.
+pub fn rankcheck_accepts_alternatives()
+    ensures { RankcheckAcceptsAlternatives }
+{
+    alternatives_are_accepted();
 }
 
 /// `check` accepts what `merge` printed, if `split` finds no open leaf in it. These are calls: the

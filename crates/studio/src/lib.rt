@@ -17,7 +17,8 @@ mod laws;
 pub use call::studio;
 pub use endings::code_of;
 pub use laws::{
-    check_accepts_merged, check_accepts_solved, listings_join, parts_join,
-    rankcheck_accepts_ranked, ranked_is_accepted, solved_is_accepted,
+    alternatives_are_accepted, check_accepts_merged, check_accepts_solved, listings_join,
+    parts_join, rankcheck_accepts_alternatives, rankcheck_accepts_ranked, ranked_is_accepted,
+    solved_is_accepted,
 };
 pub use studio_rules::Status;

@@ -9,7 +9,7 @@ use Rattle.studio_rules.specs.Command.{Undoing, Checking, RankChecking, Solving,
 use Rattle.studio_rules.specs.Command.{Trial, Telling}
 use Rattle.studio_rules.specs.Command.{Table, Splitting, Expanding, Drawing, DrawingNetwork}
 use Rattle.studio_rules.specs.Command.{Reporting, Json, Ranging, Planning, Parting, PartingAgainst}
-use Rattle.studio_rules.specs.Command.{Merging}
+use Rattle.studio_rules.specs.Command.{Merging, Alternatives, RangingAll}
 use Rattle.problem_rules.specs.Generated.{generated}
 use Rattle.problem_rules.specs.Problem.{Problem}
 use Rattle.tree_rules.specs.Claim.{Network, network}
@@ -34,6 +34,7 @@ use Rattle.studio_rules.specs.TreeFile.{OnTree, GivesTree, tree_limit}
 use Rattle.studio_rules.specs.Check.{CheckWork}
 use Rattle.studio_rules.specs.Rankcheck.{OnRank}
 use Rattle.studio_rules.specs.Rank.{RankWork}
+use Rattle.studio_rules.specs.Alternates.{AlternatesWork}
 use Rattle.studio_rules.specs.Network.{OnNetwork}
 use Rattle.studio_rules.specs.Table.{TableWork}
 use Rattle.studio_rules.specs.Report.{ReportWork}
@@ -47,6 +48,7 @@ use Rattle.studio_rules.specs.Merge.{MergeWork}
 use Rattle.studio_rules.specs.Part.{PartWork, AgainstWork}
 use Rattle.studio_rules.specs.Periods.{PeriodsWork}
 use Rattle.studio_rules.specs.Stable.{StableWork, CanRange, spot_named}
+use Rattle.studio_rules.specs.StableTable.{RangesWork}
 use Rattle.studio_rules.specs.Solve.{SolveWork, CanFinish}
 use Rattle.studio_rules.specs.Show.{ShowWork}
 use Rattle.studio_rules.specs.Trial.{TrialWork}
@@ -64,6 +66,8 @@ use Rattle.studio_rules.specs.declared.status.Status.TheVariants.{UnknownName, B
 abbrev pub SearchAnswers : (List ℕ → Told) → Command → Status → List (List ℕ) → Type 0
 SearchAnswers held (Ranging file tree kind name budget) status lines =
     OnFile (OnTree (StableWork kind name budget) held tree) held file status lines
+SearchAnswers held (RangingAll file tree budget) status lines =
+    OnFile (OnTree (OnNetwork (RangesWork budget)) held tree) held file status lines
 SearchAnswers held (Planning file plan budget) status lines =
     OnFile (OnPlan (PeriodsWork budget) held plan) held file status lines
 SearchAnswers held (Parting file inside outside budget) status lines =
@@ -76,6 +80,8 @@ SearchAnswers held (Showing file budget) status lines =
     OnFile (ShowWork budget) held file status lines
 SearchAnswers held (Ranking file count budget) status lines =
     OnFile (RankWork count budget) held file status lines
+SearchAnswers held (Alternatives file count budget) status lines =
+    OnFile (AlternatesWork count budget) held file status lines
 SearchAnswers held (Trial number units budget) status lines =
     TrialWork number units budget status lines
 SearchAnswers held command status lines = ⊥
@@ -154,6 +160,7 @@ first_file (DrawingNetwork file tree) = Some file
 first_file (Reporting file tree) = Some file
 first_file (Json file tree) = Some file
 first_file (Ranging file tree kind name budget) = Some file
+first_file (RangingAll file tree budget) = Some file
 first_file (Planning file plan budget) = Some file
 first_file (Parting file inside outside budget) = Some file
 first_file (PartingAgainst file inside outside budget tree) = Some file
@@ -161,6 +168,7 @@ first_file (Merging file tree parts) = Some file
 first_file (Solving file budget) = Some file
 first_file (Showing file budget) = Some file
 first_file (Ranking file count budget) = Some file
+first_file (Alternatives file count budget) = Some file
 first_file command = None
 
 -- the command reads the file, which is to hold no more bytes
@@ -180,6 +188,8 @@ IsReadWithin (Reporting file tree) name limit =
 IsReadWithin (Json file tree) name limit =
     ((name ≡ file) × (limit ≡ file_limit)) ⊎ ((name ≡ tree) × (limit ≡ tree_limit))
 IsReadWithin (Ranging file tree kind word budget) name limit =
+    ((name ≡ file) × (limit ≡ file_limit)) ⊎ ((name ≡ tree) × (limit ≡ tree_limit))
+IsReadWithin (RangingAll file tree budget) name limit =
     ((name ≡ file) × (limit ≡ file_limit)) ⊎ ((name ≡ tree) × (limit ≡ tree_limit))
 IsReadWithin (PartingAgainst file inside outside budget tree) name limit =
     ((name ≡ file) × (limit ≡ file_limit)) ⊎ ((name ≡ tree) × (limit ≡ tree_limit))
@@ -219,6 +229,8 @@ statuses_of (Reporting file tree) = Done ∷ BadClaim ∷ BadProblem ∷ BadTree
 statuses_of (Json file tree) = Done ∷ BadClaim ∷ BadProblem ∷ BadTree ∷ Memory ∷ []
 statuses_of (Ranging file tree kind name budget) =
     Done ∷ BadClaim ∷ Spent ∷ Past ∷ BadProblem ∷ BadTree ∷ NotBest ∷ UnknownName ∷ Memory ∷ []
+statuses_of (RangingAll file tree budget) =
+    Done ∷ BadClaim ∷ BadProblem ∷ BadTree ∷ NotBest ∷ Memory ∷ []
 statuses_of (Planning file plan budget) = Done ∷ Spent ∷ Past ∷ BadPlan ∷ BadProblem ∷ Memory ∷ []
 statuses_of (Parting file inside outside budget) =
     Done ∷ Spent ∷ Past ∷ BadNode ∷ BadProblem ∷ Memory ∷ []
@@ -229,6 +241,7 @@ statuses_of (Merging file tree parts) =
 statuses_of (Solving file budget) = Done ∷ Spent ∷ Past ∷ BadProblem ∷ Memory ∷ []
 statuses_of (Showing file budget) = Done ∷ Spent ∷ Past ∷ BadProblem ∷ Memory ∷ []
 statuses_of (Ranking file count budget) = Done ∷ Spent ∷ Past ∷ BadProblem ∷ Memory ∷ []
+statuses_of (Alternatives file count budget) = Done ∷ Spent ∷ Past ∷ BadProblem ∷ Memory ∷ []
 statuses_of (Trial number units budget) = Done ∷ Spent ∷ Past ∷ Memory ∷ []
 statuses_of command = Done ∷ Memory ∷ []
 
@@ -256,6 +269,7 @@ abbrev pub SearchCanFinish : (List ℕ → Told) → Command → Type 0
 SearchCanFinish held (Solving name budget) = OnGiven (CanFinish budget) held name
 SearchCanFinish held (Showing name budget) = OnGiven (CanFinish budget) held name
 SearchCanFinish held (Ranking name count budget) = OnGiven (CanFinish budget) held name
+SearchCanFinish held (Alternatives name count budget) = OnGiven (CanFinish budget) held name
 SearchCanFinish held (Trial number units budget) = CanFinish budget (generated number units)
 SearchCanFinish held (Parting name inside outside budget) = OnGiven (CanFinish budget) held name
 SearchCanFinish held (PartingAgainst name inside outside budget tree) =

@@ -34,13 +34,14 @@ pub data Command : Type 0 where
   Reporting : List ℕ → List ℕ → Command
   Json : List ℕ → List ℕ → Command
   Ranging : List ℕ → List ℕ → SpotKind → List ℕ → ℕ → Command
+  RangingAll : List ℕ → List ℕ → ℕ → Command
   Planning : List ℕ → List ℕ → ℕ → Command
   Parting : List ℕ → List ℕ → List ℕ → ℕ → Command
   PartingAgainst : List ℕ → List ℕ → List ℕ → ℕ → List ℕ → Command
   Merging : List ℕ → List ℕ → List (List ℕ) → Command
   Solving : List ℕ → ℕ → Command
   Showing : List ℕ → ℕ → Command
-  Ranking : List ℕ → ℕ → ℕ → Command
+  Ranking Alternatives : List ℕ → ℕ → ℕ → Command
   Trial : ℕ → ℕ → ℕ → Command
   Telling : List ℕ → Command
 
@@ -125,6 +126,11 @@ abbrev pub ranked_by : List ℕ → Option ℕ → Option ℕ → Option Command
 ranked_by file (Some count) (Some budget) = Some (Ranking file count budget)
 ranked_by file count budget = None
 
+-- and so are the best of those that differ
+abbrev pub alternatives_by : List ℕ → Option ℕ → Option ℕ → Option Command
+alternatives_by file (Some count) (Some budget) = Some (Alternatives file count budget)
+alternatives_by file count budget = None
+
 -- KIND: what is varied, a price or a cost
 abbrev pub kind_of : List ℕ → Option SpotKind
 kind_of kind =
@@ -152,6 +158,7 @@ with_file word file second =
     else if bytes_eq word (codes "report") then Some (Reporting file second)
     else if bytes_eq word (codes "json") then Some (Json file second)
     else if bytes_eq word (codes "periods") then Some (Planning file second full_budget)
+    else if bytes_eq word (codes "stable") then Some (RangingAll file second full_budget)
     else None
 
 -- the commands of a file and one more word
@@ -163,6 +170,8 @@ on_file word file second =
     else if bytes_eq word (codes "solve") then option_map (Solving file) (budget_of second)
     else if bytes_eq word (codes "show") then option_map (Showing file) (budget_of second)
     else if bytes_eq word (codes "rank") then ranked_by file (rank_count_of second)
+    (Some full_budget)
+    else if bytes_eq word (codes "alternatives") then alternatives_by file (rank_count_of second)
     (Some full_budget)
     else if are_files (file ∷ second ∷ []) then with_file word file second
     else None
@@ -249,7 +258,11 @@ form_of (word ∷ first ∷ second ∷ third ∷ []) =
     (Listing first second) (count_of third)
     else if bytes_eq word (codes "periods") && are_files (first ∷ second ∷ []) then option_map
     (Planning first second) (budget_of third)
+    else if bytes_eq word (codes "stable") && are_files (first ∷ second ∷ []) then option_map
+    (RangingAll first second) (budget_of third)
     else if bytes_eq word (codes "rank") && is_file_word first then ranked_by first
+    (rank_count_of second) (budget_of third)
+    else if bytes_eq word (codes "alternatives") && is_file_word first then alternatives_by first
     (rank_count_of second) (budget_of third)
     else if bytes_eq word (codes "part") && is_file_word first then Some
     (Parting first second third full_budget)
@@ -285,6 +298,7 @@ IsFileOf (DrawingNetwork file tree) name = (name ≡ file) ⊎ (name ≡ tree)
 IsFileOf (Reporting file tree) name = (name ≡ file) ⊎ (name ≡ tree)
 IsFileOf (Json file tree) name = (name ≡ file) ⊎ (name ≡ tree)
 IsFileOf (Ranging file tree kind word budget) name = (name ≡ file) ⊎ (name ≡ tree)
+IsFileOf (RangingAll file tree budget) name = (name ≡ file) ⊎ (name ≡ tree)
 IsFileOf (Planning file plan budget) name = (name ≡ file) ⊎ (name ≡ plan)
 IsFileOf (Parting file inside outside budget) name = name ≡ file
 IsFileOf (PartingAgainst file inside outside budget tree) name = (name ≡ file) ⊎ (name ≡ tree)
@@ -292,6 +306,7 @@ IsFileOf (Merging file tree parts) name = (name ≡ file) ⊎ ((name ≡ tree) �
 IsFileOf (Solving file budget) name = name ≡ file
 IsFileOf (Showing file budget) name = name ≡ file
 IsFileOf (Ranking file count budget) name = name ≡ file
+IsFileOf (Alternatives file count budget) name = name ≡ file
 IsFileOf command name = ⊥
 
 -- The numbers of a command are within the bounds of its words. A text of the program is one of
@@ -302,10 +317,13 @@ AreWithin (Migrate file years) = (1 ≤ years) × (years ≤ 100)
 AreWithin (Solving file budget) = (1 ≤ budget) × (budget ≤ 1000000)
 AreWithin (Showing file budget) = (1 ≤ budget) × (budget ≤ 1000000)
 AreWithin (Ranging file tree kind name budget) = (1 ≤ budget) × (budget ≤ 1000000)
+AreWithin (RangingAll file tree budget) = (1 ≤ budget) × (budget ≤ 1000000)
 AreWithin (Planning file plan budget) = (1 ≤ budget) × (budget ≤ 1000000)
 AreWithin (Parting file inside outside budget) = (1 ≤ budget) × (budget ≤ 1000000)
 AreWithin (PartingAgainst file inside outside budget tree) = (1 ≤ budget) × (budget ≤ 1000000)
 AreWithin (Ranking file count budget) =
+    ((1 ≤ count) × (count ≤ 1000)) × ((1 ≤ budget) × (budget ≤ 1000000))
+AreWithin (Alternatives file count budget) =
     ((1 ≤ count) × (count ≤ 1000)) × ((1 ≤ budget) × (budget ≤ 1000000))
 AreWithin (Trial number units budget) =
     ((1 ≤ units) × (units ≤ 128)) × ((1 ≤ budget) × (budget ≤ 1000000))

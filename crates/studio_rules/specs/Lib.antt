@@ -1,3 +1,4 @@
+pub mod Alternates
 pub mod Answers
 pub mod Axioms
 pub mod Best
@@ -52,6 +53,7 @@ pub mod Show
 pub mod Solve
 pub mod Split
 pub mod Stable
+pub mod StableTable
 pub mod Start
 pub mod StructurePages
 pub mod Summary

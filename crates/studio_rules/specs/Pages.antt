@@ -7,7 +7,7 @@ use Rattle.studio_rules.specs.FlowPages.{flows_page, check_page}
 use Rattle.studio_rules.specs.ReportPages.{table_page, report_page, json_page, graph_page}
 use Rattle.studio_rules.specs.ReportPages.{stable_page}
 use Rattle.studio_rules.specs.SearchPages.{solve_page, show_page, trial_page}
-use Rattle.studio_rules.specs.RankPages.{rank_page, rankcheck_page}
+use Rattle.studio_rules.specs.RankPages.{rank_page, alternatives_page, rankcheck_page}
 use Rattle.studio_rules.specs.PartPages.{split_page, part_page, merge_page}
 use Rattle.studio_rules.specs.EditPages.{edit_page, undo_page, migrate_page, make_page}
 use Rattle.studio_rules.specs.PlanPages.{expand_page, periods_page}
@@ -38,6 +38,7 @@ command_page_of topic =
     else if bytes_eq topic (codes "make") then Some make_page
     else if bytes_eq topic (codes "trial") then Some trial_page
     else if bytes_eq topic (codes "rank") then Some rank_page
+    else if bytes_eq topic (codes "alternatives") then Some alternatives_page
     else if bytes_eq topic (codes "rankcheck") then Some rankcheck_page
     else if bytes_eq topic (codes "split") then Some split_page
     else if bytes_eq topic (codes "part") then Some part_page

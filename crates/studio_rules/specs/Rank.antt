@@ -1,8 +1,9 @@
 -- `rank FILE N BUDGET`: the N best networks, each at its least cost, with the tree that proves it.
 -- If the search stopped before its end: the networks that were found and the tree as far as it
 -- came. The lines are those of a rank text.
-use Rattle.std.specs.Prelude.{◌≡◌, ℕ, Bool, true, false, List, Ok}
+use Rattle.std.specs.Prelude.{◌≡◌, ℕ, Bool, true, false, List, Option, None, Ok}
 use Rattle.problem_rules.specs.Problem.{Problem}
+use Rattle.tree_rules.specs.Claim.{Network, CostOver}
 use Rattle.tree_rules.specs.Lean.{IsLean}
 use Rattle.tree_rules.specs.Accepted.{first_node}
 use Rattle.tree_rules.specs.Stops.{IsSpent, IsPast}
@@ -27,33 +28,44 @@ pub record AreTextOf (p : Problem) (t : Text) (lines : List (List ℕ)) : Type 0
   pub text : lines ≡ spelled (rank_text_lines p t)
   pub reads : read_text p (text_of lines) ≡ Ok t
 
--- So many networks were asked for, those that are listed pass, and the lean tree proves the
--- ranking; if it is partial, but for its open leaves.
-pub record Lists (partial : Bool) (count : ℕ) (p : Problem) (t : Text) : Type 0 where
+-- what a branched node of the tree of so many networks has to undercut: in a list of alternatives,
+-- which is distinct, nothing
+abbrev pub lean_cost : Bool → ℕ → List Network → Option CostOver
+lean_cost false count ws = to_undercut count ws
+lean_cost true count ws = None
+
+-- So many networks were asked for, as a list of alternatives or not. Those that are listed pass,
+-- and the lean tree proves the ranking; if it is partial, but for its open leaves.
+pub record Lists (distinct partial : Bool) (count : ℕ) (p : Problem) (t : Text) : Type 0 where
   pub count_is : t.count ≡ count
+  pub kind_is : t.distinct ≡ distinct
   pub proves : Proves partial p (ranking_of t)
-  pub lean : IsLean p IsOpenLeaf (to_undercut t.count t.networks) first_node (marked t.marks t.tree)
+  pub lean : IsLean p IsOpenLeaf (lean_cost distinct t.count t.networks) first_node
+      (marked t.marks t.tree)
 
 -- The tree proves the ranking. No flows for the units of a listed network cost less than it. No
 -- other clash-free solution structure, with any flows, costs less than the last one; if fewer are
 -- listed than were asked for, none of the others has flows.
 pub record Ranks (count : ℕ) (p : Problem) (t : Text) : Type 0 where
-  pub lists : Lists false count p t
+  pub lists : Lists false false count p t
   pub best : AreBest p t.count t.networks
 
--- What a ranking is by its tail. The budget is spent only if it is below twice the number of sets
--- of units of the maximal structure. A number overflows only on the path of the program of its
--- node.
-abbrev pub Holds : ℕ → ℕ → Problem → Text → Tail → Type 0
-Holds count budget p t whole = Ranks count p t
-Holds count budget p t (spent next options) =
-    Lists true count p t
-    × IsSpent p IsOpenLeaf (to_undercut t.count t.networks) first_node (marked t.marks t.tree)
-    next options budget × IsBelowLimit p budget
-Holds count budget p t (past node nonbasic place) =
-    Lists true count p t
+-- What a list is by its tail; if its search ended, what it is as a whole. The budget is spent only
+-- if it is below twice the number of sets of units of the maximal structure. A number overflows
+-- only on the path of the program of its node.
+abbrev pub HoldsAs : Bool → Type 0 → ℕ → ℕ → Problem → Text → Tail → Type 0
+HoldsAs distinct Whole count budget p t whole = Whole
+HoldsAs distinct Whole count budget p t (spent next options) =
+    Lists distinct true count p t
+    × IsSpent p IsOpenLeaf (lean_cost distinct t.count t.networks) first_node
+    (marked t.marks t.tree) next options budget × IsBelowLimit p budget
+HoldsAs distinct Whole count budget p t (past node nonbasic place) =
+    Lists distinct true count p t
     × IsPast p IsOpenLeaf first_node (marked t.marks t.tree) (λ n. IsPastAt p n nonbasic place)
     node
+
+abbrev pub Holds : ℕ → ℕ → Problem → Text → Tail → Type 0
+Holds count budget p t = HoldsAs false (Ranks count p t) count budget p t
 
 abbrev pub RankWork : ℕ → ℕ → Problem → Status → List (List ℕ) → Type 0
 RankWork count budget p status lines =

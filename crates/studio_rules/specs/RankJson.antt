@@ -1,6 +1,6 @@
--- `json FILE TEXT` on a ranking: what its tree proves of the networks, the networks, and the facts
--- of the first, as one JSON object for programs.
-use Rattle.std.specs.Prelude.{◌≡◌, ℕ, List, [], ◌∷◌, codes, decimal}
+-- `json FILE TEXT` on a ranking, or on a list of alternatives, which is distinct: what its tree
+-- proves of the networks, these, and the facts of the first, as one JSON object for programs.
+use Rattle.std.specs.Prelude.{◌≡◌, ℕ, Bool, true, false, List, [], ◌∷◌, codes, decimal}
 use Rattle.problem_rules.specs.Problem.{Problem}
 use Rattle.rank_rules.specs.Ranked.{Ranking}
 use Rattle.rank_rules.specs.Text.{Text, ranking_of}
@@ -8,6 +8,7 @@ use Rattle.report_rules.specs.declared.rank_verdict.RankVerdict.{RankVerdict}
 use Rattle.report_rules.specs.declared.rank_verdict.RankVerdict.TheVariants.{Proved, Unfinished}
 use Rattle.report_rules.specs.declared.rank_verdict.RankVerdict.TheVariants.{Fails}
 use Rattle.report_rules.specs.RankVerdict.{IsRankVerdict}
+use Rattle.report_rules.specs.Marginal.{Marginals, AreFirstMarginals}
 use Rattle.json_rules.specs.Json.{quoted, null, member}
 use Rattle.json_rules.specs.Facts.{text_member, count_member}
 use Rattle.json_rules.specs.Ranked.{networks_member, lines_behind}
@@ -32,21 +33,31 @@ rank_why_json Proved = null
 rank_why_json (Unfinished node) = quoted (codes "open")
 rank_why_json (Fails node why) = quoted (rank_why_word why)
 
+abbrev pub claim_word : Bool → List ℕ
+claim_word false = codes "ranking"
+claim_word true = codes "alternatives"
+
 -- with how many networks were asked for, and those that were found
 abbrev pub rank_head : Problem → Ranking → RankVerdict → List (List ℕ)
 rank_head p r verdict =
     text_member (codes "verdict") (rank_verdict_word verdict)
     ∷ member (codes "node") (rank_node_json verdict)
-    ∷ member (codes "why") (rank_why_json verdict) ∷ text_member (codes "claim") (codes "ranking")
+    ∷ member (codes "why") (rank_why_json verdict)
+    ∷ text_member (codes "claim") (claim_word r.distinct)
     ∷ count_member (codes "asked") r.count ∷ networks_member p r.networks ∷ []
 
-abbrev pub rank_json_lines : Problem → Ranking → RankVerdict → List (List ℕ)
-rank_json_lines p r verdict = lines_behind (rank_head p r verdict) p r.networks
+abbrev pub rank_json_lines : Problem → Marginals → Ranking → RankVerdict → List (List ℕ)
+rank_json_lines p m r verdict = lines_behind (rank_head p r verdict) p m r.networks
+
+-- the lines say the verdict, with marginals that are right for the first network
+abbrev pub RankFactsSay : Problem → Ranking → RankVerdict → List (List ℕ) → Type 0
+RankFactsSay p r verdict lines = (m : Marginals) × AreFirstMarginals p r.networks m
+    × (lines ≡ rank_json_lines p m r verdict)
 
 -- the verdict is that on the tree: `proved` exactly if `rankcheck` accepts the ranking
 abbrev pub RankJsonSays : Problem → Ranking → List (List ℕ) → Type 0
 RankJsonSays p r lines = (verdict : RankVerdict) × IsRankVerdict p r verdict
-    × (lines ≡ rank_json_lines p r verdict)
+    × RankFactsSay p r verdict lines
 
 abbrev pub RankJsonWork : Problem → Text → Status → List (List ℕ) → Type 0
 RankJsonWork p t Done lines = RankJsonSays p (ranking_of t) lines

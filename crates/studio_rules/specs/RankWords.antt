@@ -2,13 +2,16 @@
 use Rattle.std.specs.Prelude.{ℕ, List, ◌∷◌, ◌++◌, codes, decimal}
 use Rattle.studio_rules.specs.RefusalWords.{why_word}
 use Rattle.rank_rules.specs.declared.why.RankWhy.{RankWhy}
-use Rattle.rank_rules.specs.declared.why.RankWhy.TheVariants.{Plain, Order, Named}
+use Rattle.rank_rules.specs.declared.why.RankWhy.TheVariants.{Plain, Order, Contains}
+use Rattle.rank_rules.specs.declared.why.RankWhy.TheVariants.{Named, Over}
 
 -- the word for a cause
 abbrev pub rank_why_word : RankWhy → List ℕ
 rank_why_word (Plain why) = why_word why
 rank_why_word Order = codes "order"
+rank_why_word Contains = codes "contains"
 rank_why_word Named = codes "named"
+rank_why_word Over = codes "over"
 
 -- networks are counted from 1
 abbrev pub network_line : ℕ → RankWhy → List ℕ

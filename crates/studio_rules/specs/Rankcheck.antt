@@ -1,6 +1,7 @@
--- `rankcheck FILE RANK`: whether the tree of a ranking proves it, or else the first network, or the
--- first node, that fails, with its cause.
-use Rattle.std.specs.Prelude.{◌≡◌, ◌⊎◌, ◌≤◌, ◌<◌, ℕ, ℤ, Bool, false, List, [], ◌∷◌, Some, Ok, Err}
+-- `rankcheck FILE RANK`: whether the tree of a ranking, or of a list of alternatives, proves it, or
+-- else the first network, or the first node, that fails, with its cause.
+use Rattle.std.specs.Prelude.{◌≡◌, ◌⊎◌, ◌≤◌, ◌<◌, ℕ, ℤ, Bool, true, false, List, [], ◌∷◌, Some, Ok}
+use Rattle.std.specs.Prelude.{Err}
 use Rattle.std.specs.Prelude.{length, codes}
 use Rattle.text_rules.specs.Outside.{Told}
 use Rattle.number_sets.specs.Sets.{has}
@@ -14,6 +15,7 @@ use Rattle.tree_rules.specs.Claim.{Network}
 use Rattle.tree_rules.specs.Costs.{CostsEnough}
 use Rattle.rank_rules.specs.declared.why.RankWhy.{RankWhy}
 use Rattle.rank_rules.specs.Networks.{cost_of, numbered, last_cost, IsListed, ArePassing}
+use Rattle.rank_rules.specs.Alternatives.{IsRight}
 use Rattle.rank_rules.specs.Ranked.{Ranking, IsRanked, NetworkIsFault, NodeIsFault}
 use Rattle.rank_rules.specs.Text.{Text, ranking_of}
 use Rattle.tree_text_rules.specs.declared.TreeKind.{TreeKind}
@@ -52,7 +54,7 @@ abbrev pub IsRefused : Problem → Ranking → List (List ℕ) → Type 0
 IsRefused p r lines =
     ((number : ℕ) × (why : RankWhy) × NetworkIsFault p r number why
     × (lines ≡ network_line number why ∷ []))
-    ⊎ (ArePassing p [] r.networks
+    ⊎ (ArePassing r.distinct p [] r.networks
     × ((node : ℕ) × (why : RankWhy) × NodeIsFault false p r node why
     × (lines ≡ rank_node_line node why ∷ [])))
 
@@ -76,7 +78,7 @@ OnRank held name = OnSecond (RankcheckSays name) held name
 pub record AreBest (p : Problem) (count : ℕ) (ws : List Network) : Type 0 where
   -- The networks are clash-free solution structures with flows of their costs, which do not fall.
   -- No two have the same units.
-  pub pass : ArePassing p [] ws
+  pub pass : ArePassing false p [] ws
   -- no flows for the units of one cost less than it
   pub least : (k : ℕ) (w : Network) → numbered k ws ≡ Some w
       → CostsEnough p (Some (cost_of w)) (has w.units)
@@ -89,7 +91,8 @@ pub record AreBest (p : Problem) (count : ℕ) (ws : List Network) : Type 0 wher
       → IsAllowed (shape_of p) s → (IsListed ws s → ⊥) → (z : ℕ → ℤ) (d : ℤ)
       → IsFlows (net_of p) s z d → ⊥
 
--- FILE gives a valid problem, RANK a ranking for it, and its networks are the best
+-- FILE gives a valid problem, RANK a ranking for it, and its networks are the best; or RANK is a
+-- list of alternatives, which is right
 pub record FilesListBest (held : List ℕ → Told) (file rank : List ℕ) : Type 0 where
   pub problem_text : List ℕ
   pub problem_held : AreHeld (held file) problem_text
@@ -100,9 +103,10 @@ pub record FilesListBest (held : List ℕ → Told) (file rank : List ℕ) : Typ
   pub rank_held : AreHeld (held rank) rank_text
   pub text : Text
   pub gives_ranking : GivesRanking problem rank_text text
-  pub best : AreBest problem text.count text.networks
+  pub best : text.distinct ≡ false → AreBest problem text.count text.networks
+  pub right : text.distinct ≡ true → IsRight problem text.count text.networks
 
--- if `rankcheck FILE RANK` answers with status 0, RANK lists the best networks
+-- if `rankcheck FILE RANK` answers with status 0, RANK lists the best networks, or alternatives
 abbrev pub AcceptedAreBest : Type 0
 AcceptedAreBest =
     (held : List ℕ → Told) (file rank : List ℕ) (lines : List (List ℕ))

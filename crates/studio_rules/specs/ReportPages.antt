@@ -42,12 +42,16 @@ report_page =
     codes "Says what the tree proves, and shows the network of its claim to people: units," ∷
     codes "materials and money in one year." ∷
     codes "  FILE  the plant, PNS_problem_v1" ∷
-    codes "  TREE  a tree text, as solve prints it, or a ranking, as rank prints it" ∷
+    codes "  TREE  a tree text, as solve prints it, or a rank text, as rank prints it" ∷
     codes "Prints a line that begins with PROVED (check accepts the tree), NOT FINISHED" ∷
     codes "(nodes are open) or NOT PROVED (node N fails, and why); then a table of units," ∷
     codes "one of materials and one of sums. Costs are above 0, incomes below; numbers with" ∷
     codes "more than 6 digits show 6. limit names the bound that an amount is at: max, min," ∷
     codes "fixed (both), idle (built, but of size 0), or UNBOUNDED?, at 1000000000." ∷
+    codes "marginal is what one more of a net amount costs while these units stay. Above 0" ∷
+    codes "one more of a demand costs it, and one more of a raw material at max saves it;" ∷
+    codes "below 0 one more of a limit, as on CO2, saves it; 0 for a by-product left over." ∷
+    codes "For a unit it is what one more of its size saves. It is - if a number overflows." ∷
     codes "NOT FINISHED says, if each open node has a bound, what no network costs less" ∷
     codes "than (rounded down), and the gap to the best one in per cent (rounded up)." ∷
     codes "If no network meets the bounds, those that clash follow: what the multipliers of" ∷
@@ -73,15 +77,16 @@ json_page =
     codes "pns json FILE TREE" ∷
     codes "Says what pns report says, as one JSON object for programs." ∷
     codes "  FILE  the plant, PNS_problem_v1" ∷
-    codes "  TREE  a tree text, as solve prints it, or a ranking, as rank prints it" ∷
+    codes "  TREE  a tree text, as solve prints it, or a rank text, as rank prints it" ∷
     codes "Prints the keys verdict (proved, not finished or not proved, then with the node" ∷
-    codes "that fails and why) and claim; if the claim has a network, also counts," ∷
-    codes "payout_period, units, materials, money, paid_once and left_out. Each number is" ∷
-    codes "there twice: value has 17 digits, exact is a fraction; both are null if it" ∷
-    codes "overflows 128 bits. A line has one unit or one material." ∷
-    codes "Of a ranking claim is ranking, asked says how many were wanted, and networks has" ∷
-    codes "place, cost, above, share_above, taken_in, left_out, idle of each. The keys from" ∷
-    codes "counts on are those of the best one." ∷
+    codes "that fails and why) and claim; of a tree low and gap, the lower bound and the" ∷
+    codes "gap of pns report, a fraction here, or null; if the claim has a network, also" ∷
+    codes "counts, payout_period, units, materials, money, paid_once and left_out. Each" ∷
+    codes "number is there twice: value has 17 digits, exact is a fraction; both are null" ∷
+    codes "if it overflows 128 bits. A line has one unit or one material." ∷
+    codes "Of a rank text claim is ranking or alternatives, asked says how many were" ∷
+    codes "wanted, and networks has place, cost, above, share_above, taken_in, left_out," ∷
+    codes "idle of each. The keys from counts on are those of the best one." ∷
     codes "Ends with" ∷
     codes "  0   The whole text was printed. The verdict says what is proved." ∷
     codes "  1   refused claim WHY, refused network K WHY: as of pns report" ∷
@@ -124,10 +129,7 @@ abbrev pub stable_ends : List (List ℕ)
 stable_ends =
     codes "Ends with" ∷
     codes "  0   The whole text was printed." ∷
-    codes "  1   refused claim WHY: the claim has no network (unknown), or its network" ∷
-    codes "      breaks an axiom (axiom) or an exclusion (exclusion), or its sizes break a" ∷
-    codes "      bound (flows), or its cost is wrong (cost), or a number is too large" ∷
-    codes "      (sum). Is FILE the plant that TREE was made for?" ∷
+    codes "  1   refused claim WHY: as in pns help report." ∷
     codes "  4   at V, then a tree text or a place line: a number overflowed 128 bits; the" ∷
     codes "      plant need not be wrong. Write rates and costs with fewer digits, or" ∷
     codes "      tighter bounds and capacities, and call again." ∷
@@ -148,8 +150,9 @@ stable_ends =
 unfoldable pub stable_page : List (List ℕ)
 stable_page =
     codes "pns stable FILE TREE KIND NAME [BUDGET]" ∷
+    codes "pns stable FILE TREE [BUDGET]" ∷
     codes "Finds how far one price or cost may move while the network of the claim still" ∷
-    codes "costs least." ∷
+    codes "costs least. Without KIND and NAME: each price and each cost of the network." ∷
     codes "  FILE    the plant, PNS_problem_v1" ∷
     codes "  TREE    a tree text, as solve prints it" ∷
     codes "  KIND    price, fix or proportional" ∷
@@ -157,5 +160,7 @@ stable_page =
     codes "  BUDGET  the most nodes, 1 to 1000000; 10k is 10000; 1M if it is left out" ∷
     codes "Prints from V, then below and a network that is cheaper under V, or below limit;" ∷
     codes "to V, then above in the same way. V is in millionths." ∷
+    codes "Without KIND and NAME it prints a table with numbers as in FILE: the two ends," ∷
+    codes "or limit for the limit of the values, or ? if a search stopped." ∷
     codes "Standard error shows how far it is, unless PNS_QUIET is set." ∷
     stable_ends

@@ -16,11 +16,13 @@ use Rattle.studio_rules.specs.Command.{Editing, Undoing, Checking, RankChecking,
 use Rattle.studio_rules.specs.Command.{Telling, is_help_word, is_version_word, is_page_word}
 use Rattle.studio_rules.specs.Command.{or_else, page_asked, merging_of, form_of, command_of}
 use Rattle.studio_rules.specs.Command.{of_file, on_file, with_file, made_by, tried_by, ranged_by}
-use Rattle.studio_rules.specs.Command.{ranked_by, kind_of, unit_names_of, count_of, seed_of}
+use Rattle.studio_rules.specs.Command.{ranked_by, alternatives_by, kind_of, unit_names_of}
+use Rattle.studio_rules.specs.Command.{count_of, seed_of}
 use Rattle.studio_rules.specs.Command.{unit_count_of, years_of, rank_count_of, budget_of}
 use Rattle.studio_rules.specs.Command.{full_budget, is_file_word, are_files, AreWithin, Table}
 use Rattle.studio_rules.specs.Command.{Splitting, Expanding, Drawing, DrawingNetwork, Reporting}
 use Rattle.studio_rules.specs.Command.{Json, Planning, Parting, PartingAgainst, Merging}
+use Rattle.studio_rules.specs.Command.{RangingAll}
 use Rattle.stability_rules.specs.declared.spot.SpotKind.{SpotKind}
 
 numeral_within : (least most : ℕ) (word : List ℕ)
@@ -117,6 +119,12 @@ planning_within : (file plan : List ℕ) (budget : Option ℕ)
 planning_within file plan None p = tt
 planning_within file plan (Some budget) p = p
 
+ranging_within : (file tree : List ℕ) (budget : Option ℕ)
+    → IfSome budget (λ n. (1 ≤ n) × (n ≤ 1000000))
+    → IfSome (option_map (RangingAll file tree) budget) AreWithin
+ranging_within file tree None p = tt
+ranging_within file tree (Some budget) p = p
+
 parting_within : (file inside outside : List ℕ) (budget : Option ℕ)
     → IfSome budget (λ n. (1 ≤ n) × (n ≤ 1000000))
     → IfSome (option_map (Parting file inside outside) budget) AreWithin
@@ -142,6 +150,13 @@ ranked_within file None budget p q = tt
 ranked_within file (Some count) None p q = tt
 ranked_within file (Some count) (Some budget) p q = (p, q)
 
+alternatives_within : (file : List ℕ) (count budget : Option ℕ)
+    → IfSome count (λ n. (1 ≤ n) × (n ≤ 1000)) → IfSome budget (λ n. (1 ≤ n) × (n ≤ 1000000))
+    → IfSome (alternatives_by file count budget) AreWithin
+alternatives_within file None budget p q = tt
+alternatives_within file (Some count) None p q = tt
+alternatives_within file (Some count) (Some budget) p q = (p, q)
+
 listing_within : (file after : List ℕ) (count : Option ℕ)
     → IfSome (option_map (Listing file after) count) AreWithin
 listing_within file after None = tt
@@ -164,8 +179,10 @@ with_file_within word file second =
     (either_within (bytes_eq word (codes "graph")) (Some (DrawingNetwork file second)) _ tt
     (either_within (bytes_eq word (codes "report")) (Some (Reporting file second)) _ tt
     (either_within (bytes_eq word (codes "json")) (Some (Json file second)) _ tt
-    (either_within (bytes_eq word (codes "periods")) (Some (Planning file second full_budget)) None
-    full_within tt)))))))))))
+    (either_within (bytes_eq word (codes "periods")) (Some (Planning file second full_budget)) _
+    full_within
+    (either_within (bytes_eq word (codes "stable")) (Some (RangingAll file second full_budget)) None
+    full_within tt))))))))))))
 
 on_file_within : (word file second : List ℕ) → IfSome (on_file word file second) AreWithin
 on_file_within word file second =
@@ -183,8 +200,12 @@ on_file_within word file second =
     (ranked_by file (rank_count_of second) (Some full_budget)) _
     (ranked_within file (rank_count_of second) (Some full_budget) (numeral_within 1 1000 second)
     full_within)
+    (either_within (bytes_eq word (codes "alternatives"))
+    (alternatives_by file (rank_count_of second) (Some full_budget)) _
+    (alternatives_within file (rank_count_of second) (Some full_budget)
+    (numeral_within 1 1000 second) full_within)
     (either_within (are_files (file ∷ second ∷ [])) (with_file word file second) None
-    (with_file_within word file second) tt))))))
+    (with_file_within word file second) tt)))))))
 
 of_file_within : (word file : List ℕ) → IfSome (of_file word file) AreWithin
 of_file_within word file =
@@ -226,12 +247,19 @@ forms_within (word ∷ first ∷ second ∷ third ∷ []) =
     (either_within (bytes_eq word (codes "periods") && are_files (first ∷ second ∷ []))
     (option_map (Planning first second) (budget_of third)) _
     (planning_within first second (budget_of third) (budget_within third))
+    (either_within (bytes_eq word (codes "stable") && are_files (first ∷ second ∷ []))
+    (option_map (RangingAll first second) (budget_of third)) _
+    (ranging_within first second (budget_of third) (budget_within third))
     (either_within (bytes_eq word (codes "rank") && is_file_word first)
     (ranked_by first (rank_count_of second) (budget_of third)) _
     (ranked_within first (rank_count_of second) (budget_of third) (numeral_within 1 1000 second)
     (budget_within third))
+    (either_within (bytes_eq word (codes "alternatives") && is_file_word first)
+    (alternatives_by first (rank_count_of second) (budget_of third)) _
+    (alternatives_within first (rank_count_of second) (budget_of third)
+    (numeral_within 1 1000 second) (budget_within third))
     (either_within (bytes_eq word (codes "part") && is_file_word first)
-    (Some (Parting first second third full_budget)) None full_within tt))))
+    (Some (Parting first second third full_budget)) None full_within tt))))))
 forms_within (word ∷ first ∷ second ∷ third ∷ fourth ∷ []) =
     either_within (bytes_eq word (codes "part") && is_file_word first)
     (option_map (Parting first second third) (budget_of fourth)) _

@@ -12,6 +12,7 @@ use Rattle.studio_words.specs.declared.command.Command.TheVariants.{Drawing, Dra
 use Rattle.studio_words.specs.declared.command.Command.TheVariants.{Reporting, Json, Ranging}
 use Rattle.studio_words.specs.declared.command.Command.TheVariants.{Planning, Parting}
 use Rattle.studio_words.specs.declared.command.Command.TheVariants.{PartingAgainst, Merging}
+use Rattle.studio_words.specs.declared.command.Command.TheVariants.{Alternatives, RangingAll}
 
 abbrev pub command_view : Command → rules.Command
 command_view (Max file) = rules.Max file.now
@@ -34,6 +35,7 @@ command_view (Reporting file tree) = rules.Reporting file.now tree.now
 command_view (Json file tree) = rules.Json file.now tree.now
 command_view (Ranging file tree kind name budget) =
     rules.Ranging file.now tree.now kind name.now budget
+command_view (RangingAll file tree budget) = rules.RangingAll file.now tree.now budget
 command_view (Planning file plan budget) = rules.Planning file.now plan.now budget
 command_view (Parting file inside outside budget) =
     rules.Parting file.now inside.now outside.now budget
@@ -44,5 +46,6 @@ command_view (Merging file tree parts) =
 command_view (Solving file budget) = rules.Solving file.now budget
 command_view (Showing file budget) = rules.Showing file.now budget
 command_view (Ranking file count budget) = rules.Ranking file.now count budget
+command_view (Alternatives file count budget) = rules.Alternatives file.now count budget
 command_view (Trial number units budget) = rules.Trial number units budget
 command_view (Telling text) = rules.Telling text.now

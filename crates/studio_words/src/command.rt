@@ -2,10 +2,12 @@
 ghost use Rattle.std.specs.Prelude.{◌≡◌, ◌∷◌, [], IfOk, map, option_map, string_bytes};
 ghost use Rattle.studio_rules.specs.Command.{command_of, form_of, of_file, on_file, with_file};
 ghost use Rattle.studio_rules.specs.Command.{made_by, tried_by, ranged_by, ranked_by, page_asked};
+ghost use Rattle.studio_rules.specs.Command.{alternatives_by};
 ghost use Rattle.studio_rules.specs.Command.{unit_names_of, count_of, seed_of, unit_count_of};
 ghost use Rattle.studio_rules.specs.Command.{years_of, rank_count_of, budget_of, kind_of};
 ghost use Rattle.studio_rules.specs.Command.{alone, Axioms, Flows, Listing, Migrate, Solving};
 ghost use Rattle.studio_rules.specs.Command.{Showing, Planning, Parting, PartingAgainst, Telling};
+ghost use Rattle.studio_rules.specs.Command.{RangingAll};
 ghost use Rattle.studio_rules.specs.Pages.{page_text};
 ghost use Rattle.studio_words.specs.View.{command_view};
 
@@ -39,6 +41,7 @@ pub enum Command<'a> {
     Reporting(&'a str, &'a str),
     Json(&'a str, &'a str),
     Ranging(&'a str, &'a str, SpotKind, &'a str, u64),
+    RangingAll(&'a str, &'a str, u64),
     Planning(&'a str, &'a str, u64),
     Parting(&'a str, &'a str, &'a str, u64),
     PartingAgainst(&'a str, &'a str, &'a str, u64, &'a str),
@@ -46,6 +49,7 @@ pub enum Command<'a> {
     Solving(&'a str, u64),
     Showing(&'a str, u64),
     Ranking(&'a str, u64, u64),
+    Alternatives(&'a str, u64, u64),
     Trial(u64, u64, u64),
     /// A text of the program itself: help, or the version.
     Telling(&'static [u8]),
@@ -246,6 +250,8 @@ fn on_file<'a>(
         Ok(show_of(file, second))
     } else if word == "rank" {
         Ok(ranked_by(file, second, Some(MOST_NODES)))
+    } else if word == "alternatives" {
+        Ok(alternatives_by(file, second, Some(MOST_NODES)))
     } else if are_both_files(file, second) {
         Ok(with_file(word, file, second))
     } else {
@@ -304,6 +310,7 @@ fn with_file<'a>(word: &str, file: &'a str, second: &'a str) -> Option<Command<'
         "report" => Some(Command::Reporting(file, second)),
         "json" => Some(Command::Json(file, second)),
         "periods" => Some(Command::Planning(file, second, MOST_NODES)),
+        "stable" => Some(Command::RangingAll(file, second, MOST_NODES)),
         _ => None,
     }
 }
@@ -318,8 +325,12 @@ fn of_four<'a>(word: &str, first: &'a str, second: &'a str, third: &'a str) -> O
         listing_of(first, second, third)
     } else if word == "periods" && are_both_files(first, second) {
         planning_of(first, second, third)
+    } else if word == "stable" && are_both_files(first, second) {
+        ranging_of(first, second, third)
     } else if word == "rank" && !first.is_empty() {
         ranked_by(first, second, budget_of(third))
+    } else if word == "alternatives" && !first.is_empty() {
+        alternatives_by(first, second, budget_of(third))
     } else if word == "part" && !first.is_empty() {
         Some(Command::Parting(first, second, third, MOST_NODES))
     } else {
@@ -374,6 +385,14 @@ fn planning_of<'a>(file: &'a str, plan: &'a str, budget: &str) -> Option<Command
     Some(Command::Planning(file, plan, budget))
 }
 
+fn ranging_of<'a>(file: &'a str, tree: &'a str, budget: &str) -> Option<Command<'a>>
+    ensures { option_map command_view result
+        ≡ option_map (RangingAll file.now tree.now) (budget_of budget.now) }
+{
+    let budget = budget_of(budget)?;
+    Some(Command::RangingAll(file, tree, budget))
+}
+
 /// The most networks that one call ranks.
 const MOST_RANKED: u64 = 1_000;
 
@@ -389,6 +408,14 @@ fn ranked_by<'a>(file: &'a str, count: &str, budget: Option<u64>) -> Option<Comm
 {
     let count = rank_count_of(count)?;
     Some(Command::Ranking(file, count, budget?))
+}
+
+fn alternatives_by<'a>(file: &'a str, count: &str, budget: Option<u64>) -> Option<Command<'a>>
+    ensures { option_map command_view result
+        ≡ alternatives_by file.now (rank_count_of count.now) budget }
+{
+    let count = rank_count_of(count)?;
+    Some(Command::Alternatives(file, count, budget?))
 }
 
 fn parting_of<'a>(

@@ -49,8 +49,12 @@ class Report:
 
     `verdict` is `proved`, `not finished` or `not proved`; in the last case `node` is the first node
     that fails, from 0 in preorder, and `why` its cause. `claim` is `network`, `infeasible` or
-    `unknown`. Without a network all that follows is empty. A row is a dictionary, a number in it is
-    a Fraction, or None where it overflows 128 bits. Money is for one year, costs are above 0.
+    `unknown`. Without a network all from `counts` to `left_out` is empty. A row is a dictionary, a
+    number in it is a Fraction, or None where it overflows 128 bits. Money is for one year, costs
+    are above 0.
+
+    Of a tree that is not finished `low` is what no network costs less than, and `gap` is how far
+    the network is above that, over the size of its cost; each is None if it is not known.
     """
 
     verdict: str
@@ -64,6 +68,8 @@ class Report:
     money: Mapping[str, Optional[Fraction]] = field(default_factory=dict)
     paid_once: Optional[Fraction] = None
     left_out: Tuple[str, ...] = ()
+    low: Optional[Fraction] = None
+    gap: Optional[Fraction] = None
 
     @property
     def proved(self) -> bool:
@@ -80,6 +86,7 @@ class Report:
             tuple(_row("material", it) for it in facts.get("materials", ())),
             {key: _exact(it) for key, it in facts.get("money", {}).items()},
             _exact(facts.get("paid_once")), tuple(facts.get("left_out", ())),
+            _exact(facts.get("low")), _exact(facts.get("gap")),
         )
 
     def unit_table(self, exact: bool = False) -> Any:

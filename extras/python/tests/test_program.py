@@ -168,8 +168,9 @@ class Reports(unittest.TestCase):
         self.assertEqual(found.counts["units"], 2)
         self.assertEqual(found.units[0], {
             "unit": "U1", "size": 20, "share": Fraction(1, 5), "limit": None, "fixed": 10,
-            "proportional": 20, "investment": 0, "total": 30,
+            "proportional": 20, "investment": 0, "total": 30, "marginal": 0,
         })
+        self.assertEqual([row["marginal"] for row in found.materials], [0, 3, 3])
         self.assertEqual(found.materials[2]["limit"], "fixed")
         self.assertEqual((found.money["material_costs"], found.money["total"]), (40, 75))
         self.assertEqual((found.paid_once, found.left_out), (0, ("U2", "U4", "U5")))
@@ -180,11 +181,21 @@ class Reports(unittest.TestCase):
         self.assertEqual(best.report.paid_once, best.report.money["investment"] * 8)
         self.assertEqual(best.report.money["total"], best.cost)
 
+    def test_a_lower_bound(self):
+        tree = pns.solve(SHIPPED).tree
+        proved = pns.report(SHIPPED, tree)
+        self.assertEqual((proved.low, proved.gap), (None, None))
+        lines = tree.replace("bound 1 0 3000000 3000000", "open 1 0 3000000 2900000", 1)
+        found = pns.report(SHIPPED, lines)
+        self.assertEqual(found.verdict, "not finished")
+        self.assertEqual((found.low, found.gap), (73, Fraction(2, 75)))
+
     def test_other_verdicts(self):
         with self.assertRaises(pns.BudgetSpent) as caught:
             pns.solve(SHIPPED, budget=1)
         stopped = pns.report(SHIPPED, caught.exception.text)
         self.assertEqual((stopped.verdict, stopped.claim), ("not finished", "unknown"))
+        self.assertEqual((stopped.low, stopped.gap), (None, None))
         tree = pns.solve(SHIPPED).tree
         wrong = pns.report(SHIPPED, tree.replace("3000000 3000000", "3000000 2999999", 1))
         self.assertEqual((wrong.verdict, wrong.node, wrong.why), ("not proved", 1, "bound"))

@@ -13,12 +13,12 @@ returns-in-Some-clause-keeps g c =
     let s = c.args.growing.now in
     let none : s.stop ≡ None =
     no_stop s.stop (sym c.is_some.ensures ∙ c.if-is_some.false) in
-    keeps_charged g.E.Evaluator.past c.args.site.now s c.shut_charged.new.growing c.in-Some.leaf
+    keeps_charged g.E.Evaluator.past c.args.site.now s c.shut_leaf.new.growing c.in-Some.leaf
     c.in-Some.charged none (going_none g.E.Evaluator.past c.args.site.now s none c.requires.going)
     c.in-Some.ensures.charged (record {
-      frees = c.shut_charged.ensures.frees;
-      cells = c.shut_charged.ensures.cells;
-      values = c.shut_charged.ensures.values;
-      leaves = c.shut_charged.ensures.leaves;
-      rest = c.shut_charged.ensures.rest;
+      frees = c.shut_leaf.ensures.frees;
+      cells = c.shut_leaf.ensures.cells;
+      values = c.shut_leaf.ensures.values;
+      leaves = c.shut_leaf.ensures.leaves;
+      rest = c.shut_leaf.ensures.rest;
     })

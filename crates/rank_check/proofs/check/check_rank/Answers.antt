@@ -36,3 +36,10 @@ returns-clause-fewer c =
     on_ok _ _ c.judge.result
     (λ h. c.others_are_no_better.ensures.fewer c.args.site.now c.problem.ensures.valid
     (ranking_of c.args.text.now) h) c.judge.ensures.ranked
+
+pub returns-clause-alternatives : goal.returns-clause-alternatives
+returns-clause-alternatives c =
+    on_ok _ _ c.judge.result
+    (λ h distinct. c.alternatives_are_right.ensures c.args.site.now c.problem.ensures.valid
+    (ranking_of c.args.text.now) h distinct c.is_counted.ensures.counted.within)
+    c.judge.ensures.ranked

@@ -1,4 +1,4 @@
-use Rattle.std.proofs.Common.{List, [], ◌∷◌, subst}
+use Rattle.std.proofs.Common.{List, [], ◌∷◌, sym, subst}
 use Rattle.pns_rules.specs.Shape.{shape_of}
 use Rattle.tree_rules.specs.Accepted.{first_node}
 use Rattle.tree_rules.specs.declared.refusal.Refusal.{Refusal}
@@ -6,6 +6,8 @@ use Rattle.cert_check.specs.declared.open_leaf.OpenLeaf.{OpenLeaf}
 use Rattle.cert_check.specs.OpenLeaves.{leaves_at, AreBefore}
 use Rattle.rank_check.specs.Refusals.{NamesPlainFault, OpenPass, OpenFails}
 use Rattle.rank_check.proofs.CheckLemmas.{mark_fails_before, node_fails_first}
+use Rattle.rank_check.proofs.CheckLemmas.{known_if_stopped}
+use Rattle.rank_check.specs.Marks.{AreKnown}
 use Rattle.rank_check.proofs.check.judge_stop.Goals as goal
 
 pub returns-in-Err : goal.returns-in-Err
@@ -31,3 +33,17 @@ returns-in-Ok c =
     c.requires.before)
     (subst (λ (ls : List OpenLeaf). OpenPass p t (leaves_at ls)) c.deref.ensures.value
     c.in-Ok.ensures.passes)
+
+pub judge_open-requires : goal.judge_open-requires
+judge_open-requires c =
+    let p = c.args.site.now in
+    let t = c.args.text.now in
+    let found = leaves_at c.args.stop.now.leaves.items in
+    record {
+      known =
+          subst (λ (ls : List OpenLeaf). AreKnown p (leaves_at ls)) (sym c.deref.ensures.value)
+          (known_if_stopped p t found c.in-Node.node c.in-Node.why
+          (subst (λ (r : Refusal). NamesPlainFault p t r) c.in-Node.is c.requires.fault)
+          (subst (λ (r : Refusal). AreBefore (shape_of p) (first_node ∷ []) t.tree r found)
+          c.in-Node.is c.requires.before));
+    }

@@ -15,7 +15,8 @@ returns-then-at-marks-clause-passes c =
     subst
     (λ (m : Mark). OnOk c.judge_mark.result
     ((undercut : Option CostOver)
-    → LeafPasses false c.args.site.now c.args.networks.now undercut (node_of c.args.node.now)
+    → LeafPasses c.args.distinct false c.args.site.now c.args.networks.now undercut
+    (node_of c.args.node.now)
     (marked_leaf None m)))
     (sym
     (mark_here c.args.marks.now c.args.at c.index-marks-at.result c.if-at-marks.true
@@ -26,7 +27,7 @@ returns-then-at-marks-clause-fails c =
     subst
     (λ (m : Mark). IfErr c.judge_mark.result
     (λ (why : RankWhy). (undercut : Option CostOver)
-    → MarkFails (LeafFails false c.args.site.now c.args.networks.now undercut)
+    → MarkFails (LeafFails c.args.distinct false c.args.site.now c.args.networks.now undercut)
     (node_of c.args.node.now) m why))
     (sym
     (mark_here c.args.marks.now c.args.at c.index-marks-at.result c.if-at-marks.true
@@ -35,8 +36,8 @@ returns-then-at-marks-clause-fails c =
 pub returns-else-at-marks-clause-fails : goal.returns-else-at-marks-clause-fails
 returns-else-at-marks-clause-fails c =
     subst (λ (m : Mark). (undercut : Option CostOver)
-    → MarkFails (LeafFails false c.args.site.now c.args.networks.now undercut)
+    → MarkFails (LeafFails c.args.distinct false c.args.site.now c.args.networks.now undercut)
     (node_of c.args.node.now) m (Plain causes.Open))
     (sym (mark_none c.args.marks.now c.args.at c.if-at-marks.false))
-    (λ undercut. open_fails c.args.site.now c.args.networks.now undercut
+    (λ undercut. open_fails c.args.distinct c.args.site.now c.args.networks.now undercut
     (node_of c.args.node.now))

@@ -5,4 +5,5 @@ use Rattle.rank_check.proofs.TurnLemmas.{AreOn}
 use Rattle.rank_check.proofs.marks.judge_marks.Given as goal
 
 abbrev pub invariant-judging : goal.invariant-judging
-invariant-judging l = AreOn l.site l.networks (leaves_at l.leaves) (map mark_of l.marks) l.i
+invariant-judging l =
+    AreOn l.distinct l.site l.networks (leaves_at l.leaves) (map mark_of l.marks) l.i

@@ -32,7 +32,7 @@ returns-in-Err-Node g c =
     let Q : Status → List ℕ → Type 0 = Tells (RankcheckWork c.args.site.now c.args.text.now) in
     let p = c.args.site.now in
     let t = c.args.text.now in
-    let refuses : ArePassing p [] t.networks
+    let refuses : ArePassing t.distinct p [] t.networks
     × NodeIsFault false p (ranking_of t) c.in-Err-Node.node c.in-Err-Node.why =
     (rw c.in-Err-Node.field-0-is at c.in-Err-Node.ensures.refused) in
     let told : List ℕ = rank_node_line c.in-Err-Node.node c.in-Err-Node.why in

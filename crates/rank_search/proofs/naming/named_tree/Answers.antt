@@ -15,7 +15,7 @@ from_nodes-requires c =
     let ms = c.args.proofs.now in
     let cells = c.args.pool.now.payloads in
     let nodes = c.in_ok-preorder.preorder.nodes.items in
-    let names = c.in_ok-names.names.items in
+    let names = c.args.names.now in
     let order = c.in_ok-preorder.preorder.order.items in
     let plain : IsTree nodes = subst (λ (t : Tree). IsTree t) (sym of.nodes_are)
     (c.preorder_is_tree.ensures.tree (shut_cells ms cells) order
@@ -25,8 +25,7 @@ from_nodes-requires c =
     let made : c.take_marks.new.nodes ≡ opened (names_at names order) nodes
     = c.in_ok-marks.ensures.nodes
     ∙ ap₂ (λ (ns : Names) (ts : Tree). opened ns ts)
-    (ap₂ (λ (ns : Names) (is : List ℕ). names_at ns is) c.deref-2.ensures.value
-    c.deref.ensures.value) c.deref_mut.ensures.value in
+    (ap (λ (is : List ℕ). names_at names is) c.deref.ensures.value) c.deref_mut.ensures.value in
     let whole : take c.in_ok-preorder.preorder.nodes.len
     (c.take_marks.new.nodes ++ drop (length c.take_marks.new.nodes) nodes)
     ≡ c.take_marks.new.nodes

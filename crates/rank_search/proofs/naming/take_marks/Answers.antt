@@ -23,7 +23,8 @@ naming-preserved c =
     got c.naming.nodes c.naming.at c.index-nodes-at.result
     (let l = c.naming.auto.nodes in let m = c.requires.as_many in omega (arith, lt, l, m)) in
     let both =
-    take_next (names_at c.args.names.now c.args.order.now) c.args.nodes.now c.naming.nodes
+    take_next c.args.way
+    (names_at c.args.names.now c.args.order.now) c.args.nodes.now c.naming.nodes
     (map mark_of c.naming.marks.items) c.naming.at c.name_at-name.result t c.take_mark.new.node
     (marks_of c.take_mark.result)
     named c.naming.invariant.opened_so_far there c.take_mark.ensures.node c.take_mark.ensures.mark

@@ -7,5 +7,5 @@ abbrev pub invariant-naming : goal.invariant-naming
 invariant-naming l = record {
   opened_so_far : l.nodes ≡ opened (take l.at (names_at l.names l.order)) l.fn.nodes;
   marks_so_far : map mark_of l.marks.items
-      ≡ marks_in (take l.at (names_at l.names l.order)) l.fn.nodes;
+      ≡ marks_in l.way (take l.at (names_at l.names l.order)) l.fn.nodes;
 }

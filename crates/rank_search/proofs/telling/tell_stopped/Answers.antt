@@ -2,7 +2,8 @@ use Rattle.std.proofs.Common.{ℕ, length, true, List, map, sym, subst}
 use Rattle.tree_rules.specs.Claim.{Network}
 use Rattle.ranked_tree.specs.View.{mark_of}
 use Rattle.rank_search.specs.Found.{undercut_by}
-use Rattle.rank_search.specs.Naming.{AreWithin}
+use Rattle.rank_rules.specs.declared.naming.Naming.TheVariants.{Only}
+use Rattle.rank_search.specs.Naming.{AreWithin, names_of}
 use Rattle.rank_search.specs.Told.{IsTelling, IsSpentTelling}
 use Rattle.rank_search.proofs.NamedLeafLemmas.{some_close}
 use Rattle.rank_search.proofs.NameLemmas.{within_all}
@@ -38,9 +39,10 @@ returns-clause-open c =
     let s = c.args.growing.now in
     let fs = c.args.found.found in
     with_three c.tell.result
-    (λ t n of sized is. stands_open p c.problem.ensures.valid c.args.found.count s fs
-    c.requires.kept c.requires.start c.requires.best c.args.proofs.now c.args.leaf t.place
-    t.tree (map mark_of t.marks.items) of c.requires.leaf c.requires.stays is)
+    (λ t n of sized is. stands_open p c.problem.ensures.valid
+    (undercut_by c.args.found.count fs) s c.requires.kept c.requires.start Only
+    (names_of (length s.pool.payloads) fs) c.args.proofs.now c.args.leaf t.place t.tree
+    (map mark_of t.marks.items) of c.requires.leaf c.requires.stays is)
     c.tell.ensures.networks c.tell.ensures.tree c.tell.ensures.sized
 
 pub returns-clause-spent : goal.returns-clause-spent
@@ -52,7 +54,8 @@ returns-clause-spent c =
     (λ t n of sized options h. subst
     (λ (ws : List Network). IsSpentTelling p c.args.found.count ws t.tree
     (map mark_of t.marks.items) t.place options s.budget) (sym n)
-    (spent_telling p c.problem.ensures.valid c.args.found.count s fs c.requires.kept
-    c.requires.start c.requires.best c.args.proofs.now c.args.leaf t.place t.tree
+    (spent_telling p c.problem.ensures.valid (undercut_by c.args.found.count fs) s
+    c.requires.kept c.requires.start Only (names_of (length s.pool.payloads) fs)
+    c.args.proofs.now c.args.leaf t.place t.tree
     (map mark_of t.marks.items) of c.requires.leaf c.requires.stays options h))
     c.tell.ensures.networks c.tell.ensures.tree c.tell.ensures.sized

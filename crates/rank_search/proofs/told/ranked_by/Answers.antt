@@ -58,8 +58,8 @@ returns-in_ok-told-in-Spent g c =
     c.in-Spent.leaf c.in-Spent.options) (sym c.deref-in-Spent.ensures.value) ends in
     subst (λ (t : Text). IsRankedBy g.E.Evaluator.past p found.count s.budget (ranks.Spent t))
     (sym c.text_of-in-Spent.ensures)
-    (spent_ranked g.E.Evaluator.past p c.count-count.result found.count s.budget
-    c.count-count.ensures told.networks.items told.tree (map mark_of told.marks.items)
+    (spent_ranked g.E.Evaluator.past p c.count.result found.count s.budget
+    c.count.ensures told.networks.items told.tree (map mark_of told.marks.items)
     told.place c.in-Spent.options
     c.in_ok-told-in-Spent.ensures.tells
     (c.in_ok-told-in-Spent.ensures.spent c.in-Spent.options spent))
@@ -82,8 +82,8 @@ returns-in_ok-told-in-Past g c =
     c.in-Past.is c.requires.ends in
     subst (λ (t : Text). IsRankedBy g.E.Evaluator.past p found.count s.budget (ranks.Past t))
     (sym c.text_of-in-Past.ensures)
-    (past_ranked g.E.Evaluator.past p c.count-count.result found.count s.budget
-    c.count-count.ensures told.networks.items told.tree (map mark_of told.marks.items)
+    (past_ranked g.E.Evaluator.past p c.count.result found.count s.budget
+    c.count.ensures told.networks.items told.tree (map mark_of told.marks.items)
     told.place s c.in-Past.stopped
     c.in_ok-told-in-Past.ensures.tells ends
     (c.requires.tree.kept.kept.sound c.in-Past.stopped.leaf ends.there)

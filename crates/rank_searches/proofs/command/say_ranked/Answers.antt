@@ -6,17 +6,15 @@ use Rattle.endings.proofs.Ending.{Ends-map, Tells-map, Tells-memory, only_in}
 use Rattle.rank_search.specs.Ranked.{IsRankedTo}
 use Rattle.rank_searches.specs.Found.{FoundSays}
 use Rattle.studio_rules.specs.Rank.{RankWork}
-use Rattle.rank_searches.proofs.Rankings.{found_works}
+use Rattle.rank_searches.proofs.Rankings.{can_print, found_works}
 use Rattle.rank_searches.proofs.command.say_ranked.Goals as goal
 
 pub say_found-requires : goal.say_found-requires
-say_found-requires g c = (
-  c.args.count,
-  c.args.effort.budget,
-  subst
-      (λ (p : Problem). IsRankedTo p c.args.count c.args.effort.budget
-      c.rank_watched-ranked.result) c.of-site.ensures c.rank_watched-ranked.ensures,
-)
+say_found-requires g c =
+    can_print c.args.problem.now c.args.count c.args.effort.budget c.rank_watched-ranked.result
+    (subst
+    (λ (p : Problem). IsRankedTo p c.args.count c.args.effort.budget c.rank_watched-ranked.result)
+    c.of-site.ensures c.rank_watched-ranked.ensures)
 
 pub returns-in_default : goal.returns-in_default
 returns-in_default g c =

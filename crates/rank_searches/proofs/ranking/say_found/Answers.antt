@@ -4,14 +4,11 @@ use Rattle.studio_rules.specs.Ending.{Tells}
 use Rattle.studio_rules.specs.declared.status.Status.TheVariants.{Memory}
 use Rattle.endings.proofs.Ending.{Ends-map, Tells-map, Tells-memory, only_in}
 use Rattle.rank_searches.specs.Found.{RankingSays, FoundSays}
-use Rattle.rank_searches.proofs.Rankings.{can_print}
 use Rattle.rank_searches.proofs.ranking.say_found.Goals as goal
 
 pub say_ranking-requires : goal.say_ranking-requires
 say_ranking-requires g c =
-    let can =
-    can_print c.args.problem.now c.requires.0 c.requires.1 c.args.ranked c.requires.2
-    c.in-Some.text (sym c.ranking_found.ensures ∙ c.in-Some.is) in
+    let can = c.requires c.in-Some.text (sym c.ranking_found.ensures ∙ c.in-Some.is) in
     record { known = can.known; few = can.few }
 
 pub returns-in-Some : goal.returns-in-Some

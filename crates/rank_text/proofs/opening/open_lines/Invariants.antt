@@ -9,10 +9,11 @@ use Rattle.rank_text.proofs.opening.open_lines.Given as goal
 abbrev pub invariant-opening : goal.invariant-opening
 invariant-opening l = record {
   reached : IsReached l.bytes l.fn.cut l.at;
-  text : l.opened.items ++ bytes_of (map opened (lines_at l.bytes l.at)) ≡ take l.fn.cut.at l.bytes
-      ++ opened_from l.bytes l.fn.cut.at;
-  marks : so_far (map mark_of l.marks.items) l.fault (marks_taken l.at.line (lines_at l.bytes l.at))
-      ≡ marks_taken l.fn.cut.line (lines_at l.bytes l.fn.cut);
+  text : l.opened.items ++ bytes_of (map (opened l.distinct) (lines_at l.bytes l.at))
+      ≡ take l.fn.cut.at l.bytes ++ opened_from l.distinct l.bytes l.fn.cut.at;
+  marks : so_far (map mark_of l.marks.items) l.fault
+      (marks_taken l.distinct l.at.line (lines_at l.bytes l.at))
+      ≡ marks_taken l.distinct l.fn.cut.line (lines_at l.bytes l.fn.cut);
 }
 
 abbrev pub decreases-opening : goal.decreases-opening

@@ -11,20 +11,8 @@ returns-in_err-put_line-clause-prints g c =
     (part_failed _ _ _ _ _
     (c.in_err-put_line.ensures.prints (file_type ∷ []) c.begin-made.ensures))
 
-pub returns-in_err-put_count-clause-prints : goal.returns-in_err-put_count-clause-prints
-returns-in_err-put_count-clause-prints g c =
-    let e =
-    err_from_is_err_and c.from_residual-in_err-put_count.result
-    c.from_residual-in_err-put_count.ensures.1 in
-    rw (e.1, e.2)
-    (two_printed _ _ _ _ _ _ c.put_line.ensures.later
-    (c.in_ok-put_line.ensures.prints (file_type ∷ []) c.begin-made.ensures)
-    (part_failed _ _ _ _ _ (rw c.count.ensures at c.in_err-put_count.ensures.prints)))
-
 pub returns-clause-prints : goal.returns-clause-prints
 returns-clause-prints g c =
     two_printed _ _ _ _ _ _ c.put_line.ensures.later
     (c.in_ok-put_line.ensures.prints (file_type ∷ []) c.begin-made.ensures)
-    (two_printed _ _ _ _ _ _ c.put_count.ensures.later
-    (rw c.count.ensures at c.in_ok-put_count.ensures.prints)
-    (rw c.networks.ensures at c.put_count-2.ensures.prints))
+    (rw c.count.ensures at c.put_count.ensures.prints)

@@ -7,4 +7,4 @@ returns-in-Ok-clause-fault c =
       ← c.count_line.ensures.value,
       c.in-Ok.is,
       ← c.in-Some.ensures.number,
-    ) c.read_listed.ensures.fault
+    ) c.read_asked.ensures.fault

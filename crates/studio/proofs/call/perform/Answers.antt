@@ -3,7 +3,7 @@ use Rattle.studio_rules.specs.Command.{Command, Max, Axioms, Flows, Listing, Lin
 use Rattle.studio_rules.specs.Command.{Editing, Undoing, Checking, RankChecking, Solving, Showing}
 use Rattle.studio_rules.specs.Command.{Ranking, Telling, AreWithin, Table, Splitting, Expanding}
 use Rattle.studio_rules.specs.Command.{Drawing, DrawingNetwork, Reporting, Json, Ranging, Planning}
-use Rattle.studio_rules.specs.Command.{Parting, PartingAgainst, Merging}
+use Rattle.studio_rules.specs.Command.{Parting, PartingAgainst, Merging, Alternatives, RangingAll}
 use Rattle.studio_words.specs.View.{command_view}
 use Rattle.studio_rules.specs.Answers.{CommandSays}
 use Rattle.studio_rules.specs.Make.{MakeWork}
@@ -223,6 +223,24 @@ returns-in-Ranging-clause-ends g c =
     (λ s t h. subst (λ (v : Command). CommandSays old new v s t)
     (sym (ap command_view c.in-Ranging.is)) h) c.stable.ensures.ends
 
+pub ranges-requires : goal.ranges-requires
+ranges-requires g c =
+    let within : (1 ≤ c.in-RangingAll.budget) × (c.in-RangingAll.budget ≤ 1000000) =
+    subst AreWithin (ap command_view c.in-RangingAll.is) c.requires in
+    record { some = within.0 }
+
+pub returns-in-RangingAll-clause-ends : goal.returns-in-RangingAll-clause-ends
+returns-in-RangingAll-clause-ends g c =
+    let old = g.F.Shelf.state c.args.shelf.now in
+    let new = g.F.Shelf.state c.ranges-in-RangingAll.new.shelf in
+    let Q : Status → List ℕ → Type 0 = CommandSays old new (command_view c.args.command) in
+    Ends-map
+    (CommandSays old new
+    (RangingAll c.in-RangingAll.file.now c.in-RangingAll.tree.now c.in-RangingAll.budget)) Q
+    c.args.out.now _ _
+    (λ s t h. subst (λ (v : Command). CommandSays old new v s t)
+    (sym (ap command_view c.in-RangingAll.is)) h) c.ranges-in-RangingAll.ensures.ends
+
 pub periods-requires : goal.periods-requires
 periods-requires g c =
     let within : (1 ≤ c.in-Planning.budget) × (c.in-Planning.budget ≤ 1000000) =
@@ -329,6 +347,13 @@ rank-requires g c =
     subst AreWithin (ap command_view c.in-Ranking.is) c.requires in
     record { asked = within.0.0; within = within.0.1; some = within.1.0; few = within.1.1 }
 
+pub alternatives-requires : goal.alternatives-requires
+alternatives-requires g c =
+    let within : ((1 ≤ c.in-Alternatives.count) × (c.in-Alternatives.count ≤ 1000))
+    × ((1 ≤ c.in-Alternatives.budget) × (c.in-Alternatives.budget ≤ 1000000)) =
+    subst AreWithin (ap command_view c.in-Alternatives.is) c.requires in
+    record { asked = within.0.0; within = within.0.1; some = within.1.0; few = within.1.1 }
+
 pub returns-in-Ranking-clause-ends : goal.returns-in-Ranking-clause-ends
 returns-in-Ranking-clause-ends g c =
     let old = g.F.Shelf.state c.args.shelf.now in
@@ -339,6 +364,18 @@ returns-in-Ranking-clause-ends g c =
     Q c.args.out.now _ _
     (λ s t h. subst (λ (v : Command). CommandSays old new v s t)
     (sym (ap command_view c.in-Ranking.is)) h) c.rank.ensures.ends
+
+pub returns-in-Alternatives-clause-ends : goal.returns-in-Alternatives-clause-ends
+returns-in-Alternatives-clause-ends g c =
+    let old = g.F.Shelf.state c.args.shelf.now in
+    let new = g.F.Shelf.state c.alternatives.new.shelf in
+    let Q : Status → List ℕ → Type 0 = CommandSays old new (command_view c.args.command) in
+    Ends-map
+    (CommandSays old new
+    (Alternatives c.in-Alternatives.file.now c.in-Alternatives.count c.in-Alternatives.budget))
+    Q c.args.out.now _ _
+    (λ s t h. subst (λ (v : Command). CommandSays old new v s t)
+    (sym (ap command_view c.in-Alternatives.is)) h) c.alternatives.ensures.ends
 
 pub trial-requires : goal.trial-requires
 trial-requires g c =
@@ -387,6 +424,12 @@ overflow_cast-effort g c =
     = subst AreWithin (ap command_view c.in-Ranging.is) c.requires in
     let few = within.1 in omega (arith, few)
 
+pub overflow_cast-effort-in-RangingAll : goal.overflow_cast-effort-in-RangingAll
+overflow_cast-effort-in-RangingAll g c =
+    let within : (1 ≤ c.in-RangingAll.budget) × (c.in-RangingAll.budget ≤ 1000000)
+    = subst AreWithin (ap command_view c.in-RangingAll.is) c.requires in
+    let few = within.1 in omega (arith, few)
+
 pub overflow_cast-effort-in-Planning : goal.overflow_cast-effort-in-Planning
 overflow_cast-effort-in-Planning g c =
     let within : (1 ≤ c.in-Planning.budget) × (c.in-Planning.budget ≤ 1000000)
@@ -422,6 +465,13 @@ overflow_cast-effort-in-Ranking g c =
     let within : ((1 ≤ c.in-Ranking.count) × (c.in-Ranking.count ≤ 1000))
     × ((1 ≤ c.in-Ranking.budget) × (c.in-Ranking.budget ≤ 1000000))
     = subst AreWithin (ap command_view c.in-Ranking.is) c.requires in
+    let few = within.1.1 in omega (arith, few)
+
+pub overflow_cast-effort-in-Alternatives : goal.overflow_cast-effort-in-Alternatives
+overflow_cast-effort-in-Alternatives g c =
+    let within : ((1 ≤ c.in-Alternatives.count) × (c.in-Alternatives.count ≤ 1000))
+    × ((1 ≤ c.in-Alternatives.budget) × (c.in-Alternatives.budget ≤ 1000000))
+    = subst AreWithin (ap command_view c.in-Alternatives.is) c.requires in
     let few = within.1.1 in omega (arith, few)
 
 pub overflow_cast-effort-in-Trial : goal.overflow_cast-effort-in-Trial

@@ -12,11 +12,12 @@ invariant_of-self-2 c =
     let f : FoundAt = record { network = w; leaf = c.args.leaf } in
     let fs = c.self.inside.found.items in
     let old : Listed = record { count = c.self.inside.count; found = fs } in
-    let same : c.args.self.now.found ≡ fs = sym (ap (λ (l : Listed). l.found) c.self.view_is) in
     let low =
-    subst (λ (gs : List FoundAt). AreNoDearer (take at gs) w) same c.place_for-at.ensures.low in
+    subst (λ (gs : List FoundAt). AreNoDearer (take at gs) w) c.deref.ensures.value
+    c.place_for-at.ensures.low in
     let high =
-    subst (λ (gs : List FoundAt). AreDearer (drop at gs) w) same c.place_for-at.ensures.high in
+    subst (λ (gs : List FoundAt). AreDearer (drop at gs) w) c.deref.ensures.value
+    c.place_for-at.ensures.high in
     let cut : c.truncate.new.self.items ≡ take c.self.inside.count (take at fs ++ f ∷ drop at fs) =
     search rules in
     let new : Listed = record { count = c.self.inside.count; found = c.truncate.new.self.items } in

@@ -1,0 +1,3 @@
+mod Plant
+mod WorkedLists
+mod WorkedTexts

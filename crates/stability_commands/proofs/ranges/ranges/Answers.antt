@@ -1,0 +1,41 @@
+use Rattle.std.proofs.Common.{◌≡◌, ℕ, List}
+use Rattle.studio_rules.specs.Reading.{TwoFilesSay}
+use Rattle.studio_rules.specs.TreeFile.{OnTree, TreeSays}
+use Rattle.studio_rules.specs.Network.{OnNetwork}
+use Rattle.studio_rules.specs.StableTable.{RangesWork}
+use Rattle.studio_rules.specs.Ending.{Says}
+use Rattle.studio_rules.specs.declared.status.Status.{Status}
+use Rattle.endings.proofs.Ending.{Ends-map, Ends-from}
+use Rattle.command_files.proofs.Seconds.{on_both-faults, on_both-work}
+use Rattle.endings.proofs.Keeping.{keeps_through}
+use Rattle.stability_commands.proofs.ranges.ranges.Goals as goal
+
+pub returns-in-Ok-clause-ends : goal.returns-in-Ok-clause-ends
+returns-in-Ok-clause-ends g c =
+    let old = g.F.Shelf.state c.args.shelf.now in
+    let mid = g.F.Shelf.state c.problem_of.new.shelf in
+    let new = g.F.Shelf.state c.say_tree.new.shelf in
+    let file = c.args.file.now in
+    let tree = c.args.asked.tree.now in
+    let work = OnNetwork (RangesWork c.args.asked.effort.budget) in
+    let P : Status → List ℕ → Type 0 =
+    Says (OnTree work mid.held tree c.in-Ok.problem) (λ other. other ≡ tree) mid new in
+    let Q : Status → List ℕ → Type 0 = TwoFilesSay (OnTree work) file tree old new in
+    Ends-from P Q c.args.out.now _ _ _ c.in-Ok.ensures.silent
+    (on_both-work (TreeSays work tree) file tree old mid new c.in-Ok.problem c.in-Ok.ensures.problem
+    (c.problem_of.ensures.keeps.held tree) c.problem_of.ensures.keeps.later)
+    c.say_tree.ensures.ends
+
+pub returns-in-Err-clause-ends : goal.returns-in-Err-clause-ends
+returns-in-Err-clause-ends g c =
+    let old = g.F.Shelf.state c.args.shelf.now in
+    let new = g.F.Shelf.state c.problem_of.new.shelf in
+    let file = c.args.file.now in
+    let tree = c.args.asked.tree.now in
+    let work = OnNetwork (RangesWork c.args.asked.effort.budget) in
+    let Q : Status → List ℕ → Type 0 = TwoFilesSay (OnTree work) file tree old new in
+    Ends-map _ Q c.args.out.now _ _ (on_both-faults (TreeSays work tree) file tree old new)
+    c.in-Err.ensures.told
+
+pub returns-in-Ok-clause-keeps : goal.returns-in-Ok-clause-keeps
+returns-in-Ok-clause-keeps g c = keeps_through _ _ _ c.in-Ok.ensures.keeps c.say_tree.ensures.keeps
