@@ -49,6 +49,7 @@ use Rattle.studio_rules.specs.Listing.{ListingWork}
 use Rattle.studio_rules.specs.Migrate.{MigrateWork}
 use Rattle.studio_rules.specs.Edits.{EditWork, UndoWork}
 use Rattle.studio_rules.specs.Flows.{FlowsWork}
+use Rattle.studio_rules.specs.HeadedFile.{HeadedFault, GivesHeaded, OnHeaded}
 use Rattle.studio_rules.specs.Check.{CheckWork}
 use Rattle.studio_rules.specs.Rankcheck.{RankFault, GivesRanking, OnRank, RankcheckWork}
 use Rattle.studio_rules.specs.Rank.{RankWork}
@@ -84,9 +85,11 @@ use Rattle.studio_rules.specs.Command.{Planning}
 use Rattle.studio_rules.specs.Command.{Parting, PartingAgainst, Merging, command_of}
 use Rattle.studio_rules.specs.Answers.{AnswersTo, CommandAnswers, WordsSay}
 use Rattle.studio_rules.specs.Causes.{caused, FileCause, HasProblemFault, HasScriptFault}
-use Rattle.studio_rules.specs.Causes.{HasPlanFault, HasTreeFault, HasRankFault, HasPartFault}
+use Rattle.studio_rules.specs.Causes.{HasPlanFault, HasTreeFault, HasHeadedFault, HasRankFault}
+use Rattle.studio_rules.specs.Causes.{HasPartFault}
 use Rattle.studio_rules.specs.Causes.{NoCause, TokenCause, MigrationCause, NameCause, InFile}
-use Rattle.studio_rules.specs.Causes.{InScript, InPlan, InRank, InTree, InEither, InParts}
+use Rattle.studio_rules.specs.Causes.{InScript, InPlan, InRank, InTree, InHeaded, InEither}
+use Rattle.studio_rules.specs.Causes.{InParts}
 use Rattle.studio_rules.specs.Causes.{AtNode, CauseOf}
 use Rattle.studio_rules.specs.Causes.{AreTold, EndsExactly}
 use Rattle.studio.proofs.Accepted.{no_fault, one_problem}
@@ -394,6 +397,50 @@ not_bad_rank : (p : Problem) (file : List ℕ) (t : Text) (s : Status) → Gives
 not_bad_rank p file t s given (inl h) = let a = given.0 in let b =
     h.1 in absurd (omega (arith, a, b))
 not_bad_rank p file t s given (inr h) = (rank_good p file t given).1 h.2
+
+-- ---- a tree that may have a head, after which nothing is a cause
+
+headed_cause : (name : List ℕ) (p : Problem) (file : List ℕ) (s : Status) (lines : List (List ℕ))
+    → HeadedFault name p file s lines → FileCause tree_limit BadTree (HasHeadedFault p) file s
+headed_cause name p file TooLong lines h = inl (refl, h.0)
+headed_cause name p file BadTree lines h = inr (refl, h.0, (h.1.0, h.1.1, h.1.2))
+headed_cause name p file s lines h = absurd h
+
+headed_good : (p : Problem) (file : List ℕ) (t : trees.HeadedCertificate) → GivesHeaded p file t
+    → (length file ≤ tree_limit) × (HasHeadedFault p file → ⊥)
+headed_good p file t given = (
+  given.0,
+  λ fault. let e : ◌≡◌ {A = Result trees.HeadedCertificate trees.Fault} (Ok t)
+      (Err (fault.0, fault.1)) =
+      sym given.1 ∙ fault.2 in cc,
+)
+
+one_headed : (p : Problem) (file : List ℕ) (t other : trees.HeadedCertificate)
+    → GivesHeaded p file t → GivesHeaded p file other → other ≡ t
+one_headed p file t other given gives =
+    let e : ◌≡◌ {A = Result trees.HeadedCertificate trees.Fault} (Ok other) (Ok t) =
+    sym gives.1 ∙ given.1 in cc
+
+check_plain : (p : Problem) (t : trees.HeadedCertificate) (s : Status) (lines : List (List ℕ))
+    → Caused s → CheckWork p t s lines → ⊥
+check_plain p t s lines c h =
+    elim (check_status p t s lines h) [ inl q ↦ subst Caused q c | inr q ↦ subst Caused q c ]
+
+module _ (held : List ℕ → Told) (name : List ℕ) (p : Problem) where
+  headed_only : Only (OnHeaded CheckWork held name p) (InHeaded held name p)
+  headed_only s lines c h =
+      no_behind tree_limit BadTree (HasHeadedFault p) (GivesHeaded p) (held name) s
+      (judged_only tree_limit BadTree (HasHeadedFault p) (GivesHeaded p) (HeadedFault name p)
+      (CheckWork p) (λ _ _. ⊥) (headed_cause name p) (check_plain p) (held name) s lines c
+      h)
+
+  headed_always : IsSome (held name) → Always (OnHeaded CheckWork held name p)
+      (InHeaded held name p)
+  headed_always told status s lines cause h =
+      judged_always tree_limit BadTree (HasHeadedFault p) (GivesHeaded p) (HeadedFault name p)
+      (CheckWork p) (λ _ _. ⊥) (headed_cause name p) (headed_good p) (one_headed p)
+      (λ file t given u v ls none does. absurd none) (held name) told status s lines
+      (cause.0, cause.1, inl cause.2) h
 
 -- ---- TREE, and what follows it whatever it claims
 
@@ -719,10 +766,6 @@ module _ (p : Problem) (s : Status) (lines : List (List ℕ)) (c : Caused s) whe
   stops_plain (inr (inl q)) = subst Caused q c
   stops_plain (inr (inr q)) = subst Caused q c
 
-  refused_plain : (s ≡ Done) ⊎ (s ≡ Refused) → ⊥
-  refused_plain (inl q) = subst Caused q c
-  refused_plain (inr q) = subst Caused q c
-
   unclaimed_plain : (s ≡ Done) ⊎ (s ≡ BadClaim) → ⊥
   unclaimed_plain (inl q) = subst Caused q c
   unclaimed_plain (inr q) = subst Caused q c
@@ -764,9 +807,8 @@ module _ (held : List ℕ → Told) where
       file_only held file (OnScript UndoWork held script) (InScript held script)
       (script_only UndoWork (λ p es s lines h. h.0) held script)
   command_only (Checking file tree) =
-      file_only held file (OnTree CheckWork held tree) (InTree NoCause held tree)
-      (λ p. tree_only CheckWork NoCause held tree p
-      (λ claim its s lines c h. refused_plain p s lines c (check_status p claim its s lines h)))
+      file_only held file (OnHeaded CheckWork held tree) (InHeaded held tree)
+      (headed_only held tree)
   command_only (RankChecking file rank) =
       file_only held file (OnRank held rank) (InRank held rank) (rank_only held rank)
   command_only (Table file tree) =
@@ -891,7 +933,8 @@ module _ (held : List ℕ → Told) where
       (λ p valid. script_always UndoWork (λ p es s lines h. h.0) held script p
       (told script (inr refl))) (told file (inl refl))
   command_always once (Checking file tree) told =
-      beside_tree file tree CheckWork (told file (inl refl)) (told tree (inr refl))
+      file_always held file (OnHeaded CheckWork held tree) (InHeaded held tree)
+      (λ p valid. headed_always held tree p (told tree (inr refl))) (told file (inl refl))
   command_always once (RankChecking file rank) told =
       file_always held file (OnRank held rank) (InRank held rank)
       (λ p valid. rank_always held rank p (told rank (inr refl))) (told file (inl refl))

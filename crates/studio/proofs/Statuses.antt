@@ -32,6 +32,8 @@ use Rattle.studio_rules.specs.Edits.{EditWork, UndoWork}
 use Rattle.tree_rules.specs.Claim.{Claim, Network}
 use Rattle.tree_rules.specs.Accepted.{Tree}
 use Rattle.studio_rules.specs.TreeFile.{TreeFault, TreeSays, OnTree, tree_limit}
+use Rattle.tree_text_rules.specs.Read.{HeadedCertificate}
+use Rattle.studio_rules.specs.HeadedFile.{HeadedFault, OnHeaded}
 use Rattle.studio_rules.specs.Check.{CheckWork}
 use Rattle.rank_rules.specs.Text.{Text}
 use Rattle.studio_rules.specs.Rank as rankings
@@ -164,12 +166,18 @@ tree_status name p file TooLong lines h = inr (refl, h.0)
 tree_status name p file BadTree lines h = inl refl
 tree_status name p file s lines h = absurd h
 
-pub check_status : (p : Problem) (claim : Claim) (tree : Tree) (s : Status)
-    (lines : List (List ℕ))
-    → CheckWork p claim tree s lines → (s ≡ Done) ⊎ (s ≡ Refused)
-check_status p claim tree Done lines h = inl refl
-check_status p claim tree Refused lines h = inr refl
-check_status p claim tree s lines h = absurd h
+headed_status : (name : List ℕ) (p : Problem) (file : List ℕ) (s : Status)
+    (lines : List (List ℕ)) → HeadedFault name p file s lines → (s ≡ BadTree)
+    ⊎ ((s ≡ TooLong) × (tree_limit < length file))
+headed_status name p file TooLong lines h = inr (refl, h.0)
+headed_status name p file BadTree lines h = inl refl
+headed_status name p file s lines h = absurd h
+
+pub check_status : (p : Problem) (text : HeadedCertificate) (s : Status) (lines : List (List ℕ))
+    → CheckWork p text s lines → (s ≡ Done) ⊎ (s ≡ Refused)
+check_status p text Done lines h = inl refl
+check_status p text Refused lines h = inr refl
+check_status p text s lines h = absurd h
 
 rank_file_status : (name : List ℕ) (p : Problem) (file : List ℕ) (s : Status)
     (lines : List (List ℕ)) → RankFault name p file s lines → (s ≡ BadTree)
@@ -302,6 +310,21 @@ trees_status end work status held name p s lines (file, is, inl fault) short =
     ]
 trees_status end work status held name p s lines (file, is, inr rest) short =
     elim (status p rest.0 rest.1 s lines rest.3) [
+      | inl q ↦ inl q
+      | inr q ↦ inr (inl q)
+    ]
+
+checks_status : (held : List ℕ → Told) (name : List ℕ) (p : Problem) (s : Status)
+    (lines : List (List ℕ)) → OnHeaded CheckWork held name p s lines
+    → IsToldAnd (held name) (λ told. length told ≤ tree_limit)
+    → IsOneOf (Done ∷ Refused ∷ BadProblem ∷ BadTree ∷ Memory ∷ []) s
+checks_status held name p s lines (file, is, inl fault) short =
+    elim (headed_status name p file s lines fault) [
+      | inl q ↦ inr (inr (inr (inl q)))
+      | inr q ↦ absurd (within_limit (held name) tree_limit file short is q.1)
+    ]
+checks_status held name p s lines (file, is, inr rest) short =
+    elim (check_status p rest.0 s lines rest.2) [
       | inl q ↦ inl q
       | inr q ↦ inr (inl q)
     ]
@@ -584,7 +607,7 @@ command_status held (Checking name tree) s lines (file, is, inl fault) short =
           q.1)
     ]
 command_status held (Checking name tree) s lines (file, is, inr work) short =
-    trees_status Refused CheckWork check_status held tree work.0 s lines work.2
+    checks_status held tree work.0 s lines work.2
     (short tree tree_limit (inr (refl, refl)))
 command_status held (RankChecking name rank) s lines (file, is, inl fault) short =
     elim (fault_status name file s lines fault) [
@@ -941,7 +964,7 @@ answer_status held (Checking name tree) lines
     (file, is, inr (p, given, (bytes, there, inl fault))) = absurd fault
 answer_status held (Checking name tree) lines
     (file, is, inr (p, given, (bytes, there, inr rest))) =
-    absurd rest.3
+    absurd rest.2
 answer_status held (RankChecking name rank) lines (file, is, inl fault) = absurd fault
 answer_status held (RankChecking name rank) lines
     (file, is, inr (p, given, (bytes, there, inl fault))) = absurd fault

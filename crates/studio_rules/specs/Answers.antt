@@ -31,6 +31,7 @@ use Rattle.studio_rules.specs.Expand.{ExpandWork}
 use Rattle.studio_rules.specs.Migrate.{MigrateWork}
 use Rattle.studio_rules.specs.Edits.{EditWork, UndoWork}
 use Rattle.studio_rules.specs.TreeFile.{OnTree, GivesTree, tree_limit}
+use Rattle.studio_rules.specs.HeadedFile.{OnHeaded}
 use Rattle.studio_rules.specs.Check.{CheckWork}
 use Rattle.studio_rules.specs.Rankcheck.{OnRank}
 use Rattle.studio_rules.specs.Rank.{RankWork}
@@ -104,7 +105,7 @@ CommandAnswers held (Editing file script) status lines =
 CommandAnswers held (Undoing file script) status lines =
     OnFile (OnScript UndoWork held script) held file status lines
 CommandAnswers held (Checking file tree) status lines =
-    OnFile (OnTree CheckWork held tree) held file status lines
+    OnFile (OnHeaded CheckWork held tree) held file status lines
 CommandAnswers held (RankChecking file rank) status lines =
     OnFile (OnRank held rank) held file status lines
 CommandAnswers held (Table file tree) status lines =

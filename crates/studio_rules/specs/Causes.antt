@@ -67,6 +67,10 @@ HasPlanFault p file = (line : ℕ) × (kind : PlanKind) × (read_plan p file ≡
 abbrev pub HasTreeFault : Problem → List ℕ → Type 0
 HasTreeFault p file = (line : ℕ) × (kind : TreeKind) × (trees.read_text p file ≡ Err (line, kind))
 
+abbrev pub HasHeadedFault : Problem → List ℕ → Type 0
+HasHeadedFault p file =
+    (line : ℕ) × (kind : TreeKind) × (trees.read_headed_text p file ≡ Err (line, kind))
+
 abbrev pub HasRankFault : Problem → List ℕ → Type 0
 HasRankFault p file = (line : ℕ) × (kind : TreeKind) × (ranks.read_text p file ≡ Err (line, kind))
 
@@ -125,6 +129,11 @@ InTree behind held name p status =
     × (FileCause tree_limit BadTree (HasTreeFault p) file status
     ⊎ ((claim : Claim) × (tree : Tree) × GivesTree p file claim tree × behind p status))
 
+-- a tree that may have a head; nothing after it can be the cause
+abbrev pub InHeaded : (List ℕ → Told) → List ℕ → Problem → Status → Type 0
+InHeaded held name p status = (file : List ℕ) × AreHeld (held name) file
+    × FileCause tree_limit BadTree (HasHeadedFault p) file status
+
 -- a tree or a ranking
 abbrev pub InEither : (List ℕ → Told) → List ℕ → Problem → Status → Type 0
 InEither held name p status = (file : List ℕ) × AreHeld (held name) file
@@ -155,7 +164,7 @@ CauseOf held (Linting file) status = InFile NoCause held file status
 CauseOf held (Migrate file years) status = InFile (MigrationCause years) held file status
 CauseOf held (Editing file script) status = InFile (InScript held script) held file status
 CauseOf held (Undoing file script) status = InFile (InScript held script) held file status
-CauseOf held (Checking file tree) status = InFile (InTree NoCause held tree) held file status
+CauseOf held (Checking file tree) status = InFile (InHeaded held tree) held file status
 CauseOf held (RankChecking file rank) status = InFile (InRank held rank) held file status
 CauseOf held (Table file tree) status = InFile (InTree NoCause held tree) held file status
 CauseOf held (Splitting file tree) status = InFile (InTree NoCause held tree) held file status

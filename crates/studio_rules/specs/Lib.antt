@@ -14,6 +14,7 @@ pub mod Expand
 pub mod FlowPages
 pub mod Flows
 pub mod Graph
+pub mod HeadedFile
 pub mod Json
 pub mod Keeps
 pub mod Lines

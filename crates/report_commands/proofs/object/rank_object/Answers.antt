@@ -12,15 +12,13 @@ use Rattle.report_commands.proofs.object.rank_object.Goals as goal
 
 pub first_marginals-requires : goal.first_marginals-requires
 first_marginals-requires c =
-    subst (λ (ws : List Network). IsFirstFeasible c.args.site.now ws)
-    (sym c.networks-networks.ensures)
+    subst (λ (ws : List Network). IsFirstFeasible c.args.site.now ws) (sym c.networks-networks.ensures)
     (first_feasible c.args.ranking.now.distinct c.args.site.now c.args.ranking.now.networks
     c.requires.listed)
 
 pub first_of-requires : goal.first_of-requires
 first_of-requires c =
-    subst (λ (ws : List Network). IsFirstFeasible c.args.site.now ws)
-    (sym c.networks-networks.ensures)
+    subst (λ (ws : List Network). IsFirstFeasible c.args.site.now ws) (sym c.networks-networks.ensures)
     (first_feasible c.args.ranking.now.distinct c.args.site.now c.args.ranking.now.networks
     c.requires.listed)
 

@@ -11,15 +11,13 @@ use Rattle.report_commands.proofs.report.rank_report.Goals as goal
 
 pub first_marginals-requires : goal.first_marginals-requires
 first_marginals-requires c =
-    subst (λ (ws : List Network). IsFirstFeasible c.args.site.now ws)
-    (sym c.networks-networks.ensures)
+    subst (λ (ws : List Network). IsFirstFeasible c.args.site.now ws) (sym c.networks-networks.ensures)
     (first_feasible c.args.ranking.now.distinct c.args.site.now c.args.ranking.now.networks
     c.requires.listed)
 
 pub ranking_of-requires-clause-feasible : goal.ranking_of-requires-clause-feasible
 ranking_of-requires-clause-feasible c =
-    subst (λ (ws : List Network). IsFirstFeasible c.args.site.now ws)
-    (sym c.networks-networks.ensures)
+    subst (λ (ws : List Network). IsFirstFeasible c.args.site.now ws) (sym c.networks-networks.ensures)
     (first_feasible c.args.ranking.now.distinct c.args.site.now c.args.ranking.now.networks
     c.requires.listed)
 
