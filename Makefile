@@ -6,7 +6,7 @@
 # `make uninstall PREFIX=DIR` takes them away. `make dist` packs the same tree as a tar.gz, and
 # `make deb` as a Debian package, both into the folder dist.
 # The first build proves the program and all below it side by side, in over half an hour on four
-# idle processors. The program stays until a source changes.
+# idle processors. What is proved is kept.
 RT ?= rt
 PREFIX ?= /usr/local
 SOURCES := $(shell find crates -name out -prune -o \( -name '*.rt' -o -name '*.antt' \) -print)

@@ -1,7 +1,7 @@
 -- What shuts a leaf whose structures all contain a plant.
 use Rattle.std.specs.Prelude.{is_some}
-use Rattle.std.proofs.Common.{◌≡◌, ℕ, pos, ℤ, ◌≤ℤ◌, true, List, Option, Some, None, refl, sym}
-use Rattle.std.proofs.Common.{subst, arith}
+use Rattle.std.proofs.Common.{◌≡◌, ℕ, pos, ℤ, ◌≤ℤ◌, true, List, Option, Some, None, refl, sym, ap}
+use Rattle.std.proofs.Common.{◌∙◌, subst, arith}
 use Rattle.std.proofs.lemmas.Int.{ints}
 use Rattle.number_sets.specs.Sets.{has, IsWithin}
 use Rattle.problem_rules.specs.Problem.{Problem}

@@ -1,6 +1,6 @@
 -- What is known of bounded leaves, if a leaf is branched or shut, and if more plants are found.
 use Rattle.std.specs.Prelude.{get_or}
-use Rattle.std.proofs.Common.{◌≡◌, ℕ, zero, suc, ◌+◌, ◌-◌, ◌<◌, ◌≤◌, pos, ℤ, ◌≤ℤ◌}
+use Rattle.std.proofs.Common.{◌≡◌, ◌⊎◌, ℕ, zero, suc, ◌+◌, ◌-◌, ◌<◌, ◌≤◌, pos, ℤ, ◌*ℤ◌, ◌≤ℤ◌, Bool}
 use Rattle.std.proofs.Common.{true}
 use Rattle.std.proofs.Common.{false, List, [], ◌∷◌, ◌++◌, length, slice_set, take, append_assoc}
 use Rattle.std.proofs.Common.{Option, Some, None, refl}
@@ -9,21 +9,24 @@ use Rattle.std.specs.List.{slice_get}
 use Rattle.std.proofs.lemmas.Bool.{cases_eq, cases_lt}
 use Rattle.std.proofs.lemmas.List.{get_or_append_left, get_or-append-add, get_or-set_same}
 use Rattle.std.proofs.lemmas.List.{get_or-set_other, length-set}
+use Rattle.number_sets.specs.Sets.{has, IsWithin}
 use Rattle.problem_rules.specs.Problem.{Problem}
 use Rattle.pns_rules.specs.Nodes.{Node}
 use Rattle.tree_rules.specs.Tree.{End, leaf}
-use Rattle.tree_rules.specs.Leaf.{Leaf, bounded, IsBounded}
+use Rattle.tree_rules.specs.Leaf.{Leaf, bounded, untried, IsBounded}
 use Rattle.tree_rules.specs.Claim.{Network, CostOver, IsFeasible}
 use Rattle.tree_rules.specs.Costs.{IsNoMore}
 use Rattle.turn_laws.proofs.FractionLemmas.{fraction_trans}
 use Rattle.mixed_numbers.specs.declared.number.Mixed.{Mixed}
+use Rattle.mixed_numbers.specs.Number.{denominator}
+use Rattle.search_tree.specs.Growth.{EndsOpen}
 use Rattle.search_tree.specs.Cells.{Cell, no_cell, place_of, cell_at}
 use Rattle.node_evaluation.specs.Evaluated.{cost_over, cost_in}
 use Rattle.node_evaluation.specs.Looks.{is_bounded, is_charged}
 use Rattle.node_evaluation.specs.Children.{IsSolvedAs, IsSolvedBy, AreSolvedBy}
 use Rattle.rank_search.specs.Found.{FoundAt}
 use Rattle.distinct_search.specs.Plants.{IsInList, IsOutdone, AreAdded}
-use Rattle.distinct_search.specs.Listing.{IsCovered, IsReachedAs, reached_of, IsListing}
+use Rattle.distinct_search.specs.Listing.{IsCovered, IsReached, IsReachedAs, reached_of, IsListing}
 use Rattle.distinct_search.specs.Listing.{IsValueFor, AreValuesFor, IsWithValues}
 
 -- ---- more plants
@@ -386,7 +389,7 @@ values_next os us vs ws w o h v e = record {
 
 pub take_next : {X : Type 0} (xs : List X) (i : ℕ) (x : X) → slice_get xs i ≡ Some x
     → take i xs ++ x ∷ [] ≡ take (i + 1) xs
-take_next {X = X} xs i x e = by xs i e ∙ ap (λ k. take k xs) (next i)
+take_next xs i x e = by xs i e ∙ ap (λ k. take k xs) (next i)
   where
     next : (n : ℕ) → suc n ≡ n + 1
     next n = omega arith

@@ -1,19 +1,20 @@
 -- The names of leaves, and the first plants of a list.
 use Rattle.std.specs.Prelude.{get_or}
-use Rattle.std.proofs.Common.{◌≡◌, ◌⊎◌, ℕ, zero, suc, ◌+◌, ◌<◌, ◌≤◌, true, List, [], ◌∷◌}
+use Rattle.std.proofs.Common.{◌≡◌, ◌⊎◌, ℕ, zero, suc, ◌+◌, ◌<◌, ◌≤◌, pos, ◌≤ℤ◌, true, List, [], ◌∷◌}
 use Rattle.std.proofs.Common.{length, take, Option, Some, None, refl, sym, ap, ◌∙◌, subst, arith}
 use Rattle.std.proofs.Common.{◌++◌, inl, inr, Bool, cond, ne_eqb}
 use Rattle.std.specs.List.{slice_get}
 use Rattle.std.proofs.lemmas.Bool.{cases_eq, cases_lt}
 use Rattle.std.proofs.lemmas.List.{get_or_past, get_or_append_left, length-map}
 use Rattle.std.proofs.lemmas.Option.{slice_get_within}
+use Rattle.number_sets.specs.Sets.{has}
 use Rattle.number_sets.proofs.SetLemmas.{below_from}
 use Rattle.problem_rules.specs.Each.{Each}
 use Rattle.problem_rules.specs.Problem.{Problem}
-use Rattle.tree_rules.specs.Claim.{Network, IsFeasible, IsSized}
+use Rattle.tree_rules.specs.Claim.{Network, CostOver, IsFeasible, IsSized}
 use Rattle.tree_rules.specs.Costs.{HasFallen}
 use Rattle.mixed_numbers.specs.declared.number.Mixed.{Mixed}
-use Rattle.rank_rules.specs.Networks.{cost_of, last_cost, IsNoCheaper, RisesFrom, IsNewTo}
+use Rattle.rank_rules.specs.Networks.{cost_of, last_cost, IsNoCheaper, AreAlike, RisesFrom, IsNewTo}
 use Rattle.rank_rules.specs.Networks.{ArePassing}
 use Rattle.ranked_tree.specs.Known.{KnowsNetwork}
 use Rattle.search_tree.specs.Cells.{Cell, cell_at}
@@ -27,7 +28,7 @@ use Rattle.rank_search.proofs.PlaceLemmas.{rising_taken, length_taken, take_whol
 use Rattle.distinct_search.specs.Plants.{IsApartFrom, AreApart, AreDistinct, IsInList}
 use Rattle.distinct_search.specs.Listing.{reached_of}
 use Rattle.distinct_search.specs.Names.{IsNameFor, AreNamesFor}
-use Rattle.distinct_search.proofs.PlantLemmas.{IsBelow, all_below}
+use Rattle.distinct_search.proofs.PlantLemmas.{IsBelow, all_below, scaled_of}
 
 -- ---- names are counted from 1
 

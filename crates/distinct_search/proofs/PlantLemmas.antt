@@ -1,10 +1,12 @@
 -- Plants that differ: which one is enough for another, and what the list is with one more.
-use Rattle.std.specs.Prelude.{drop, MatchBool, IfSome, IfNone, is_some}
-use Rattle.std.specs.List.Retain.{ReturnsInTurn, IsFiltered}
-use Rattle.std.specs.List.{slice_get, items_where_true}
-use Rattle.std.proofs.Common.{◌≡◌, ◌⊎◌, ℕ, zero, suc, ◌+◌, ◌≤◌, pos, ℤ, ◌≤ℤ◌, Bool, true}
+use Rattle.std.specs.Prelude.{drop, MatchBool}
+use Rattle.core.specs.List.Retain.{ReturnsInTurn, IsFiltered}
+use Rattle.core.specs.List.{items_where_true}
+use Rattle.std.proofs.Common.{◌≡◌, ◌⊎◌, ℕ, zero, suc, ◌+◌, ◌<◌, ◌≤◌, pos, ℤ, ◌*ℤ◌, ◌≤ℤ◌, Bool, true}
 use Rattle.std.proofs.Common.{false, List, [], ◌∷◌, ◌++◌, length, take, Option, Some, None, refl}
-use Rattle.std.proofs.Common.{sym, ap, ◌∙◌, subst, arith, inl, inr, true≢false}
+use Rattle.std.proofs.Common.{sym}
+use Rattle.std.proofs.Common.{ap, ◌∙◌, subst, arith, inl, inr}
+use Rattle.std.specs.List.{slice_get}
 use Rattle.std.proofs.lemmas.Int.{ints}
 use Rattle.problem_rules.specs.Each.{Each}
 use Rattle.tree_rules.specs.Claim.{Network, IsSized}
@@ -12,23 +14,13 @@ use Rattle.mixed_numbers.specs.declared.number.Mixed.{Mixed}
 use Rattle.tree_rules.specs.Claim.{CostOver}
 use Rattle.node_evaluation.specs.Evaluated.{cost_over, cost_in}
 use Rattle.tree_rules.specs.Costs.{IsNoMore}
+use Rattle.number_sets.specs.Sets.{has, IsWithin}
 use Rattle.rank_rules.specs.Networks.{Repeats, AreAlike, IsNoCheaper}
 use Rattle.rank_search.specs.Found.{FoundAt, networks_of, AreRising}
 use Rattle.rank_search.specs.Listed.{AreScaled, AreNoDearer, AreDearer}
 use Rattle.rank_search.proofs.PlaceLemmas.{no_cheaper_trans, rising_tail, rising_between, take_drop}
 use Rattle.distinct_search.specs.Plants.{IsApartFrom, AreApart, AreDistinct, IsInList, IsInside}
 use Rattle.distinct_search.specs.Plants.{IsFirstInside, NoneInside, IsOutdone, IsAdded, AreAdded}
-
--- ---- what may be there
-
-pub some_there : {X : Type 0} (o : Option X) (P : X → Type 0) → is_some o ≡ true → IfSome o P
-    → (x : X) × P x
-some_there None P e h = absurd (true≢false (sym e))
-some_there (Some x) P e h = (x, h)
-
-pub none_there : {X : Type 0} (o : Option X) (P : Type 0) → is_some o ≡ false → IfNone o P → P
-none_there None P e h = h
-none_there (Some x) P e h = absurd (true≢false e)
 
 -- ---- one of two is enough
 
@@ -104,7 +96,7 @@ below_next f g (x ∷ xs) pf pg s h b = (
   below_next f g xs pf pg s.1 h b.1,
 )
 
-pub all_below : (f : FoundAt) (fs : List FoundAt) → AreRising (f ∷ fs) → AreScaled (f ∷ fs)
+all_below : (f : FoundAt) (fs : List FoundAt) → AreRising (f ∷ fs) → AreScaled (f ∷ fs)
     → IsBelow f fs
 all_below f [] h s = tt
 all_below f (g ∷ gs) h s =

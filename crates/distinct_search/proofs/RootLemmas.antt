@@ -1,14 +1,17 @@
 -- A search that has looked at the root alone.
-use Rattle.std.proofs.Common.{◌≡◌, ℕ, ◌≤◌, [], ◌∷◌, None, refl, ap, ◌∙◌}
+use Rattle.std.proofs.Common.{◌≡◌, ℕ, ◌≤◌, List, [], ◌∷◌, Option, None, refl, ap, ◌∙◌, subst, sym}
 use Rattle.problem_rules.specs.Problem.{Problem}
 use Rattle.pgraph.specs.View.{node_of}
 use Rattle.unit_sets.specs.declared.node.Node as starts
+use Rattle.tree_rules.specs.Claim.{Network}
 use Rattle.tree_rules.specs.Accepted.{first_node}
+use Rattle.mixed_numbers.specs.declared.number.Mixed.{Mixed}
 use Rattle.node_evaluation.specs.Evaluated.{PastPlaces}
 use Rattle.node_evaluation.specs.Children.{AreSolvedBy}
 use Rattle.abb_search.specs.declared.growing.Growing.{Growing}
 use Rattle.abb_search.specs.Growing.{IsLookedRoot}
 use Rattle.abb_search.proofs.RootLemmas.{root_after}
+use Rattle.rank_search.specs.Found.{FoundAt}
 use Rattle.rank_search.proofs.RootLemmas.{goes_for}
 use Rattle.distinct_search.specs.declared.listing.Listing.{Listing}
 use Rattle.distinct_search.specs.Plants.{AreAdded}

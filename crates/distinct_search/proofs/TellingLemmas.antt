@@ -1,10 +1,11 @@
 -- The answer of a search: the tree, with its plants and marks, is a list of alternatives.
 use Rattle.std.specs.Prelude.{IfOk}
-use Rattle.std.proofs.Common.{◌≡◌, ◌⊎◌, ℕ, ◌<◌, ◌≤◌, pos, ℤ, ◌≤ℤ◌, Bool, true, false}
+use Rattle.std.proofs.Common.{◌≡◌, ◌⊎◌, ℕ, suc, ◌+◌, ◌<◌, ◌≤◌, pos, ℤ, ◌≤ℤ◌, Bool, true, false}
 use Rattle.std.proofs.Common.{List}
-use Rattle.std.proofs.Common.{length, take, Option, Some, None, Result, Ok, Err, refl}
+use Rattle.std.proofs.Common.{[], ◌∷◌, length, take, Option, Some, None, Result, Ok, Err, refl}
 use Rattle.std.proofs.Common.{sym, ap}
 use Rattle.std.proofs.Common.{◌∙◌, subst, arith, inl, inr, true≢false}
+use Rattle.std.specs.List.{slice_get}
 use Rattle.std.proofs.lemmas.List.{length-map}
 use Rattle.number_sets.specs.Sets.{has, IsWithin}
 use Rattle.problem_rules.specs.Problem.{Problem}
@@ -12,9 +13,9 @@ use Rattle.problem_rules.specs.Validity.{IsValid}
 use Rattle.pns_rules.specs.Shape.{shape_of}
 use Rattle.pns_rules.specs.Nodes.{Node}
 use Rattle.pgraph.specs.View.{node_of}
-use Rattle.tree_rules.specs.Tree.{End, leaf}
+use Rattle.tree_rules.specs.Tree.{End, branch, leaf}
 use Rattle.tree_rules.specs.Leaf as leaves
-use Rattle.tree_rules.specs.Leaf.{Leaf, dead, clash, refuted, bounded, charged, untried}
+use Rattle.tree_rules.specs.Leaf.{Leaf, dead, clash, refuted, bounded, charged, untried, IsUntried}
 use Rattle.tree_rules.specs.Leaf.{IsBounded}
 use Rattle.tree_rules.specs.Claim.{Network, CostOver, claimed_cost}
 use Rattle.tree_rules.specs.Costs.{HasFallen}
@@ -26,19 +27,20 @@ use Rattle.rank_rules.specs.Networks.{cost_of, last_cost, numbered}
 use Rattle.rank_rules.specs.Marked.{Mark}
 use Rattle.search_tree.specs.declared.shut.Shut.{Shut}
 use Rattle.search_tree.specs.declared.shut.Shut.TheVariants as shuts
+use Rattle.search_tree.specs.Growth.{EndsOpen}
 use Rattle.search_tree.specs.Cells.{Cell, place_of, cell_at}
 use Rattle.search_tree.specs.Fits.{EndFits}
 use Rattle.search_tree.specs.Shut.{shut_leaf}
 use Rattle.search_tree.proofs.ShutLemmas.{proof_of}
 use Rattle.turn_laws.proofs.GrowLemmas.{leaf_fallen}
 use Rattle.node_evaluation.specs.Evaluated.{cost_over}
-use Rattle.node_evaluation.specs.Looks.{is_bounded, is_bounded_leaf, is_charged}
+use Rattle.node_evaluation.specs.Looks.{is_bounded, is_bounded_leaf, is_charged, is_charged_leaf}
 use Rattle.node_evaluation.specs.Children.{claim_with}
 use Rattle.abb_search.specs.declared.growing.Growing.{Growing}
 use Rattle.abb_search.specs.Growing.{IsTreeKeptFor}
 use Rattle.abb_search.specs.Closing.{EndsNode, EndSome, ShutsLeaf, ShutAll}
 use Rattle.rank_search.specs.Found.{FoundAt, networks_of}
-use Rattle.rank_search.specs.Naming.{name_at}
+use Rattle.rank_search.specs.Naming.{Names, name_at}
 use Rattle.rank_search.specs.Told.{IsTellingOf}
 use Rattle.rank_search.proofs.CostLemmas.{last_positive}
 use Rattle.rank_search.proofs.PlaceLemmas.{few_taken}
@@ -47,9 +49,9 @@ use Rattle.rank_search.proofs.NamedLeafLemmas.{ClosesAt, Closes, plain_passes, b
 use Rattle.rank_search.proofs.NamedLeafLemmas.{numbered_there, undercut_is, some_close}
 use Rattle.rank_search.proofs.OrderLemmas.{leaf_told}
 use Rattle.rank_search.proofs.TellingLemmas.{is_telling_of, known_cells}
-use Rattle.distinct_search.specs.Plants.{AreDistinct, NoneInside}
+use Rattle.distinct_search.specs.Plants.{AreDistinct, IsInList, IsFirstInside, NoneInside}
 use Rattle.distinct_search.specs.Listing.{IsListing, IsReached, reached_of, goal_of}
-use Rattle.distinct_search.specs.Names.{IsNameFor}
+use Rattle.distinct_search.specs.Names.{IsNameFor, AreNamesFor}
 use Rattle.distinct_search.specs.Telling.{IsNamedBy}
 use Rattle.distinct_search.proofs.PlantLemmas.{in_at, at_of, sized_in, scaled_of}
 use Rattle.distinct_search.proofs.NameLemmas.{names_counted, distinct_taken, in_taken}

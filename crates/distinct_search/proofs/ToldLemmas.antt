@@ -1,5 +1,5 @@
 -- What is found if the search ends in this way, from its answer.
-use Rattle.std.proofs.Common.{ℕ, true, false, List, None, refl}
+use Rattle.std.proofs.Common.{◌≡◌, ℕ, true, false, List, None, refl}
 use Rattle.problem_rules.specs.Problem.{Problem}
 use Rattle.pns_rules.specs.Shape.{shape_of}
 use Rattle.pns_rules.specs.Ends.{IsSound}

@@ -1,6 +1,6 @@
 -- The turns: what a search has before one and after it, and how much is left to do.
 use Rattle.std.specs.Prelude.{drop, Result, Ok, Err, OnOk}
-use Rattle.std.proofs.Common.{◌≡◌, ℕ, zero, suc, ◌+◌, ◌-◌, ◌*◌, ◌<◌, ◌≤◌, ℤ, Bool, true}
+use Rattle.std.proofs.Common.{◌≡◌, ℕ, zero, suc, ◌+◌, ◌-◌, ◌*◌, ◌^◌, ◌<◌, ◌≤◌, ℤ, Bool, true}
 use Rattle.std.proofs.Common.{false, cond, List, [], ◌∷◌, ◌++◌, length, slice_set, Option, Some}
 use Rattle.std.proofs.Common.{None}
 use Rattle.std.proofs.Common.{refl, sym, ap, ◌∙◌, subst, arith, length-append}
@@ -11,9 +11,9 @@ use Rattle.problem_rules.specs.Validity.{IsValid}
 use Rattle.pns_rules.specs.Shape.{shape_of}
 use Rattle.pgraph.specs.View.{node_of}
 use Rattle.node_pool.specs.Pooled.{Pooled}
-use Rattle.tree_rules.specs.Tree.{branch, leaf}
+use Rattle.tree_rules.specs.Tree.{End, branch, leaf}
 use Rattle.tree_rules.specs.Leaf.{bounded}
-use Rattle.tree_rules.specs.Claim.{Network}
+use Rattle.tree_rules.specs.Claim.{Network, CostOver}
 use Rattle.tree_rules.specs.Lean.{MayUndercut}
 use Rattle.mixed_numbers.specs.declared.number.Mixed.{Mixed}
 use Rattle.search_tree.specs.Growth.{as_parent, as_shut, EndsOpen, is_open}
@@ -46,7 +46,7 @@ use Rattle.distinct_search.specs.Listing.{IsReached, IsReachedAs, IsListing, IsW
 use Rattle.distinct_search.specs.Listing.{goal_of}
 use Rattle.distinct_search.proofs.TellingLemmas.{shut_any}
 use Rattle.distinct_search.specs.Turns.{IsOfTree, IsSearching, EndsAs, IsListEnd, count_open}
-use Rattle.distinct_search.specs.Turns.{left_over, GoesOn, TurnHolds, IsClosed}
+use Rattle.distinct_search.specs.Turns.{left_over, GoesOn, IsClosed}
 use Rattle.distinct_search.proofs.ListingLemmas.{listing_more, listing_branch, listing_shut}
 
 -- ---- how many leaves are open
@@ -70,8 +70,8 @@ count_set : (cs : List Cell) (at : ℕ) (d : Cell) → at < length cs
     → suc (count_open (slice_set cs at d)) ≡ count_open cs
 count_set [] at d lt o n = absurd (omega (arith, lt))
 count_set (c ∷ cs) zero d lt o n =
-    let a : ◌≡◌ {A = ℕ} (cond (is_open c.end) 1 0) 1 = ap (λ (b : Bool). cond b 1 0) o in
-    let b : ◌≡◌ {A = ℕ} (cond (is_open d.end) 1 0) 0 = ap (λ (b : Bool). cond b 1 0) n in
+    let a : cond (is_open c.end) 1 0 ≡ 1 = ap (λ (b : Bool). cond b 1 0) o in
+    let b : cond (is_open d.end) 1 0 ≡ 0 = ap (λ (b : Bool). cond b 1 0) n in
     omega (arith, a, b)
 count_set (c ∷ cs) (suc at) d lt o n =
     let e = count_set cs at d (omega (arith, lt)) o n in omega (arith, e)
@@ -166,14 +166,6 @@ goes_settled Past p s t n m l e h = record {
   searching = subst (λ b. IsSearching Past p b n m) e.budget h.searching;
   less = subst (λ k. left_over n < k) (left_settled Past p s.budget s t l e) h.less;
 }
-
--- and what its turn leads to is what the turn from here leads to
-pub turn_settled : (Past : PastPlaces) (p : Problem) (s t n : Growing) (m : Listing)
-    (o : Option Ending) → IsSame Past p s t → TurnHolds Past p t.budget (left_over t) n m o
-    → TurnHolds Past p s.budget (left_over s) n m o
-turn_settled Past p s t n m None e h = goes_settled Past p s t n m m e h
-turn_settled Past p s t n m (Some ending) e h =
-    subst (λ b. IsListEnd Past p b n m ending) e.budget h
 
 -- ---- the search stops at a leaf whose least cost overflows
 
@@ -337,9 +329,9 @@ module _ (Past : PastPlaces) (p : Problem) (budget : ℕ) (s new : Growing) (l k
         covered = closed.covered;
       }))
 
-  shut_listing : IsListing p (slice_set s.pool.payloads at cell_now) l.plants
+  listing_now : IsListing p (slice_set s.pool.payloads at cell_now) l.plants
       (slice_set l.reached.items at (Some c.reached))
-  shut_listing =
+  listing_now =
       listing_shut p s.pool.payloads l.plants l.reached.items at cell_now c.reached
       r.of_tree.listing within reached_now refl refl
 
@@ -357,7 +349,7 @@ module _ (Past : PastPlaces) (p : Problem) (budget : ℕ) (s new : Growing) (l k
             k.reached.items) (sym plants)
             (subst
             (λ (os : List (Option Mixed)). IsListing p (slice_set s.pool.payloads at cell_now)
-            l.plants os) (sym reached) shut_listing));
+            l.plants os) (sym reached) listing_now));
       };
       going =
           subst (λ (o : Option StoppedLeaf). GoesOnFor Past p None new o)

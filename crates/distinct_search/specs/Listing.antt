@@ -1,7 +1,7 @@
 -- What a search for plants that differ keeps: its plants, and for each leaf that is bounded a cost
 -- that its multipliers reach, with a plant of no more than this cost that each structure of the
 -- leaf contains.
-use Rattle.std.specs.Prelude.{◌≡◌, ℕ, ◌<◌, ◌++◌, ℤ, pos, ◌≤ℤ◌, false, List, [], ◌∷◌, length}
+use Rattle.std.specs.Prelude.{◌≡◌, ◌⊎◌, ℕ, ◌<◌, ◌++◌, ℤ, pos, ◌≤ℤ◌, false, List, [], ◌∷◌, length}
 use Rattle.std.specs.Prelude.{get_or, take}
 use Rattle.std.specs.Prelude.{Option, Some, None}
 use Rattle.number_sets.specs.Sets.{has, IsWithin}

@@ -1,6 +1,6 @@
 -- Which plant a leaf names: the first that each structure of the leaf contains, and that costs no
 -- more than what the multipliers of the leaf are known to reach.
-use Rattle.std.specs.Prelude.{◌≡◌, ℕ, ◌+◌, ◌<◌, List, length, Option, Some, None}
+use Rattle.std.specs.Prelude.{◌≡◌, ℕ, suc, ◌+◌, ◌<◌, List, length, Option, Some, None}
 use Rattle.mixed_numbers.specs.declared.number.Mixed.{Mixed}
 use Rattle.search_tree.specs.Cells.{Cell, cell_at}
 use Rattle.rank_search.specs.Found.{FoundAt}

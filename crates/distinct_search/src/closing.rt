@@ -1,6 +1,8 @@
 //! Leaves that a plant shuts: one that each of their structures contains, or the last one that is
 //! listed.
 ghost use Rattle.std.specs.Prelude.{◌≡◌, ◌≤◌, Option, None, Some, true, IfOk, IfSome, IsTrue};
+ghost use Rattle.std.specs.Prelude.{length};
+ghost use Rattle.std.specs.Prelude.{OnOk};
 ghost use Rattle.link_lists.specs.Lists.{first};
 ghost use Rattle.tree_rules.specs.Costs.{HasFallen};
 ghost use Rattle.node_evaluation.specs.Evaluated.{cost_in};

@@ -1,5 +1,5 @@
 //! What a search keeps beside its tree.
-ghost use Rattle.std.specs.Prelude.{◌≡◌, ◌<◌, ◌+◌, ◌^◌, OnOk, length};
+ghost use Rattle.std.specs.Prelude.{◌≡◌, ◌<◌, ◌≤◌, ◌+◌, ◌^◌, OnOk, length, option_copied};
 ghost use Rattle.distinct_search.specs.Plants.{AreAdded};
 ghost use Rattle.distinct_search.specs.Listing.{IsValueFor, IsWithValues};
 

@@ -1,5 +1,5 @@
 //! Names of leaves: plants that each of their structures contains.
-ghost use Rattle.std.specs.Prelude.{◌≡◌, ◌<◌, ◌^◌, IfOk, length};
+ghost use Rattle.std.specs.Prelude.{◌≡◌, ◌≤◌, ◌<◌, ◌^◌, IfOk, length};
 ghost use Rattle.distinct_search.specs.Names.{IsNameFor, AreNamesFor};
 
 use crate::plants::first_inside;

@@ -1,5 +1,6 @@
 //! The turns of a search for plants that differ, and the loop over them.
 ghost use Rattle.std.specs.Prelude.{◌≡◌, IfOk, OnOk, None, true};
+ghost use Rattle.link_lists.specs.Lists.{has};
 ghost use Rattle.pns_rules.specs.Shape.{shape_of};
 ghost use Rattle.neutral_extension.specs.Candidates.{AreMakersOf};
 ghost use Rattle.abb_search.specs.Rounds.{IsNextLeaf, FitsBudget, IsNext};

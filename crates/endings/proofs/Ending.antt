@@ -1,7 +1,6 @@
 -- What follows from a text that may be written with a status.
 use Rattle.std.proofs.Common.{◌≡◌, ◌≤◌, ◌++◌, [], ◌∷◌, ℕ, List, refl, sym, ◌∙◌, ap, subst, arith}
 use Rattle.std.proofs.Common.{inl, inr, append_assoc, append-nil, codes}
-use Rattle.std.specs.Prelude.{Result, Ok, Err, IfOk, MatchResult}
 use Rattle.std.specs.Io.KnownBytes.{Appends}
 use Rattle.std.proofs.KnownBytes.{Appends-trans}
 use Rattle.text_rules.specs.Outside.{HasRisen, AppendsFront}
@@ -158,22 +157,6 @@ Says-told answers answers' is_file old new more s t e = Tells-map answers answer
 pub Tells-memory : (answers : Status → List (List ℕ) → Type 0)
     → Tells answers Memory (line (codes "memory"))
 Tells-memory answers = ([], inl refl, refl)
-
--- a text that was made, or no memory for it: its lines say something, and so give an answer
-pub Ends-told : {X E : Type 0} (made : Result X E) (items : X → List ℕ)
-    (answers : Status → List (List ℕ) → Type 0) (Told : List (List ℕ) → Type 0)
-    (old new : OutputsState) (status : Status)
-    → ((lines : List (List ℕ)) → Told lines → answers Done lines)
-    → IfOk made (λ x. (lines : List (List ℕ)) × Told lines × (items x ≡ text_of lines))
-    → MatchResult made (λ x. Ends (Only Done (items x)) old new status)
-    (λ e. Ends (Only Memory (line (codes "memory"))) old new status)
-    → Ends (Tells answers) old new status
-Ends-told (Ok x) items answers Told old new status done says ends =
-    Ends-map (Only Done (items x)) (Tells answers) old new status
-    (only_in (Tells answers) Done (items x) (says.0, done says.0 says.1, says.2)) ends
-Ends-told (Err e) items answers Told old new status done says ends =
-    Ends-map (Only Memory (line (codes "memory"))) (Tells answers) old new status
-    (only_in (Tells answers) Memory (line (codes "memory")) (Tells-memory answers)) ends
 
 -- the same after a step that left the outputs as they were
 pub Ends-from : (P Q : Status → List ℕ → Type 0) (old old' new : OutputsState) (status : Status)

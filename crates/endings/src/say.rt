@@ -3,7 +3,7 @@
 //! `say` and its like put an answer on standard output. `tell` and its like put on standard error a
 //! line that says why there is no answer, and after it second lines for people.
 ghost use Rattle.std.specs.Prelude.{◌≡◌, ◌≤◌, ◌<◌, ◌++◌, ◌∷◌, [], ℕ, List, IfOk, codes};
-ghost use Rattle.std.specs.Prelude.{length, MatchResult};
+ghost use Rattle.std.specs.Prelude.{length};
 ghost use Rattle.std.specs.Prelude.{string_bytes};
 ghost use Rattle.io_rules.specs.State.{OutputsState};
 ghost use Rattle.tree_text_rules.specs.Line.{Token};
@@ -90,20 +90,6 @@ pub fn say_made<K: Sink, E: Sink>(
 ) -> Status
     ensures { (lines : List (List ℕ)) → IfOk text (λ bytes. bytes.items ≡ text_of lines)
         → Ends (OrMemory (Only Done (text_of lines))) out.old out.new result }
-{
-    match text {
-        Ok(bytes) => say_text(out, &bytes, Status::Done),
-        Err(_) => say_memory(out),
-    }
-}
-
-/// The same, for a text of which no more is known than its bytes.
-pub fn say_told<K: Sink, E: Sink>(
-    out: &mut Outputs<K, E>,
-    text: Result<Vec<u8>, AllocError>,
-) -> Status
-    ensures { MatchResult text (λ bytes. Ends (Only Done bytes.items) out.old out.new result)
-        (λ fault. Ends (Only Memory (line (codes "memory"))) out.old out.new result) }
 {
     match text {
         Ok(bytes) => say_text(out, &bytes, Status::Done),

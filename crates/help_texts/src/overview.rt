@@ -21,7 +21,7 @@ A FILE is a plant. Answers go to standard output, faults to standard error.
   report FILE TREE               the network of TREE; for programs: table, json
   graph FILE, graph FILE TREE    the plant, and the network in it, for Graphviz
   rank FILE N [BUDGET]           N best networks; see alternatives, rankcheck
-  stable FILE TREE [BUDGET]      how far each price and each cost may move
+  stable FILE TREE KIND NAME [BUDGET]   how far a price or a cost may move
   edit FILE SCRIPT               the plant after edits; the way back: undo
   migrate FILE YEARS             the script from yearly costs to investments
   periods FILE PLAN [BUDGET]     one design for several periods; see expand

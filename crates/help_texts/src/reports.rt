@@ -53,10 +53,6 @@ Prints a line that begins with PROVED (check accepts the tree), NOT FINISHED
 one of materials and one of sums. Costs are above 0, incomes below; numbers with
 more than 6 digits show 6. limit names the bound that an amount is at: max, min,
 fixed (both), idle (built, but of size 0), or UNBOUNDED?, at 1000000000.
-marginal is what one more of a net amount costs while these units stay. Above 0
-one more of a demand costs it, and one more of a raw material at max saves it;
-below 0 one more of a limit, as on CO2, saves it; 0 for a by-product left over.
-For a unit it is what one more of its size saves. It is - if a number overflows.
 NOT FINISHED says, if each open node has a bound, what no network costs less
 than (rounded down), and the gap to the best one in per cent (rounded up).
 If no network meets the bounds, those that clash follow: what the multipliers of
@@ -144,9 +140,8 @@ pub fn stable_page() -> &'static [u8]
     ensures { result.now ≡ text_of stable_page }
 {
     b"pns stable FILE TREE KIND NAME [BUDGET]
-pns stable FILE TREE [BUDGET]
 Finds how far one price or cost may move while the network of the claim still
-costs least. Without KIND and NAME: each price and each cost of the network.
+costs least.
   FILE    the plant, PNS_problem_v1
   TREE    a tree text, as solve prints it
   KIND    price, fix or proportional
@@ -154,12 +149,13 @@ costs least. Without KIND and NAME: each price and each cost of the network.
   BUDGET  the most nodes, 1 to 1000000; 10k is 10000; 1M if it is left out
 Prints from V, then below and a network that is cheaper under V, or below limit;
 to V, then above in the same way. V is in millionths.
-Without KIND and NAME it prints a table with numbers as in FILE: the two ends,
-or limit for the limit of the values, or ? if a search stopped.
 Standard error shows how far it is, unless PNS_QUIET is set.
 Ends with
   0   The whole text was printed.
-  1   refused claim WHY: as in pns help report.
+  1   refused claim WHY: the claim has no network (unknown), or its network
+      breaks an axiom (axiom) or an exclusion (exclusion), or its sizes break a
+      bound (flows), or its cost is wrong (cost), or a number is too large
+      (sum). Is FILE the plant that TREE was made for?
   4   at V, then a tree text or a place line: a number overflowed 128 bits; the
       plant need not be wrong. Write rates and costs with fewer digits, or
       tighter bounds and capacities, and call again.

@@ -6,7 +6,7 @@ ghost use Rattle.studio_rules.specs.Ending.{Ends, Tells};
 
 use crate::text::json_text;
 use branch_tree::{Claim, Tree};
-use endings::say::{say_memory, say_told};
+use endings::say::{say_made, say_memory};
 use network_commands::say_refused;
 use pgraph::{Graph, Site};
 use pns_io::{Outputs, Sink};
@@ -29,7 +29,7 @@ fn say_judged<K: Sink, E: Sink>(
         result }
 {
     match verdict_of(alloc, site, claim, tree) {
-        Ok(verdict) => say_told(out, json_text(alloc, site, claim, verdict)),
+        Ok(verdict) => say_made(out, json_text(alloc, site, claim, verdict)),
         Err(Unjudged::Claim(why)) => say_refused(alloc, out, why),
         Err(Unjudged::Memory) => say_memory(out),
     }

@@ -16,7 +16,6 @@ use Rattle.report_rules.specs.declared.amount.UnitAmount.TheVariants.{Used}
 use Rattle.report_rules.specs.declared.cost_part.CostPart.TheVariants.{Costs, Incomes}
 use Rattle.report_rules.specs.Amounts.{quotient, size, share, amount, unit_sum, net, price, cost}
 use Rattle.report_rules.specs.Amounts.{cost_sum}
-use Rattle.report_rules.specs.Marginal.{Marginals, marginal, unit_marginal}
 use Rattle.report_rules.specs.Report.{no_bound, unit_limit, material_limit, left_out}
 use Rattle.json_rules.specs.Json.{null, quoted, member, object, array, with_comma, comma_lines}
 use Rattle.json_rules.specs.Json.{array_lines}
@@ -60,28 +59,26 @@ share_json p w i =
     if int_lt (pos 0) (unit_at p i).upper && not (int_eq (unit_at p i).upper no_bound)
     then number_json (share p w i) else null
 
-abbrev pub unit_json : Problem → Network → Marginals → ℕ → List ℕ
-unit_json p w m i = object (
+abbrev pub unit_json : Problem → Network → ℕ → List ℕ
+unit_json p w i = object (
     text_member (codes "name") (unit_at p i).name ∷ number_member (codes "size") (size w i)
     ∷ member (codes "share") (share_json p w i) ∷ limit_member (unit_limit p w i)
     ∷ number_member (codes "fixed") (amount Fixed p w i)
     ∷ number_member (codes "proportional") (amount Proportional p w i)
     ∷ number_member (codes "investment") (amount Investment p w i)
-    ∷ number_member (codes "total") (amount Total p w i)
-    ∷ number_member (codes "marginal") (unit_marginal p m i) ∷ [])
+    ∷ number_member (codes "total") (amount Total p w i) ∷ [])
 
 -- ---- materials
 
-abbrev pub material_json : Problem → Network → Marginals → ℕ → List ℕ
-material_json p w m j = object (
+abbrev pub material_json : Problem → Network → ℕ → List ℕ
+material_json p w j = object (
     text_member (codes "name") (material_at p j).name
     ∷ text_member (codes "kind") (kind_word (material_at p j).kind)
     ∷ number_member (codes "made") (unit_sum (Made j) p w)
     ∷ number_member (codes "used") (unit_sum (Used j) p w)
     ∷ number_member (codes "net") (net p w j)
     ∷ limit_member (material_limit p w j) ∷ number_member (codes "price") (price p j)
-    ∷ number_member (codes "cost") (cost p w j)
-    ∷ number_member (codes "marginal") (marginal p m j) ∷ [])
+    ∷ number_member (codes "cost") (cost p w j) ∷ [])
 
 -- ---- money
 
@@ -117,21 +114,21 @@ head_lines head p w =
     (123 ∷ [])
     ∷ (map with_comma head ++ with_comma (counts_member p w) ∷ with_comma (payout_member p) ∷ [])
 
-abbrev pub unit_lines : Problem → Network → Marginals → List (List ℕ)
-unit_lines p w m = array_lines (codes "units") (map (unit_json p w m) w.units)
+abbrev pub unit_lines : Problem → Network → List (List ℕ)
+unit_lines p w = array_lines (codes "units") (map (unit_json p w) w.units)
 
-abbrev pub material_lines : Problem → Network → Marginals → List (List ℕ)
-material_lines p w m =
+abbrev pub material_lines : Problem → Network → List (List ℕ)
+material_lines p w =
     array_lines (codes "materials")
-    (map (material_json p w m) (materials_of (net_of p) (has w.units)))
+    (map (material_json p w) (materials_of (net_of p) (has w.units)))
 
 abbrev pub foot_lines : Problem → Network → List (List ℕ)
 foot_lines p w = with_comma (money_member p w) ∷ with_comma (once_member p w) ∷ left_out_member p w
     ∷ (125 ∷ []) ∷ []
 
-abbrev pub fact_lines : List (List ℕ) → Problem → Network → Marginals → List (List ℕ)
-fact_lines head p w m =
-    head_lines head p w ++ (unit_lines p w m ++ (material_lines p w m ++ foot_lines p w))
+abbrev pub fact_lines : List (List ℕ) → Problem → Network → List (List ℕ)
+fact_lines head p w =
+    head_lines head p w ++ (unit_lines p w ++ (material_lines p w ++ foot_lines p w))
 
 -- the lines of a claim without a network
 abbrev pub bare_lines : List (List ℕ) → List (List ℕ)

@@ -5,7 +5,6 @@ use Rattle.std.specs.Ordering.{int_eq}
 use Rattle.number_sets.specs.Sets.{minus}
 use Rattle.problem_rules.specs.Problem.{Problem}
 use Rattle.tree_rules.specs.Claim.{Network, size_in}
-use Rattle.report_rules.specs.Marginal.{Marginals}
 use Rattle.report_rules.specs.Ranked.{above_first, share_above}
 use Rattle.json_rules.specs.Json.{null, member, object, array}
 use Rattle.json_rules.specs.Value.{number_json}
@@ -53,8 +52,7 @@ values_of p (w ∷ ws) = network_values p w 1 (w ∷ ws)
 abbrev pub networks_member : Problem → List Network → List ℕ
 networks_member p ws = member (codes "networks") (array (values_of p ws))
 
--- the members of the head, and the facts of the first network if there is one; the marginals are
--- those of the first
-abbrev pub lines_behind : List (List ℕ) → Problem → Marginals → List Network → List (List ℕ)
-lines_behind head p m [] = bare_lines head
-lines_behind head p m (w ∷ ws) = fact_lines head p w m
+-- the members of the head, and the facts of the first network if there is one
+abbrev pub lines_behind : List (List ℕ) → Problem → List Network → List (List ℕ)
+lines_behind head p [] = bare_lines head
+lines_behind head p (w ∷ ws) = fact_lines head p w

@@ -28,7 +28,11 @@ fn low_money(problem: &Problem, low: &LowerBound) -> Number
     bounding(low).times(&year(problem))
 }
 
-fn bound_json(alloc: Global, problem: &Problem, low: Option<LowerBound>) -> Result<Json, AllocError>
+fn bound_json(
+    alloc: Global,
+    problem: &Problem,
+    low: Option<LowerBound>,
+) -> Result<Json, AllocError>
     ensures { IfOk result (λ json. json ≡ rules.bound_json problem.now low) }
 {
     match low {
@@ -67,7 +71,11 @@ fn gap_over(alloc: Global, network: &Network, low: &LowerBound) -> Result<Json, 
     }
 }
 
-fn gap_between(alloc: Global, claim: &Claim, low: Option<LowerBound>) -> Result<Json, AllocError>
+fn gap_between(
+    alloc: Global,
+    claim: &Claim,
+    low: Option<LowerBound>,
+) -> Result<Json, AllocError>
     ensures { IfOk result (λ json. json ≡ rules.gap_between (claim_of claim.now) low) }
 {
     match (claim, low) {

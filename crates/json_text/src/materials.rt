@@ -14,7 +14,7 @@ use json_pieces::{Json, push_array};
 use pgraph::Site;
 use pns_problem::Problem;
 use pns_tables::{kind_word, materials_in};
-use report_amounts::{Marginals, cost, material_of, net, price, unit_sum};
+use report_amounts::{cost, material_of, net, price, unit_sum};
 use report_rules::UnitAmount;
 use report_tables::material_limit;
 use std::alloc::{AllocError, Global};
@@ -32,14 +32,12 @@ fn material_json(
     alloc: Global,
     problem: &Problem,
     network: &Network,
-    marginals: &Marginals,
     j: u32,
 ) -> Result<Json, AllocError>
     requires feasible { IsFeasible problem.now network.now }
     requires material { has (materials_of (net_of problem.now) (has network.now.units)) j ≡ true }
     requires known { j < length problem.now.materials }
-    ensures { IfOk result
-        (λ json. json ≡ facts.material_json problem.now network.now marginals.now j) }
+    ensures { IfOk result (λ json. json ≡ facts.material_json problem.now network.now j) }
 {
     let name = text_member(alloc, "name", problem.material_name(j))?;
     let kind = kind_member(alloc, problem, j)?;
@@ -51,8 +49,7 @@ fn material_json(
     let limit = limit_member(alloc, material_limit(problem, network, j))?;
     let money = number_member(alloc, "price", &price(problem, j))?;
     let paid = number_member(alloc, "cost", &cost(problem, network, j))?;
-    let more = number_member(alloc, "marginal", &marginals.of_material(problem, j))?;
-    let members = [name, kind, made, used, left, limit, money, paid, more];
+    let members = [name, kind, made, used, left, limit, money, paid];
     let json = Json::object(alloc, &members)?;
     Ok(json)
 }
@@ -61,17 +58,16 @@ fn material_values(
     alloc: Global,
     site: &Site<'_>,
     network: &Network,
-    marginals: &Marginals,
 ) -> Result<Vec<Json>, AllocError>
     requires feasible { IsFeasible site.now network.now }
     ensures { IfOk result
         (λ values. values.items
-        ≡ map (facts.material_json site.now network.now marginals.now)
+        ≡ map (facts.material_json site.now network.now)
         (materials_of (net_of site.now) (has network.now.units))) }
 {
     let mut values = Vec::new(alloc);
     for j in materials_in(site, network) {
-        values.push(material_json(alloc, site.problem(), network, marginals, j)?)?;
+        values.push(material_json(alloc, site.problem(), network, j)?)?;
     }
     Ok(values)
 }
@@ -82,13 +78,11 @@ pub(crate) fn push_materials(
     text: &mut Vec<u8>,
     site: &Site<'_>,
     network: &Network,
-    marginals: &Marginals,
 ) -> Result<(), AllocError>
     requires feasible { IsFeasible site.now network.now }
     ensures { OnOk result
-        (text.new.items ≡ text.old.items
-        ++ printed (facts.material_lines site.now network.now marginals.now)) }
+        (text.new.items ≡ text.old.items ++ printed (facts.material_lines site.now network.now)) }
 {
-    let values = material_values(alloc, site, network, marginals)?;
+    let values = material_values(alloc, site, network)?;
     push_array(text, "materials", &values)
 }

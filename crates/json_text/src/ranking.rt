@@ -13,7 +13,7 @@ use json_pieces::Json;
 use pgraph::Site;
 use pns_problem::Problem;
 use pns_tables::size_at;
-use report_amounts::{Marginals, above_first, share_above};
+use report_amounts::{above_first, share_above};
 use std::alloc::{AllocError, Global};
 use unit_sets::UnitSet;
 
@@ -181,22 +181,20 @@ pub fn networks_member(
     Json::member(alloc, "networks", &array)
 }
 
-/// The object that begins with the members of the head, and has the facts of the first network with
-/// its marginals if there is one.
+/// The object that begins with the members of the head, and has the facts of the first network if
+/// there is one.
 pub fn first_of(
     alloc: Global,
     head: &[Json],
     site: &Site<'_>,
     networks: &[Network],
-    marginals: &Marginals,
 ) -> Result<Vec<u8>, AllocError>
     requires { IsFirstFeasible site.now networks.now }
     ensures { IfOk result
-        (λ bytes. bytes.items
-        ≡ printed (rules.lines_behind head.now site.now marginals.now networks.now)) }
+        (λ bytes. bytes.items ≡ printed (rules.lines_behind head.now site.now networks.now)) }
 {
     match networks.split_first() {
-        Some((first, _)) => facts_of(alloc, head, site, first, marginals),
+        Some((first, _)) => facts_of(alloc, head, site, first),
         None => bare_of(alloc, head),
     }
 }

@@ -11,28 +11,24 @@ use crate::units::push_units;
 use branch_tree::Network;
 use json_pieces::{Json, push_comma_lines, push_line};
 use pgraph::Site;
-use report_amounts::Marginals;
 use std::alloc::{AllocError, Global};
 
-/// The object of a network with these marginals on its problem, which begins with the members of
-/// the head.
+/// The object of a network on its problem, which begins with the members of the head.
 pub fn facts_of(
     alloc: Global,
     head: &[Json],
     site: &Site<'_>,
     network: &Network,
-    marginals: &Marginals,
 ) -> Result<Vec<u8>, AllocError>
     requires feasible { IsFeasible site.now network.now }
     ensures { IfOk result
-        (λ bytes. bytes.items
-        ≡ printed (fact_lines head.now site.now network.now marginals.now)) }
+        (λ bytes. bytes.items ≡ printed (fact_lines head.now site.now network.now)) }
 {
     let mut text = Vec::new(alloc);
     push_head(alloc, &mut text, head, site, network)?;
     let problem = site.problem();
-    push_units(alloc, &mut text, problem, network, marginals)?;
-    push_materials(alloc, &mut text, site, network, marginals)?;
+    push_units(alloc, &mut text, problem, network)?;
+    push_materials(alloc, &mut text, site, network)?;
     push_foot(alloc, &mut text, site, network)?;
     Ok(text)
 }

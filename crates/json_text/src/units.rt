@@ -9,7 +9,7 @@ use crate::members::{limit_member, number_member, text_member};
 use branch_tree::Network;
 use json_pieces::{Json, push_array};
 use pns_problem::Problem;
-use report_amounts::{Marginals, amount, share_of, size, unit_of};
+use report_amounts::{amount, share_of, size, unit_of};
 use report_rules::UnitAmount;
 use report_tables::{NO_BOUND, unit_limit};
 use std::alloc::{AllocError, Global};
@@ -50,12 +50,10 @@ fn unit_json(
     alloc: Global,
     problem: &Problem,
     network: &Network,
-    marginals: &Marginals,
     u: u32,
 ) -> Result<Json, AllocError>
     requires { u < length problem.now.units }
-    ensures { IfOk result
-        (λ json. json ≡ facts.unit_json problem.now network.now marginals.now u) }
+    ensures { IfOk result (λ json. json ≡ facts.unit_json problem.now network.now u) }
 {
     let name = text_member(alloc, "name", problem.unit_name(u))?;
     let sized = number_member(alloc, "size", &size(network, u))?;
@@ -69,7 +67,6 @@ fn unit_json(
     let investment = number_member(alloc, "investment", &cost)?;
     let cost = amount(UnitAmount::Total, problem, network, u);
     let total = number_member(alloc, "total", &cost)?;
-    let saved = number_member(alloc, "marginal", &marginals.of_unit(problem, u))?;
     let members = [
         name,
         sized,
@@ -79,26 +76,19 @@ fn unit_json(
         proportional,
         investment,
         total,
-        saved,
     ];
     let json = Json::object(alloc, &members)?;
     Ok(json)
 }
 
-fn unit_values(
-    alloc: Global,
-    problem: &Problem,
-    network: &Network,
-    marginals: &Marginals,
-) -> Result<Vec<Json>, AllocError>
+fn unit_values(alloc: Global, problem: &Problem, network: &Network) -> Result<Vec<Json>, AllocError>
     requires { (u : ℕ) → has network.now.units u ≡ true → u < length problem.now.units }
     ensures { IfOk result
-        (λ values. values.items
-        ≡ map (facts.unit_json problem.now network.now marginals.now) network.now.units) }
+        (λ values. values.items ≡ map (facts.unit_json problem.now network.now) network.now.units) }
 {
     let mut values = Vec::new(alloc);
     for u in network.units() {
-        values.push(unit_json(alloc, problem, network, marginals, u)?)?;
+        values.push(unit_json(alloc, problem, network, u)?)?;
     }
     Ok(values)
 }
@@ -109,13 +99,11 @@ pub(crate) fn push_units(
     text: &mut Vec<u8>,
     problem: &Problem,
     network: &Network,
-    marginals: &Marginals,
 ) -> Result<(), AllocError>
     requires { (u : ℕ) → has network.now.units u ≡ true → u < length problem.now.units }
     ensures { OnOk result
-        (text.new.items ≡ text.old.items
-        ++ printed (facts.unit_lines problem.now network.now marginals.now)) }
+        (text.new.items ≡ text.old.items ++ printed (facts.unit_lines problem.now network.now)) }
 {
-    let values = unit_values(alloc, problem, network, marginals)?;
+    let values = unit_values(alloc, problem, network)?;
     push_array(text, "units", &values)
 }

@@ -7,7 +7,7 @@ ghost use Rattle.studio_rules.specs.Ending.{Ends, Tells};
 use crate::claim::say_refused;
 use crate::verdict_lines::verdict_text;
 use branch_tree::{Claim, Tree};
-use endings::say::{say_memory, say_told};
+use endings::say::{say_made, say_memory};
 use pgraph::{Graph, Site};
 use pns_io::{Outputs, Sink};
 use pns_problem::Problem;
@@ -29,7 +29,7 @@ fn say_judged<K: Sink, E: Sink>(
         result }
 {
     match verdict_of(alloc, site, claim, tree) {
-        Ok(verdict) => say_told(out, verdict_text(alloc, site, claim, tree, verdict)),
+        Ok(verdict) => say_made(out, verdict_text(alloc, site, claim, tree, verdict)),
         Err(Unjudged::Claim(why)) => say_refused(alloc, out, why),
         Err(Unjudged::Memory) => say_memory(out),
     }

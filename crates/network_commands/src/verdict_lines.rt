@@ -1,22 +1,19 @@
 //! A line with what a tree proves, and after it the tables of the network of the claim, or the
 //! bounds that clash.
-ghost use Rattle.std.specs.Prelude.{◌≡◌, ◌<◌, ◌^◌, ◌++◌, ◌∷◌, [], ℕ, List, true, length, IfOk};
-ghost use Rattle.std.specs.Prelude.{OnOk, None, string_bytes};
+ghost use Rattle.std.specs.Prelude.{◌≡◌, ◌<◌, ◌^◌, ◌++◌, ◌∷◌, [], true, length, IfOk, OnOk};
+ghost use Rattle.std.specs.Prelude.{string_bytes};
 ghost use Rattle.tree_rules.specs.Claim as claims;
-ghost use Rattle.tree_rules.specs.Claim.{ClaimPasses, IsFeasible};
+ghost use Rattle.tree_rules.specs.Claim.{ClaimPasses};
 ghost use Rattle.branch_tree.specs.View.{claim_of};
-ghost use Rattle.report_rules.specs.Marginal.{Marginals, AreMarginals, AreClaimMarginals};
-ghost use Rattle.report_rules.specs.Report.{report_lines};
 ghost use Rattle.report_rules.specs.Verdict.{IsVerdict};
 ghost use Rattle.studio_rules.specs.Lines.{text_of};
 ghost use Rattle.studio_rules.specs.Report.{proved_line, low_words, gap_behind};
 ghost use Rattle.studio_rules.specs.Report.{none_found_line, unfinished_line, failing_line};
 ghost use Rattle.studio_rules.specs.Report.{first_line};
-ghost use Rattle.studio_rules.specs.Report.{tables_of, VerdictSays};
+ghost use Rattle.studio_rules.specs.Report.{tables_of, verdict_lines};
 
 use branch_tree::{Claim, Network, Tree};
 use clash_tables::clashes_of;
-use marginals::marginals_of;
 use pgraph::Site;
 use pns_problem::Problem;
 use refusal_words::why_word;
@@ -180,25 +177,12 @@ fn clash_text(
     requires few { length tree.now < 2 ^ 32 }
     requires verdict { IsVerdict site.now claims.infeasible tree.now verdict }
     ensures { IfOk result
-        (λ bytes. bytes.items
-        ≡ text_of (tables_of site.now None claims.infeasible tree.now verdict)) }
+        (λ bytes. bytes.items ≡ text_of (tables_of site.now claims.infeasible tree.now verdict)) }
 {
     match verdict {
         Verdict::Proved => clashes_of(alloc, site, tree),
         Verdict::Unfinished { .. } | Verdict::Fails { .. } => Ok(Vec::new(alloc)),
     }
-}
-
-/// The tables of the network, with its marginals.
-fn network_text(alloc: Global, site: &Site<'_>, network: &Network) -> Result<Vec<u8>, AllocError>
-    requires feasible { IsFeasible site.now network.now }
-    ensures { IfOk result
-        (λ bytes. (m : Marginals) × AreMarginals site.now network.now.units m
-        × (bytes.items ≡ text_of (report_lines site.now network.now m))) }
-{
-    let marginals = marginals_of(alloc, site, network)?;
-    let bytes = report_of(alloc, site, network, &marginals)?;
-    Ok(bytes)
 }
 
 /// The tables of the network, if one is claimed, or the bounds that clash.
@@ -213,11 +197,11 @@ fn tables_of(
     requires passes { ClaimPasses true site.now (claim_of claim.now) }
     requires verdict { IsVerdict site.now (claim_of claim.now) tree.now verdict }
     ensures { IfOk result
-        (λ bytes. (m : Marginals) × AreClaimMarginals site.now (claim_of claim.now) m
-        × (bytes.items ≡ text_of (tables_of site.now m (claim_of claim.now) tree.now verdict))) }
+        (λ bytes. bytes.items
+        ≡ text_of (tables_of site.now (claim_of claim.now) tree.now verdict)) }
 {
     match claim {
-        Claim::Network(network) => network_text(alloc, site, network),
+        Claim::Network(network) => report_of(alloc, site, network),
         Claim::Infeasible => clash_text(alloc, site, tree, verdict),
         Claim::Unknown => Ok(Vec::new(alloc)),
     }
@@ -236,9 +220,8 @@ pub fn verdict_text(
     requires passes { ClaimPasses true site.now (claim_of claim.now) }
     requires verdict { IsVerdict site.now (claim_of claim.now) tree.now verdict }
     ensures { IfOk result
-        (λ bytes. (lines : List (List ℕ))
-        × VerdictSays site.now (claim_of claim.now) tree.now verdict lines
-        × (bytes.items ≡ text_of lines)) }
+        (λ bytes. bytes.items
+        ≡ text_of (verdict_lines site.now (claim_of claim.now) tree.now verdict)) }
 {
     let mut bytes = first_text(alloc, site.problem(), claim, verdict)?;
     let tables = tables_of(alloc, site, claim, tree, verdict)?;

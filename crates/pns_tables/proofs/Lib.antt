@@ -1,5 +1,5 @@
 pub mod FlowLemmas
 pub mod ReadLemmas
 mod RowLemmas
-pub mod SizeLemmas
+mod SizeLemmas
 pub mod Walk

@@ -1,10 +1,10 @@
 -- Networks that are alike in a ranking or in a list of alternatives, and the causes that are
 -- reported.
-use Rattle.std.proofs.Common.{◌≡◌, ℕ, ◌==◌, ℤ, pos, ◌≤ℤ◌, ◌<ℤ◌, true, false, List, [], ◌∷◌}
+use Rattle.std.proofs.Common.{◌≡◌, ℕ, zero, suc, ℤ, pos, ◌≤ℤ◌, ◌<ℤ◌, true, false, List, [], ◌∷◌}
 use Rattle.std.proofs.Common.{not}
 use Rattle.std.proofs.Common.{refl, inl, inr, arith}
 use Rattle.std.proofs.lemmas.Int.{ints}
-use Rattle.std.proofs.lemmas.Bool.{both_ways, or_cases, or_left, or_right}
+use Rattle.std.proofs.lemmas.Bool.{both_ways}
 use Rattle.std.specs.Int.Signed.{lt_z, lt_z_no, lt_z_yes}
 use Rattle.std.specs.Prelude.{T}
 use Rattle.number_sets.specs.Sets.{has, IsWithin}
@@ -24,11 +24,10 @@ not_at_most : (a b : ℤ) → T (lt_z b a) → a ≤ℤ b → ⊥
 not_at_most a b t h = let less : b <ℤ a = lt_z_yes t in omega (arith, ints)
 
 within : IsWithin (has (0 ∷ 2 ∷ [])) (has (0 ∷ 1 ∷ 2 ∷ []))
-within u e =
-    elim (or_cases (0 == u) (has (2 ∷ []) u) e) [
-      | inl q ↦ or_left (0 == u) (has (1 ∷ 2 ∷ []) u) q
-      | inr r ↦ or_right (0 == u) (has (1 ∷ 2 ∷ []) u) (or_right (1 == u) (has (2 ∷ []) u) r)
-    ]
+within zero e = refl
+within (suc zero) e = refl
+within (suc (suc zero)) e = refl
+within (suc (suc (suc u))) e = e
 
 -- a dearer network with an idle unit
 idle : AreAlike true (at_cost (0 ∷ 2 ∷ []) (pos 75)) (at_cost (0 ∷ 1 ∷ 2 ∷ []) (pos 76))

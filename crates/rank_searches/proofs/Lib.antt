@@ -1,3 +1,3 @@
-mod DistinctLists
+mod Alternates
 mod Marks
 pub mod Rankings

@@ -94,7 +94,7 @@ fn once(problem: &Problem, network: &Network, u: u32) -> Number
 }
 
 /// 1 over the payout period.
-pub(crate) fn year(problem: &Problem) -> Number
+fn year(problem: &Problem) -> Number
     ensures { result ≡ quotient (pos 1) problem.now.payout }
 {
     problem.is_valid();

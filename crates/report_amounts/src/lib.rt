@@ -8,20 +8,18 @@
 //! if they have more, or as a share in per cent. The gap to a lower bound is rounded up.
 //!
 //! Modules: `number`, such fractions; `amounts`, the numbers of units and their sums; `costs`,
-//! those of materials; `marginals`, what one more of a material costs or of a size saves; `gap`,
-//! the gap to a lower bound; `ranks`, what a network costs more than the first of a ranking.
+//! those of materials; `gap`, the gap to a lower bound; `ranks`, what a network costs more than the
+//! first of a ranking.
 #![tactic(auto)]
 
 mod amounts;
 mod costs;
 mod gap;
-mod marginals;
 mod number;
 mod ranks;
 
 pub use amounts::{amount, share_of, size, unit_of, unit_sum};
 pub use costs::{cost, cost_sum, flow_at, material_of, net, price};
 pub use gap::{gap_above, push_gap};
-pub use marginals::{Marginals, Multipliers};
 pub use number::Number;
 pub use ranks::{above_first, share_above};

@@ -47,7 +47,7 @@ impl Number {
         Number::of(0, 1)
     }
 
-    pub(crate) fn past() -> Number
+    fn past() -> Number
         ensures { result ≡ None }
     {
         Number { fraction: None }

@@ -11,7 +11,7 @@ use Rattle.rank_rules.specs.declared.why.RankWhy.{RankWhy}
 use Rattle.report_tables.specs.First.{IsFirstFeasible}
 use Rattle.report_rules.specs.RankVerdict.{IsRankVerdict}
 use Rattle.report_rules.specs.declared.rank_verdict.RankVerdict.{RankVerdict}
-use Rattle.report_commands.specs.Works.{TreeWork, RankWork, RankLines}
+use Rattle.report_commands.specs.Works.{TreeWork, RankWork, rank_lines}
 use Rattle.report_commands.specs.declared.form.Form.{Form}
 use Rattle.report_commands.specs.declared.form.Form.TheVariants.{Report, Json}
 use Rattle.studio_rules.specs.Json.{JsonWork}
@@ -24,10 +24,9 @@ use Rattle.studio_rules.specs.declared.status.Status.{Status}
 use Rattle.studio_rules.specs.declared.status.Status.TheVariants.{Done, BadClaim, TooLong}
 
 -- the first of networks that pass is feasible
-pub first_feasible : (distinct : Bool) (p : Problem) (ws : List Network)
-    → ArePassing distinct p [] ws → IsFirstFeasible p ws
-first_feasible distinct p [] h = h
-first_feasible distinct p (w ∷ ws) h = h.0
+pub first_feasible : (p : Problem) (ws : List Network) → ArePassing p [] ws → IsFirstFeasible p ws
+first_feasible p [] h = h
+first_feasible p (w ∷ ws) h = h.0
 
 -- of a tree, in the form that is wanted
 pub as_report : (form : Form) → form ≡ Report → (p : Problem) (claim : Claim) (tree : Tree)
@@ -42,11 +41,11 @@ pub as_json : (form : Form) → form ≡ Json → (p : Problem) (claim : Claim) 
 as_json form e p claim tree s lines h =
     subst (λ (f : Form). TreeWork f p claim tree s lines) (sym e) h
 
-pub done : (form : Form) (p : Problem) (t : Text) (verdict : RankVerdict) (lines : List (List ℕ))
-    → IsRankVerdict p (ranking_of t) verdict → RankLines form p (ranking_of t) verdict lines
-    → RankWork form p t Done lines
-done Report p t verdict lines h says = (verdict, h, says)
-done Json p t verdict lines h says = (verdict, h, says)
+pub done : (form : Form) (p : Problem) (t : Text) (verdict : RankVerdict)
+    → IsRankVerdict p (ranking_of t) verdict
+    → RankWork form p t Done (rank_lines form p (ranking_of t) verdict)
+done Report p t verdict h = (verdict, h, refl)
+done Json p t verdict h = (verdict, h, refl)
 
 pub refused : (form : Form) (p : Problem) (t : Text) (number : ℕ) (why : RankWhy)
     → NetworkIsFault p (ranking_of t) number why

@@ -10,8 +10,8 @@ use Rattle.report_commands.specs.declared.form.Form.{Form}
 use Rattle.report_commands.specs.declared.form.Form.TheVariants as forms
 use Rattle.studio_rules.specs.Report.{ReportWork}
 use Rattle.studio_rules.specs.Json.{JsonWork}
-use Rattle.studio_rules.specs.RankReport.{RankReportWork, RankVerdictSays}
-use Rattle.studio_rules.specs.RankJson.{RankJsonWork, RankFactsSay}
+use Rattle.studio_rules.specs.RankReport.{RankReportWork, rank_report_lines}
+use Rattle.studio_rules.specs.RankJson.{RankJsonWork, rank_json_lines}
 use Rattle.studio_rules.specs.declared.status.Status.{Status}
 
 abbrev pub TreeWork : Form → Problem → Claim → Tree → Status → List (List ℕ) → Type 0
@@ -22,7 +22,7 @@ abbrev pub RankWork : Form → Problem → Text → Status → List (List ℕ) �
 RankWork forms.Report = RankReportWork
 RankWork forms.Json = RankJsonWork
 
--- the lines of a ranking with its verdict
-abbrev pub RankLines : Form → Problem → Ranking → RankVerdict → List (List ℕ) → Type 0
-RankLines forms.Report = RankVerdictSays
-RankLines forms.Json = RankFactsSay
+-- the lines of a ranking
+abbrev pub rank_lines : Form → Problem → Ranking → RankVerdict → List (List ℕ)
+rank_lines forms.Report = rank_report_lines
+rank_lines forms.Json = rank_json_lines

@@ -1,5 +1,5 @@
 //! The object of a ranking.
-ghost use Rattle.std.specs.Prelude.{◌≡◌, [], ℕ, List, IfOk, codes};
+ghost use Rattle.std.specs.Prelude.{◌≡◌, [], IfOk, codes};
 ghost use Rattle.rank_rules.specs.Networks.{ArePassing};
 ghost use Rattle.rank_rules.specs.Text.{ranking_of};
 ghost use Rattle.json_rules.specs.Facts as facts;
@@ -8,7 +8,6 @@ ghost use Rattle.json_rules.specs.Ranked as ranked;
 ghost use Rattle.studio_rules.specs.Lines.{text_of};
 ghost use Rattle.studio_rules.specs.RankJson as rules;
 
-use crate::first::first_marginals;
 use json_pieces::Json;
 use json_text::{count_member, first_of, networks_member, text_member};
 use pgraph::Site;
@@ -95,9 +94,8 @@ pub(crate) fn rank_object(
 ) -> Result<Vec<u8>, AllocError>
     requires listed { ArePassing ranking.now.distinct site.now [] ranking.now.networks }
     ensures { IfOk result
-        (λ bytes. (lines : List (List ℕ))
-        × rules.RankFactsSay site.now (ranking_of ranking.now) verdict lines
-        × (bytes.items ≡ text_of lines)) }
+        (λ bytes. bytes.items
+        ≡ text_of (rules.rank_json_lines site.now (ranking_of ranking.now) verdict)) }
 {
     let stated = text_member(alloc, "verdict", verdict_word(verdict))?;
     let node = node_member(alloc, verdict)?;
@@ -106,8 +104,6 @@ pub(crate) fn rank_object(
     let asked = asked_member(alloc, ranking)?;
     let listed = listed_member(alloc, site, ranking)?;
     let head = [stated, node, why, claimed, asked, listed];
-    let networks = ranking.networks();
-    let marginals = first_marginals(alloc, site, networks)?;
-    let bytes = first_of(alloc, &head, site, networks, &marginals)?;
+    let bytes = first_of(alloc, &head, site, ranking.networks())?;
     Ok(bytes)
 }

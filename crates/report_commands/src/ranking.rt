@@ -2,7 +2,7 @@
 ghost use Rattle.std.specs.Prelude.{◌≡◌, ◌<◌, ◌≤◌, ◌^◌, [], ℕ, List, IfOk, length};
 ghost use Rattle.rank_rules.specs.Networks.{ArePassing};
 ghost use Rattle.rank_rules.specs.Text.{ranking_of};
-ghost use Rattle.report_commands.specs.Works.{RankWork, RankLines};
+ghost use Rattle.report_commands.specs.Works.{RankWork, rank_lines};
 ghost use Rattle.studio_rules.specs.Lines.{line, text_of};
 ghost use Rattle.studio_rules.specs.RankWords.{network_line};
 ghost use Rattle.studio_rules.specs.TextFile.{RankSays};
@@ -13,7 +13,7 @@ use crate::form::Form;
 use crate::object::rank_object;
 use crate::report::rank_report;
 use command_files::say_tree_fault;
-use endings::say::{say_memory, say_told, tell_made};
+use endings::say::{say_made, say_memory, tell_made};
 use messages::{Format, Notes, Source, refused};
 use pgraph::{Graph, Site};
 use pns_io::{Outputs, Sink};
@@ -38,9 +38,8 @@ fn text_of(
 ) -> Result<Vec<u8>, AllocError>
     requires listed { ArePassing ranking.now.distinct site.now [] ranking.now.networks }
     ensures { IfOk result
-        (λ bytes. (lines : List (List ℕ))
-        × RankLines form site.now (ranking_of ranking.now) verdict lines
-        × (bytes.items ≡ text_of lines)) }
+        (λ bytes. bytes.items
+        ≡ text_of (rank_lines form site.now (ranking_of ranking.now) verdict)) }
 {
     match form {
         Form::Report => rank_report(alloc, site, ranking, verdict),
@@ -87,7 +86,7 @@ fn say_judged<K: Sink, E: Sink>(
     ensures { Ends (Tells (RankWork form site.now ranking.now)) out.old out.new result }
 {
     match rank_verdict_of(alloc, site, ranking) {
-        Ok(verdict) => say_told(out, text_of(alloc, form, site, ranking, verdict)),
+        Ok(verdict) => say_made(out, text_of(alloc, form, site, ranking, verdict)),
         Err(RankUnjudged::Network { number, why }) => say_network(alloc, out, number, why),
         Err(RankUnjudged::Memory) => say_memory(out),
     }

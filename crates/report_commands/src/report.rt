@@ -1,11 +1,10 @@
 //! The report of a ranking.
-ghost use Rattle.std.specs.Prelude.{◌≡◌, ◌++◌, ◌∷◌, [], ℕ, List, IfOk, length};
+ghost use Rattle.std.specs.Prelude.{◌≡◌, ◌++◌, ◌∷◌, [], IfOk, length};
 ghost use Rattle.rank_rules.specs.Networks.{ArePassing};
 ghost use Rattle.rank_rules.specs.Text.{ranking_of};
 ghost use Rattle.studio_rules.specs.Lines.{text_of};
-ghost use Rattle.studio_rules.specs.RankReport.{rank_first_line, RankVerdictSays};
+ghost use Rattle.studio_rules.specs.RankReport.{rank_first_line, rank_report_lines};
 
-use crate::first::first_marginals;
 use crate::words::push_first_line;
 use pgraph::Site;
 use ranked_tree::{Asked, RankText};
@@ -58,15 +57,12 @@ pub(crate) fn rank_report(
 ) -> Result<Vec<u8>, AllocError>
     requires listed { ArePassing ranking.now.distinct site.now [] ranking.now.networks }
     ensures { IfOk result
-        (λ bytes. (lines : List (List ℕ))
-        × RankVerdictSays site.now (ranking_of ranking.now) verdict lines
-        × (bytes.items ≡ text_of lines)) }
+        (λ bytes. bytes.items
+        ≡ text_of (rank_report_lines site.now (ranking_of ranking.now) verdict)) }
 {
     ranking.is_counted();
     let mut bytes = first_text(alloc, asked_of(ranking), found_in(ranking), verdict)?;
-    let networks = ranking.networks();
-    let marginals = first_marginals(alloc, site, networks)?;
-    let tables = ranking_of(alloc, site, networks, &marginals)?;
+    let tables = ranking_of(alloc, site, ranking.networks())?;
     bytes.extend_from_slice(&tables)?;
     Ok(bytes)
 }

@@ -5,7 +5,6 @@ pub mod Decimal
 pub mod Drawn
 pub mod Graph
 pub mod Lower
-pub mod Marginal
 pub mod Number
 pub mod RankVerdict
 pub mod Ranked

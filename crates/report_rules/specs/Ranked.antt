@@ -11,7 +11,6 @@ use Rattle.report_rules.specs.declared.column.Sort.{Sort}
 use Rattle.report_rules.specs.declared.column.Sort.TheVariants.{Words, Numbers, Sums}
 use Rattle.report_rules.specs.Number.{Number, times, plus, share_text}
 use Rattle.report_rules.specs.Amounts.{quotient}
-use Rattle.report_rules.specs.Marginal.{Marginals}
 use Rattle.report_rules.specs.Report.{number_cell, total_cell, table_and_gap, report_lines}
 
 -- ---- what a network costs more than the first
@@ -88,7 +87,7 @@ abbrev pub ranking_table : Problem → Network → List Network → List (List �
 ranking_table p first ws =
     table_and_gap ranking_sorts ranking_heading (ranking_rows p first 1 ws)
 
--- nothing if there is no network; the marginals are those of the first
-abbrev pub ranking_lines : Problem → Marginals → List Network → List (List ℕ)
-ranking_lines p m [] = []
-ranking_lines p m (w ∷ ws) = ranking_table p w (w ∷ ws) ++ report_lines p w m
+-- nothing if there is no network
+abbrev pub ranking_lines : Problem → List Network → List (List ℕ)
+ranking_lines p [] = []
+ranking_lines p (w ∷ ws) = ranking_table p w (w ∷ ws) ++ report_lines p w

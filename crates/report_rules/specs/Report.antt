@@ -20,7 +20,6 @@ use Rattle.report_rules.specs.declared.amount.UnitAmount.TheVariants.{Investment
 use Rattle.report_rules.specs.declared.amount.UnitAmount.TheVariants.{Used}
 use Rattle.report_rules.specs.declared.cost_part.CostPart.TheVariants.{All, Costs, Incomes}
 use Rattle.report_rules.specs.Amounts.{size, share, amount, unit_sum, net, price, cost, cost_sum}
-use Rattle.report_rules.specs.Marginal.{Marginals, are_known, marginal, unit_marginal}
 
 -- ---- head
 
@@ -44,10 +43,6 @@ head_lines p w =
 
 unfoldable pub number_cell : Number → List ℕ
 number_cell n = number_text n
-
--- there is none if the multipliers overflow
-unfoldable pub marginal_cell : Marginals → Number → List ℕ
-marginal_cell m n = if are_known m then number_cell n else 45 ∷ []
 
 -- 10^9 in millionths: a bound that means that there is no bound
 abbrev pub no_bound : ℤ
@@ -111,59 +106,56 @@ table_and_gap sorts heading rows = table_lines sorts heading rows ++ [] ∷ []
 
 abbrev pub unit_heading : List (List ℕ)
 unit_heading = codes "unit" ∷ codes "size" ∷ codes "share %" ∷ codes "limit" ∷ codes "fixed"
-    ∷ codes "proportional" ∷ codes "investment" ∷ codes "total" ∷ codes "marginal" ∷ []
+    ∷ codes "proportional" ∷ codes "investment" ∷ codes "total" ∷ []
 
 abbrev pub unit_sorts : List Sort
-unit_sorts =
-    Words ∷ Numbers ∷ Numbers ∷ Words ∷ Numbers ∷ Numbers ∷ Numbers ∷ Numbers ∷ Numbers ∷ []
+unit_sorts = Words ∷ Numbers ∷ Numbers ∷ Words ∷ Numbers ∷ Numbers ∷ Numbers ∷ Numbers ∷ []
 
-abbrev pub unit_row : Problem → Network → Marginals → ℕ → List (List ℕ)
-unit_row p w m i =
+abbrev pub unit_row : Problem → Network → ℕ → List (List ℕ)
+unit_row p w i =
     (unit_at p i).name ∷ number_cell (size w i) ∷ share_cell p w i ∷ unit_limit p w i
     ∷ number_cell (amount Fixed p w i)
     ∷ number_cell (amount Proportional p w i) ∷ number_cell (amount Investment p w i)
-    ∷ number_cell (amount Total p w i) ∷ marginal_cell m (unit_marginal p m i) ∷ []
+    ∷ number_cell (amount Total p w i) ∷ []
 
 abbrev pub all_units_row : Problem → Network → List (List ℕ)
 all_units_row p w =
     codes "all units" ∷ [] ∷ [] ∷ [] ∷ number_cell (unit_sum Fixed p w)
     ∷ number_cell (unit_sum Proportional p w) ∷ number_cell (unit_sum Investment p w)
-    ∷ number_cell (unit_sum Total p w) ∷ [] ∷ []
+    ∷ number_cell (unit_sum Total p w) ∷ []
 
-abbrev pub unit_rows : Problem → Network → Marginals → List (List (List ℕ))
-unit_rows p w m = map (unit_row p w m) w.units ++ all_units_row p w ∷ []
+abbrev pub unit_rows : Problem → Network → List (List (List ℕ))
+unit_rows p w = map (unit_row p w) w.units ++ all_units_row p w ∷ []
 
-abbrev pub unit_lines : Problem → Network → Marginals → List (List ℕ)
-unit_lines p w m = table_and_gap unit_sorts unit_heading (unit_rows p w m)
+abbrev pub unit_lines : Problem → Network → List (List ℕ)
+unit_lines p w = table_and_gap unit_sorts unit_heading (unit_rows p w)
 
 -- ---- materials
 
 abbrev pub material_heading : List (List ℕ)
 material_heading = codes "material" ∷ codes "kind" ∷ codes "made" ∷ codes "used" ∷ codes "net"
-    ∷ codes "limit" ∷ codes "price" ∷ codes "cost" ∷ codes "marginal" ∷ []
+    ∷ codes "limit" ∷ codes "price" ∷ codes "cost" ∷ []
 
 abbrev pub material_sorts : List Sort
-material_sorts =
-    Words ∷ Words ∷ Numbers ∷ Numbers ∷ Numbers ∷ Words ∷ Numbers ∷ Numbers ∷ Numbers ∷ []
+material_sorts = Words ∷ Words ∷ Numbers ∷ Numbers ∷ Numbers ∷ Words ∷ Numbers ∷ Numbers ∷ []
 
-abbrev pub material_row : Problem → Network → Marginals → ℕ → List (List ℕ)
-material_row p w m j =
+abbrev pub material_row : Problem → Network → ℕ → List (List ℕ)
+material_row p w j =
     (material_at p j).name ∷ kind_word (material_at p j).kind ∷ number_cell (unit_sum (Made j) p w)
     ∷ number_cell (unit_sum (Used j) p w)
     ∷ number_cell (net p w j) ∷ material_limit p w j ∷ number_cell (price p j)
-    ∷ number_cell (cost p w j) ∷ marginal_cell m (marginal p m j) ∷ []
+    ∷ number_cell (cost p w j) ∷ []
 
 abbrev pub all_materials_row : Problem → Network → List (List ℕ)
 all_materials_row p w =
     codes "all materials" ∷ [] ∷ [] ∷ [] ∷ [] ∷ [] ∷ [] ∷ number_cell (cost_sum All p w) ∷ []
-    ∷ []
 
-abbrev pub material_rows : Problem → Network → Marginals → List (List (List ℕ))
-material_rows p w m = map (material_row p w m) (materials_of (net_of p) (has w.units))
+abbrev pub material_rows : Problem → Network → List (List (List ℕ))
+material_rows p w = map (material_row p w) (materials_of (net_of p) (has w.units))
     ++ all_materials_row p w ∷ []
 
-abbrev pub material_lines : Problem → Network → Marginals → List (List ℕ)
-material_lines p w m = table_and_gap material_sorts material_heading (material_rows p w m)
+abbrev pub material_lines : Problem → Network → List (List ℕ)
+material_lines p w = table_and_gap material_sorts material_heading (material_rows p w)
 
 -- ---- money
 
@@ -221,7 +213,7 @@ foot_lines p w = once_line p w ∷ left_out_line p w ∷ []
 
 -- ---- all
 
-abbrev pub report_lines : Problem → Network → Marginals → List (List ℕ)
-report_lines p w m =
+abbrev pub report_lines : Problem → Network → List (List ℕ)
+report_lines p w =
     head_lines p w
-    ++ (unit_lines p w m ++ (material_lines p w m ++ (money_lines p w ++ foot_lines p w)))
+    ++ (unit_lines p w ++ (material_lines p w ++ (money_lines p w ++ foot_lines p w)))

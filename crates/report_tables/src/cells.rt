@@ -1,13 +1,12 @@
 //! More cells in a row.
 ghost use Rattle.std.specs.Prelude.{◌≡◌, ◌++◌, ◌∷◌, [], IfOk, OnOk, map, string_bytes};
-ghost use Rattle.report_rules.specs.Report.{number_cell, marginal_cell};
+ghost use Rattle.report_rules.specs.Report.{number_cell};
 
 use crate::row::Row;
-use report_amounts::{Marginals, Number};
+use report_amounts::Number;
 use std::alloc::{AllocError, Global};
 
-/// Appends the words as a cell.
-pub fn push_words(alloc: Global, row: &mut Row, words: &str) -> Result<(), AllocError>
+pub(crate) fn push_words(alloc: Global, row: &mut Row, words: &str) -> Result<(), AllocError>
     ensures { OnOk result (row.new ≡ row.old ++ words.now ∷ []) }
 {
     let mut cell = String::new(alloc);
@@ -30,23 +29,6 @@ pub(crate) fn push_number(alloc: Global, row: &mut Row, number: &Number) -> Resu
     let mut cell = String::new(alloc);
     push_digits(&mut cell, number)?;
     row.push(cell)
-}
-
-/// Appends a marginal, or `-` if there are none.
-#[tactic(auto, unfolding(report_rules::specs::Report::marginal_cell))]
-pub(crate) fn push_marginal(
-    alloc: Global,
-    row: &mut Row,
-    marginals: &Marginals,
-    number: &Number,
-) -> Result<(), AllocError>
-    ensures { OnOk result (row.new ≡ row.old ++ marginal_cell marginals.now number.now ∷ []) }
-{
-    if marginals.are_known() {
-        push_number(alloc, row, number)
-    } else {
-        push_words(alloc, row, "-")
-    }
 }
 
 pub(crate) fn push_numbers(

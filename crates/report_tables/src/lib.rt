@@ -25,12 +25,9 @@ mod tables;
 mod text;
 mod units;
 
-pub use cells::push_words;
 pub use foot::{left_out, push_names_or_none};
 pub use materials::material_limit;
 pub use money::{push_low, push_total};
 pub use ranking::ranking_of;
-pub use row::Row;
-pub use table::push_table;
 pub use text::report_of;
 pub use units::{NO_BOUND, unit_limit};

@@ -12,13 +12,11 @@ ghost use Rattle.tree_rules.specs.Claim.{IsFeasible};
 ghost use Rattle.report_rules.specs.declared.amount.UnitAmount.TheVariants.{Made, Used};
 ghost use Rattle.report_rules.specs.declared.cost_part.CostPart.TheVariants.{All};
 ghost use Rattle.report_rules.specs.Amounts.{unit_sum, net, price, cost, cost_sum};
-ghost use Rattle.report_rules.specs.Marginal.{marginal};
 ghost use Rattle.report_rules.specs.Report.{number_cell, bought_or_left, turned_flow, no_bound};
-ghost use Rattle.report_rules.specs.Report.{marginal_cell};
 ghost use Rattle.report_rules.specs.Report.{material_limit, material_heading, material_row};
 ghost use Rattle.report_rules.specs.Report.{all_materials_row, material_rows, material_lines};
 
-use crate::cells::{push_marginal, push_number, push_numbers, push_words};
+use crate::cells::{push_number, push_numbers, push_words};
 use crate::limits::{limit_words, unbounded_or};
 use crate::row::Row;
 use crate::tables::push_table_and_gap;
@@ -26,15 +24,15 @@ use branch_tree::Network;
 use pgraph::Site;
 use pns_problem::{Kind, Problem};
 use pns_tables::{kind_word, materials_in};
-use report_amounts::{Marginals, cost, cost_sum, flow_at, material_of, net, price, unit_sum};
+use report_amounts::{cost, cost_sum, flow_at, material_of, net, price, unit_sum};
 use report_rules::{CostPart, Sort, UnitAmount};
 use std::alloc::{AllocError, Global};
 
 /// 1000000000 in 10^-12: a bound that stands for none.
 const NO_BOUND: i128 = 1_000_000_000_000_000_000_000;
 
-const HEADING: [&str; 9] = [
-    "material", "kind", "made", "used", "net", "limit", "price", "cost", "marginal",
+const HEADING: [&str; 8] = [
+    "material", "kind", "made", "used", "net", "limit", "price", "cost",
 ];
 
 fn push_kind(alloc: Global, row: &mut Row, problem: &Problem, j: u32) -> Result<(), AllocError>
@@ -115,32 +113,16 @@ fn push_flows(
     push_numbers(alloc, row, &flows)
 }
 
-/// What one more of the net amount of the material costs.
-fn push_material_marginal(
-    alloc: Global,
-    row: &mut Row,
-    problem: &Problem,
-    marginals: &Marginals,
-    j: u32,
-) -> Result<(), AllocError>
-    ensures { OnOk result
-        (row.new
-        ≡ row.old ++ marginal_cell marginals.now (marginal problem.now marginals.now j) ∷ []) }
-{
-    push_marginal(alloc, row, marginals, &marginals.of_material(problem, j))
-}
-
 fn material_row(
     alloc: Global,
     problem: &Problem,
     network: &Network,
-    marginals: &Marginals,
     j: u32,
 ) -> Result<Row, AllocError>
     requires feasible { IsFeasible problem.now network.now }
     requires material { has (materials_of (net_of problem.now) (has network.now.units)) j ≡ true }
     requires known { j < length problem.now.materials }
-    ensures { IfOk result (λ row. row ≡ material_row problem.now network.now marginals.now j) }
+    ensures { IfOk result (λ row. row ≡ material_row problem.now network.now j) }
 {
     let mut row = Row::of_words(alloc, &[problem.material_name(j)])?;
     push_kind(alloc, &mut row, problem, j)?;
@@ -148,7 +130,6 @@ fn material_row(
     push_words(alloc, &mut row, material_limit(problem, network, j))?;
     push_number(alloc, &mut row, &price(problem, j))?;
     push_number(alloc, &mut row, &cost(problem, network, j))?;
-    push_material_marginal(alloc, &mut row, problem, marginals, j)?;
     Ok(row)
 }
 
@@ -158,24 +139,18 @@ fn all_materials_row(alloc: Global, site: &Site<'_>, network: &Network) -> Resul
 {
     let mut row = Row::of_words(alloc, &["all materials", "", "", "", "", "", ""])?;
     push_number(alloc, &mut row, &cost_sum(CostPart::All, site, network))?;
-    push_words(alloc, &mut row, "")?;
     Ok(row)
 }
 
-fn material_rows(
-    alloc: Global,
-    site: &Site<'_>,
-    network: &Network,
-    marginals: &Marginals,
-) -> Result<Vec<Row>, AllocError>
+fn material_rows(alloc: Global, site: &Site<'_>, network: &Network) -> Result<Vec<Row>, AllocError>
     requires feasible { IsFeasible site.now network.now }
     ensures { IfOk result
-        (λ rows. rows.items ≡ map (material_row site.now network.now marginals.now)
+        (λ rows. rows.items ≡ map (material_row site.now network.now)
         (materials_of (net_of site.now) (has network.now.units))) }
 {
     let mut rows = Vec::new(alloc);
     for j in materials_in(site, network) {
-        rows.push(material_row(alloc, site.problem(), network, marginals, j)?)?;
+        rows.push(material_row(alloc, site.problem(), network, j)?)?;
     }
     Ok(rows)
 }
@@ -186,15 +161,14 @@ pub(crate) fn push_materials(
     text: &mut String,
     site: &Site<'_>,
     network: &Network,
-    marginals: &Marginals,
 ) -> Result<(), AllocError>
     requires feasible { IsFeasible site.now network.now }
     ensures { OnOk result
         (string_bytes text.new ≡ string_bytes text.old
-        ++ printed (material_lines site.now network.now marginals.now)) }
+        ++ printed (material_lines site.now network.now)) }
 {
     let heading = Row::of_words(alloc, &HEADING)?;
-    let mut rows = material_rows(alloc, site, network, marginals)?;
+    let mut rows = material_rows(alloc, site, network)?;
     rows.push(all_materials_row(alloc, site, network)?)?;
     let sorts = [
         Sort::Words,
@@ -203,7 +177,6 @@ pub(crate) fn push_materials(
         Sort::Numbers,
         Sort::Numbers,
         Sort::Words,
-        Sort::Numbers,
         Sort::Numbers,
         Sort::Numbers,
     ];

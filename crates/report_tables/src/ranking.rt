@@ -19,7 +19,7 @@ use branch_tree::Network;
 use pgraph::Site;
 use pns_problem::Problem;
 use pns_tables::size_at;
-use report_amounts::{Marginals, above_first, share_above};
+use report_amounts::{above_first, share_above};
 use report_rules::Sort;
 use std::alloc::{AllocError, Global};
 use unit_sets::UnitSet;
@@ -246,36 +246,32 @@ fn ranked_text(
     site: &Site<'_>,
     first: &Network,
     networks: &[Network],
-    marginals: &Marginals,
 ) -> Result<Vec<u8>, AllocError>
     requires few { length networks.now < 2 ^ 32 }
     requires feasible { IsFeasible site.now first.now }
     ensures { IfOk result
         (λ bytes. bytes.items
         ≡ printed (ranking_table site.now first.now networks.now
-        ++ report_lines site.now first.now marginals.now)) }
+        ++ report_lines site.now first.now)) }
 {
     let mut text = String::new(alloc);
     push_ranking(alloc, &mut text, site.problem(), first, networks)?;
-    push_report(alloc, &mut text, site, first, marginals)?;
+    push_report(alloc, &mut text, site, first)?;
     Ok(text.into_bytes())
 }
 
-/// The table of the networks, best first, and the report of the first with its marginals; nothing
-/// if there is none.
+/// The table of the networks, best first, and the report of the first; nothing if there is none.
 pub fn ranking_of(
     alloc: Global,
     site: &Site<'_>,
     networks: &[Network],
-    marginals: &Marginals,
 ) -> Result<Vec<u8>, AllocError>
     requires few { length networks.now < 2 ^ 32 }
     requires feasible { IsFirstFeasible site.now networks.now }
-    ensures { IfOk result
-        (λ bytes. bytes.items ≡ printed (ranking_lines site.now marginals.now networks.now)) }
+    ensures { IfOk result (λ bytes. bytes.items ≡ printed (ranking_lines site.now networks.now)) }
 {
     match networks.split_first() {
-        Some((first, _)) => ranked_text(alloc, site, first, networks, marginals),
+        Some((first, _)) => ranked_text(alloc, site, first, networks),
         None => Ok(Vec::new(alloc)),
     }
 }

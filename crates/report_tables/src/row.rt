@@ -31,7 +31,7 @@ impl Row {
     }
 
     /// A row with a cell for each of the words.
-    pub fn of_words(alloc: Global, words: &[&str]) -> Result<Row, AllocError>
+    pub(crate) fn of_words(alloc: Global, words: &[&str]) -> Result<Row, AllocError>
         ensures { IfOk result (λ row. row ≡ map (λ word. word.now) words.now) }
     {
         let mut row = Row::new(alloc);
@@ -51,7 +51,7 @@ impl Row {
     }
 
     /// The cell in column k, or an empty one if there is none.
-    pub fn cell(&self, k: usize) -> &str
+    pub(crate) fn cell(&self, k: usize) -> &str
         ensures { result.now ≡ cell_at k self.now }
     {
         match self.cells.get(k) {

@@ -15,7 +15,6 @@ use branch_tree::Network;
 use pgraph::Site;
 use pns_problem::Problem;
 use pns_tables::materials_in;
-use report_amounts::Marginals;
 use std::alloc::{AllocError, Global};
 
 fn push_counted(text: &mut String, words: &str, number: u64) -> Result<(), AllocError>
@@ -91,35 +90,27 @@ pub(crate) fn push_report(
     text: &mut String,
     site: &Site<'_>,
     network: &Network,
-    marginals: &Marginals,
 ) -> Result<(), AllocError>
     requires feasible { IsFeasible site.now network.now }
     ensures { OnOk result
         (string_bytes text.new ≡ string_bytes text.old
-        ++ printed (report_lines site.now network.now marginals.now)) }
+        ++ printed (report_lines site.now network.now)) }
 {
     let problem = site.problem();
     push_head(text, site, network)?;
-    push_units(alloc, text, problem, network, marginals)?;
-    push_materials(alloc, text, site, network, marginals)?;
+    push_units(alloc, text, problem, network)?;
+    push_materials(alloc, text, site, network)?;
     push_money(alloc, text, site, network)?;
     push_foot(text, problem, network)?;
     Ok(())
 }
 
-/// The report of a network with these marginals on its problem. The cell of a number that overflows
-/// is `past`.
-pub fn report_of(
-    alloc: Global,
-    site: &Site<'_>,
-    network: &Network,
-    marginals: &Marginals,
-) -> Result<Vec<u8>, AllocError>
+/// The report of a network on its problem. The cell of a number that overflows is `past`.
+pub fn report_of(alloc: Global, site: &Site<'_>, network: &Network) -> Result<Vec<u8>, AllocError>
     requires feasible { IsFeasible site.now network.now }
-    ensures { IfOk result
-        (λ bytes. bytes.items ≡ printed (report_lines site.now network.now marginals.now)) }
+    ensures { IfOk result (λ bytes. bytes.items ≡ printed (report_lines site.now network.now)) }
 {
     let mut text = String::new(alloc);
-    push_report(alloc, &mut text, site, network, marginals)?;
+    push_report(alloc, &mut text, site, network)?;
     Ok(text.into_bytes())
 }

@@ -4,30 +4,29 @@ ghost use Rattle.std.specs.Prelude.{length};
 ghost use Rattle.std.specs.Prelude.{string_bytes};
 ghost use Rattle.number_sets.specs.Sets.{has};
 ghost use Rattle.pns_problem.specs.Printing.{printed};
-ghost use Rattle.report_rules.specs.Report.{share_cell, unit_limit, number_cell, marginal_cell};
+ghost use Rattle.report_rules.specs.Report.{share_cell, unit_limit, number_cell};
 ghost use Rattle.report_rules.specs.Report.{unit_heading};
 ghost use Rattle.report_rules.specs.Report.{unit_row, all_units_row, unit_rows};
 ghost use Rattle.report_rules.specs.Report.{unit_lines};
 ghost use Rattle.report_rules.specs.Amounts.{size, amount, unit_sum};
-ghost use Rattle.report_rules.specs.Marginal.{unit_marginal};
 ghost use Rattle.report_rules.specs.declared.amount.UnitAmount.TheVariants.{Fixed};
 ghost use Rattle.report_rules.specs.declared.amount.UnitAmount.TheVariants.{Proportional};
 ghost use Rattle.report_rules.specs.declared.amount.UnitAmount.TheVariants.{Investment};
 ghost use Rattle.report_rules.specs.declared.amount.UnitAmount.TheVariants.{Total};
 ghost use Rattle.problem_rules.specs.Problem.{unit_at};
 
-use crate::cells::{push_marginal, push_number, push_numbers, push_words};
+use crate::cells::{push_number, push_numbers, push_words};
 use crate::limits::{limit_words, unbounded_or};
 use crate::row::Row;
 use crate::tables::push_table_and_gap;
 use branch_tree::Network;
 use pns_problem::Problem;
 use pns_tables::size_at;
-use report_amounts::{Marginals, amount, share_of, size, unit_of, unit_sum};
+use report_amounts::{amount, share_of, size, unit_of, unit_sum};
 use report_rules::{Sort, UnitAmount};
 use std::alloc::{AllocError, Global};
 
-const HEADING: [&str; 9] = [
+const HEADING: [&str; 8] = [
     "unit",
     "size",
     "share %",
@@ -36,7 +35,6 @@ const HEADING: [&str; 9] = [
     "proportional",
     "investment",
     "total",
-    "marginal",
 ];
 
 /// 1000000000 in millionths: a bound that stands for none.
@@ -103,39 +101,15 @@ fn push_costs(
     push_numbers(alloc, row, &costs)
 }
 
-/// What one more of the size of the unit saves.
-fn push_unit_marginal(
-    alloc: Global,
-    row: &mut Row,
-    problem: &Problem,
-    marginals: &Marginals,
-    u: u32,
-) -> Result<(), AllocError>
+fn unit_row(alloc: Global, problem: &Problem, network: &Network, u: u32) -> Result<Row, AllocError>
     requires { u < length problem.now.units }
-    ensures { OnOk result
-        (row.new
-        ≡ row.old ++ marginal_cell marginals.now (unit_marginal problem.now marginals.now u)
-        ∷ []) }
-{
-    push_marginal(alloc, row, marginals, &marginals.of_unit(problem, u))
-}
-
-fn unit_row(
-    alloc: Global,
-    problem: &Problem,
-    network: &Network,
-    marginals: &Marginals,
-    u: u32,
-) -> Result<Row, AllocError>
-    requires { u < length problem.now.units }
-    ensures { IfOk result (λ row. row ≡ unit_row problem.now network.now marginals.now u) }
+    ensures { IfOk result (λ row. row ≡ unit_row problem.now network.now u) }
 {
     let mut row = Row::of_words(alloc, &[problem.unit_name(u)])?;
     push_number(alloc, &mut row, &size(network, u))?;
     push_share(alloc, &mut row, problem, network, u)?;
     push_words(alloc, &mut row, unit_limit(problem, network, u))?;
     push_costs(alloc, &mut row, problem, network, u)?;
-    push_unit_marginal(alloc, &mut row, problem, marginals, u)?;
     Ok(row)
 }
 
@@ -168,24 +142,17 @@ fn all_units_row(alloc: Global, problem: &Problem, network: &Network) -> Result<
 {
     let mut row = Row::of_words(alloc, &["all units", "", "", ""])?;
     push_sums(alloc, &mut row, problem, network)?;
-    push_words(alloc, &mut row, "")?;
     Ok(row)
 }
 
-fn unit_rows(
-    alloc: Global,
-    problem: &Problem,
-    network: &Network,
-    marginals: &Marginals,
-) -> Result<Vec<Row>, AllocError>
+fn unit_rows(alloc: Global, problem: &Problem, network: &Network) -> Result<Vec<Row>, AllocError>
     requires { (u : ℕ) → has network.now.units u ≡ true → u < length problem.now.units }
     ensures { IfOk result
-        (λ rows. rows.items
-        ≡ map (unit_row problem.now network.now marginals.now) network.now.units) }
+        (λ rows. rows.items ≡ map (unit_row problem.now network.now) network.now.units) }
 {
     let mut rows = Vec::new(alloc);
     for u in network.units() {
-        rows.push(unit_row(alloc, problem, network, marginals, u)?)?;
+        rows.push(unit_row(alloc, problem, network, u)?)?;
     }
     Ok(rows)
 }
@@ -196,22 +163,20 @@ pub(crate) fn push_units(
     text: &mut String,
     problem: &Problem,
     network: &Network,
-    marginals: &Marginals,
 ) -> Result<(), AllocError>
     requires { (u : ℕ) → has network.now.units u ≡ true → u < length problem.now.units }
     ensures { OnOk result
         (string_bytes text.new ≡ string_bytes text.old
-        ++ printed (unit_lines problem.now network.now marginals.now)) }
+        ++ printed (unit_lines problem.now network.now)) }
 {
     let heading = Row::of_words(alloc, &HEADING)?;
-    let mut rows = unit_rows(alloc, problem, network, marginals)?;
+    let mut rows = unit_rows(alloc, problem, network)?;
     rows.push(all_units_row(alloc, problem, network)?)?;
     let sorts = [
         Sort::Words,
         Sort::Numbers,
         Sort::Numbers,
         Sort::Words,
-        Sort::Numbers,
         Sort::Numbers,
         Sort::Numbers,
         Sort::Numbers,

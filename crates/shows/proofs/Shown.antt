@@ -15,7 +15,7 @@ use Rattle.abb_search.specs.Found.{IsFound}
 use Rattle.studio_rules.specs.Lines.{text_of}
 use Rattle.studio_rules.specs.Ending.{Tells, IsUnfinished}
 use Rattle.studio_rules.specs.Solve.{Holds, Solves, status_of}
-use Rattle.studio_rules.specs.Report.{VerdictSays}
+use Rattle.studio_rules.specs.Report.{verdict_lines, proved_line, tables_of}
 use Rattle.studio_rules.specs.Show.{ShowWork, ShownIsProved}
 use Rattle.studio_rules.specs.declared.status.Status.{Status}
 use Rattle.studio_rules.specs.declared.status.Status.TheVariants.{Done, Past, Spent}
@@ -50,8 +50,8 @@ found_shows optimal p valid budget f h s lines said =
 
 -- if the claim is proved, the lines say so
 proved_lines : (p : Problem) (claim : Claim) (tree : Tree) (v : Verdict) (lines : List (List ℕ))
-    → Solves p claim tree → IsVerdict p claim tree v → VerdictSays p claim tree v lines
-    → VerdictSays p claim tree Proved lines
+    → Solves p claim tree → IsVerdict p claim tree v → lines ≡ verdict_lines p claim tree v
+    → lines ≡ proved_line p claim ∷ tables_of p claim tree Proved
 proved_lines p claim tree Proved lines solves is e = e
 proved_lines p claim tree (Unfinished low) lines solves is e = absurd (is.0 solves.proved.accepted)
 proved_lines p claim tree (Fails node why) lines solves is e = absurd (is.0 solves.proved.accepted)
@@ -61,7 +61,7 @@ shown_is_proved budget p lines (c, held, said) = at c.tail said.0 held
   where
     at : (tail : Tail) → Done ≡ status_of tail → Holds budget p c.claim c.tree tail
         → (claim : Claim) × (tree : Tree) × Solves p claim tree
-        × VerdictSays p claim tree Proved lines
+        × (lines ≡ proved_line p claim ∷ tables_of p claim tree Proved)
     at whole e solves = (
       c.claim,
       c.tree,

@@ -28,5 +28,5 @@ mod side;
 
 pub use answer::range;
 pub use outcome::{Range, RangeFault};
-pub use setting::{value_at, valued};
+pub use setting::valued;
 pub use stability_rules::Spot;

@@ -22,7 +22,7 @@ pub(crate) fn set(problem: &mut Problem, spot: Spot, value: i64)
 }
 
 /// The value that the problem has in the spot, in millionths.
-pub fn value_at(problem: &Problem, spot: Spot) -> i64
+pub(crate) fn value_at(problem: &Problem, spot: Spot) -> i64
     requires { KnowsSpot problem.now spot }
     ensures { result ≡ value_at problem.now spot }
 {

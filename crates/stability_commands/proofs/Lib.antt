@@ -1,5 +1,3 @@
 mod Named
 mod Printed
-mod RangeRows
-mod Stopped
 mod Told

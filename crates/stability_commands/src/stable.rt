@@ -70,7 +70,7 @@ fn unknown_name(alloc: Global, problem: &Problem, kind: SpotKind, name: &str) ->
 }
 
 /// Prints that a network is not the best, and a cheaper one of least cost.
-pub(crate) fn say_not_best<K: Sink, E: Sink>(
+fn say_not_best<K: Sink, E: Sink>(
     alloc: Global,
     out: &mut Outputs<K, E>,
     problem: &Problem,

@@ -36,7 +36,7 @@ use Rattle.studio_rules.specs.declared.status.Status.TheVariants.{ReadFault, Wri
 use Rattle.studio_rules.specs.declared.status.Status.TheVariants.{BadProblem, BadToken, BadTree}
 use Rattle.studio_rules.specs.declared.status.Status.TheVariants.{BadEdit, TooLong, UnknownName}
 use Rattle.studio_rules.specs.declared.status.Status.TheVariants.{NotMigrated, BadNode, BadPlan}
-use Rattle.studio_rules.specs.declared.status.Status.TheVariants.{BadClaim, NotBest}
+use Rattle.studio_rules.specs.declared.status.Status.TheVariants.{BadClaim}
 use Rattle.studio_rules.specs.Reading.{AreHeld, FileFault, GivesProblem, OnFile, OnText}
 use Rattle.studio_rules.specs.Reading.{file_limit}
 use Rattle.studio_rules.specs.Script.{ScriptFault, GivesScript, HasEditFault, OnScript}
@@ -73,11 +73,10 @@ use Rattle.studio_rules.specs.Part.{PartSays, PartWork, ClaimSays, AgainstWork}
 use Rattle.studio_rules.specs.Solve.{SolveWork}
 use Rattle.studio_rules.specs.Show.{ShowWork}
 use Rattle.studio_rules.specs.Stable.{spot_named, NamedWork, StableWork}
-use Rattle.studio_rules.specs.StableTable.{RangesWork}
 use Rattle.studio_rules.specs.Command.{Command, Max, Axioms, Flows, Listing, Linting, Make}
 use Rattle.studio_rules.specs.Command.{Migrate}
 use Rattle.studio_rules.specs.Command.{Editing, Undoing, Checking, RankChecking, Solving, Showing}
-use Rattle.studio_rules.specs.Command.{Alternatives, RangingAll}
+use Rattle.studio_rules.specs.Command.{Alternatives}
 use Rattle.studio_rules.specs.Command.{Ranking, Trial, Telling, Table, Splitting, Expanding}
 use Rattle.studio_rules.specs.Command.{Drawing, DrawingNetwork, Reporting, Json, Ranging}
 use Rattle.studio_rules.specs.Command.{Planning}
@@ -97,7 +96,7 @@ use Rattle.studio.proofs.Statuses.{rank_report_status, rank_json_status}
 use Rattle.studio.proofs.Statuses.{show_status, rank_status, search_status, plant_graph_status}
 use Rattle.studio.proofs.Statuses.{alternatives_status}
 use Rattle.studio.proofs.Statuses.{graph_status, periods_status, part_status, claim_status}
-use Rattle.studio.proofs.Statuses.{merge_fault_status, spot_status, table_of_ranges_status}
+use Rattle.studio.proofs.Statuses.{merge_fault_status, spot_status}
 
 -- the same statuses, by cases
 abbrev pub Caused : Status → Type 0
@@ -727,11 +726,6 @@ module _ (p : Problem) (s : Status) (lines : List (List ℕ)) (c : Caused s) whe
   unclaimed_plain (inl q) = subst Caused q c
   unclaimed_plain (inr q) = subst Caused q c
 
-  ranges_plain : (s ≡ BadClaim) ⊎ ((s ≡ Done) ⊎ (s ≡ NotBest)) → ⊥
-  ranges_plain (inl q) = subst Caused q c
-  ranges_plain (inr (inl q)) = subst Caused q c
-  ranges_plain (inr (inr q)) = subst Caused q c
-
   claim_plain : (budget : ℕ) (inside outside : List ℕ) (claim : Claim) (tree : Tree)
       → ClaimSays budget inside outside p claim tree s lines → ⊥
   claim_plain budget inside outside claim tree h =
@@ -806,12 +800,6 @@ module _ (held : List ℕ → Told) where
       (InTree (NameCause kind name) held tree)
       (λ p. tree_only (StableWork kind name budget) (NameCause kind name) held tree p
       (name_only kind name budget p))
-  command_only (RangingAll file tree budget) =
-      file_only held file (OnTree (OnNetwork (RangesWork budget)) held tree)
-      (InTree NoCause held tree)
-      (λ p. tree_only (OnNetwork (RangesWork budget)) NoCause held tree p
-      (λ claim its s lines c h. ranges_plain p s lines c
-      (table_of_ranges_status budget p claim its s lines h)))
   command_only (Planning file plan budget) =
       file_only held file (OnPlan (PeriodsWork budget) held plan) (InPlan held plan)
       (plan_only (PeriodsWork budget)
@@ -920,9 +908,6 @@ module _ (held : List ℕ → Told) where
       (InTree (NameCause kind name) held tree)
       (λ p valid. tree_always (StableWork kind name budget) (NameCause kind name) held tree p
       (name_always kind name budget p) (told tree (inr refl))) (told file (inl refl))
-  command_always once (RangingAll file tree budget) told =
-      beside_tree file tree (OnNetwork (RangesWork budget)) (told file (inl refl))
-      (told tree (inr refl))
   command_always once (Planning file plan budget) told =
       file_always held file (OnPlan (PeriodsWork budget) held plan) (InPlan held plan)
       (λ p valid. plan_always (PeriodsWork budget)

@@ -17,7 +17,7 @@ use Rattle.studio_rules.specs.Command.{Ranking, Trial, Telling, command_of, IsFi
 use Rattle.studio_rules.specs.Command.{Table, Splitting, Expanding, Drawing, DrawingNetwork}
 use Rattle.studio_rules.specs.Command.{Reporting, Json, Ranging, Planning, Parting}
 use Rattle.studio_rules.specs.Command.{PartingAgainst}
-use Rattle.studio_rules.specs.Command.{Merging, RangingAll}
+use Rattle.studio_rules.specs.Command.{Merging}
 use Rattle.studio_rules.specs.Reading.{AreHeld, FileFault, file_limit}
 use Rattle.studio_rules.specs.Max.{MaxWork}
 use Rattle.studio_rules.specs.Lint.{LintWork}
@@ -60,7 +60,6 @@ use Rattle.studio_rules.specs.Periods.{PeriodsWork}
 use Rattle.stability_rules.specs.declared.spot.Spot.{Spot}
 use Rattle.stability_rules.specs.declared.spot.SpotKind.{SpotKind}
 use Rattle.studio_rules.specs.Stable.{spot_named, SpotWork, NamedWork, StableWork}
-use Rattle.studio_rules.specs.StableTable.{RangesWork}
 use Rattle.studio_rules.specs.Best.{FilesClaimBest, AcceptedIsBest}
 use Rattle.tree_rules.specs.Tail.{Tail, whole, spent, past}
 use Rattle.problem_rules.specs.Generated.{generated}
@@ -446,19 +445,6 @@ stable_status (Some spot) budget p claim tree s lines (inl refusal) = inr (inl r
 stable_status (Some spot) budget p claim tree s lines (inr rest) =
     inr (inr (spot_status spot budget p rest.0 s lines rest.2))
 
-ranges_status : (budget : ℕ) (p : Problem) (w : Network) (s : Status) (lines : List (List ℕ))
-    → RangesWork budget p w s lines → (s ≡ Done) ⊎ (s ≡ NotBest)
-ranges_status budget p w Done lines h = inl refl
-ranges_status budget p w NotBest lines h = inr refl
-ranges_status budget p w s lines h = absurd h
-
-pub table_of_ranges_status : (budget : ℕ) (p : Problem) (claim : Claim) (tree : Tree) (s : Status)
-    (lines : List (List ℕ)) → OnNetwork (RangesWork budget) p claim tree s lines → (s ≡ BadClaim)
-    ⊎ ((s ≡ Done) ⊎ (s ≡ NotBest))
-table_of_ranges_status budget p claim tree s lines (inl refusal) = inl refusal.0
-table_of_ranges_status budget p claim tree s lines (inr rest) =
-    inr (ranges_status budget p rest.0 s lines rest.2)
-
 command_status : (held : List ℕ → Told) (command : Command) (s : Status) (lines : List (List ℕ))
     → CommandAnswers held command s lines
     → ((name : List ℕ) (limit : ℕ) → IsReadWithin command name limit
@@ -712,30 +698,6 @@ command_status held (Ranging name tree kind word budget) s lines
           ]
         ]
       ]
-    ]
-command_status held (RangingAll name tree budget) s lines (file, is, inl fault) short =
-    elim (fault_status name file s lines fault) [
-      | inl q ↦ inr (inr (inl q))
-      | inr q
-          ↦ absurd
-          (within_limit (held name) file_limit file (short name file_limit (inl (refl, refl))) is
-          q.1)
-    ]
-command_status held (RangingAll name tree budget) s lines
-    (file, is, inr (p, given, (bytes, there, inl fault))) short =
-    elim (tree_status tree p bytes s lines fault) [
-      | inl q ↦ inr (inr (inr (inl q)))
-      | inr q
-          ↦ absurd
-          (within_limit (held tree) tree_limit bytes (short tree tree_limit (inr (refl, refl)))
-          there
-          q.1)
-    ]
-command_status held (RangingAll name tree budget) s lines
-    (file, is, inr (p, given, (bytes, there, inr rest))) short =
-    elim (table_of_ranges_status budget p rest.0 rest.1 s lines rest.3) [
-      | inl q ↦ inr (inl q)
-      | inr o ↦ elim o [ inl q ↦ inl q | inr q ↦ inr (inr (inr (inr (inl q)))) ]
     ]
 command_status held (Planning name plan budget) s lines (file, is, inl fault) short =
     elim (fault_status name file s lines fault) [
@@ -994,13 +956,6 @@ answer_status held (Ranging name tree kind word budget) lines
                 ]
           ]
     ]
-answer_status held (RangingAll name tree budget) lines (file, is, inl fault) = absurd fault
-answer_status held (RangingAll name tree budget) lines
-    (file, is, inr (p, given, (bytes, there, inl fault))) = absurd fault
-answer_status held (RangingAll name tree budget) lines
-    (file, is, inr (p, given, (bytes, there, inr rest))) =
-    elim (table_of_ranges_status budget p rest.0 rest.1 Usage lines rest.3)
-    [ inl q ↦ cc | inr o ↦ elim o [ inl q ↦ cc | inr q ↦ cc ] ]
 answer_status held (Planning name plan budget) lines (file, is, inl fault) = absurd fault
 answer_status held (Planning name plan budget) lines
     (file, is, inr (p, given, (bytes, there, inl fault))) = absurd fault
@@ -1079,7 +1034,6 @@ memory_status (Drawing file) = inr (inr (inl refl))
 memory_status (DrawingNetwork file tree) = inr (inr (inr (inr (inl refl))))
 memory_status (Ranging file tree kind name budget) =
     inr (inr (inr (inr (inr (inr (inr (inr (inl refl))))))))
-memory_status (RangingAll file tree budget) = inr (inr (inr (inr (inr (inl refl)))))
 memory_status (Planning file plan budget) = inr (inr (inr (inr (inr (inl refl)))))
 memory_status (Parting file inside outside budget) = inr (inr (inr (inr (inr (inl refl)))))
 memory_status (PartingAgainst file inside outside budget tree) =
@@ -1195,8 +1149,6 @@ missing_says held (Drawing file) name s lines first gone h = let same : file ≡
 missing_says held (DrawingNetwork file tree) name s lines first gone h = let same : file ≡ name =
     cc in nothing_held (held file) h.0 (ap held same ∙ gone) h.1
 missing_says held (Ranging file tree kind word budget) name s lines first gone h =
-    let same : file ≡ name = cc in nothing_held (held file) h.0 (ap held same ∙ gone) h.1
-missing_says held (RangingAll file tree budget) name s lines first gone h =
     let same : file ≡ name = cc in nothing_held (held file) h.0 (ap held same ∙ gone) h.1
 missing_says held (Planning file plan budget) name s lines first gone h = let same : file ≡ name =
     cc in nothing_held (held file) h.0 (ap held same ∙ gone) h.1

@@ -40,7 +40,6 @@ use report_commands::call::{json, report};
 use searches::solve::solve;
 use searches::trial::trial;
 use shows::show::show;
-use stability_commands::ranges::{Asked, ranges};
 use stability_commands::stable::stable;
 use std::alloc::Global;
 use structure_commands::axioms::axioms;
@@ -87,13 +86,6 @@ fn perform<F: Shelf, K: Sink, E: Sink, W: Watch>(
                 watch,
             };
             stable(alloc, file, tree, kind, name, effort, shelf, out)
-        }
-        Command::RangingAll(file, tree, budget) => {
-            let effort = Effort {
-                budget: budget as u32,
-                watch,
-            };
-            ranges(alloc, file, Asked { tree, effort }, shelf, out)
         }
         Command::Planning(file, plan, budget) => {
             let effort = Effort {

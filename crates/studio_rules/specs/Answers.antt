@@ -9,7 +9,7 @@ use Rattle.studio_rules.specs.Command.{Undoing, Checking, RankChecking, Solving,
 use Rattle.studio_rules.specs.Command.{Trial, Telling}
 use Rattle.studio_rules.specs.Command.{Table, Splitting, Expanding, Drawing, DrawingNetwork}
 use Rattle.studio_rules.specs.Command.{Reporting, Json, Ranging, Planning, Parting, PartingAgainst}
-use Rattle.studio_rules.specs.Command.{Merging, Alternatives, RangingAll}
+use Rattle.studio_rules.specs.Command.{Merging, Alternatives}
 use Rattle.problem_rules.specs.Generated.{generated}
 use Rattle.problem_rules.specs.Problem.{Problem}
 use Rattle.tree_rules.specs.Claim.{Network, network}
@@ -48,7 +48,6 @@ use Rattle.studio_rules.specs.Merge.{MergeWork}
 use Rattle.studio_rules.specs.Part.{PartWork, AgainstWork}
 use Rattle.studio_rules.specs.Periods.{PeriodsWork}
 use Rattle.studio_rules.specs.Stable.{StableWork, CanRange, spot_named}
-use Rattle.studio_rules.specs.StableTable.{RangesWork}
 use Rattle.studio_rules.specs.Solve.{SolveWork, CanFinish}
 use Rattle.studio_rules.specs.Show.{ShowWork}
 use Rattle.studio_rules.specs.Trial.{TrialWork}
@@ -66,8 +65,6 @@ use Rattle.studio_rules.specs.declared.status.Status.TheVariants.{UnknownName, B
 abbrev pub SearchAnswers : (List ℕ → Told) → Command → Status → List (List ℕ) → Type 0
 SearchAnswers held (Ranging file tree kind name budget) status lines =
     OnFile (OnTree (StableWork kind name budget) held tree) held file status lines
-SearchAnswers held (RangingAll file tree budget) status lines =
-    OnFile (OnTree (OnNetwork (RangesWork budget)) held tree) held file status lines
 SearchAnswers held (Planning file plan budget) status lines =
     OnFile (OnPlan (PeriodsWork budget) held plan) held file status lines
 SearchAnswers held (Parting file inside outside budget) status lines =
@@ -160,7 +157,6 @@ first_file (DrawingNetwork file tree) = Some file
 first_file (Reporting file tree) = Some file
 first_file (Json file tree) = Some file
 first_file (Ranging file tree kind name budget) = Some file
-first_file (RangingAll file tree budget) = Some file
 first_file (Planning file plan budget) = Some file
 first_file (Parting file inside outside budget) = Some file
 first_file (PartingAgainst file inside outside budget tree) = Some file
@@ -188,8 +184,6 @@ IsReadWithin (Reporting file tree) name limit =
 IsReadWithin (Json file tree) name limit =
     ((name ≡ file) × (limit ≡ file_limit)) ⊎ ((name ≡ tree) × (limit ≡ tree_limit))
 IsReadWithin (Ranging file tree kind word budget) name limit =
-    ((name ≡ file) × (limit ≡ file_limit)) ⊎ ((name ≡ tree) × (limit ≡ tree_limit))
-IsReadWithin (RangingAll file tree budget) name limit =
     ((name ≡ file) × (limit ≡ file_limit)) ⊎ ((name ≡ tree) × (limit ≡ tree_limit))
 IsReadWithin (PartingAgainst file inside outside budget tree) name limit =
     ((name ≡ file) × (limit ≡ file_limit)) ⊎ ((name ≡ tree) × (limit ≡ tree_limit))
@@ -229,8 +223,6 @@ statuses_of (Reporting file tree) = Done ∷ BadClaim ∷ BadProblem ∷ BadTree
 statuses_of (Json file tree) = Done ∷ BadClaim ∷ BadProblem ∷ BadTree ∷ Memory ∷ []
 statuses_of (Ranging file tree kind name budget) =
     Done ∷ BadClaim ∷ Spent ∷ Past ∷ BadProblem ∷ BadTree ∷ NotBest ∷ UnknownName ∷ Memory ∷ []
-statuses_of (RangingAll file tree budget) =
-    Done ∷ BadClaim ∷ BadProblem ∷ BadTree ∷ NotBest ∷ Memory ∷ []
 statuses_of (Planning file plan budget) = Done ∷ Spent ∷ Past ∷ BadPlan ∷ BadProblem ∷ Memory ∷ []
 statuses_of (Parting file inside outside budget) =
     Done ∷ Spent ∷ Past ∷ BadNode ∷ BadProblem ∷ Memory ∷ []

@@ -33,7 +33,7 @@ use Rattle.studio_rules.specs.Command.{Max, Axioms, Flows, Listing, Linting, Mig
 use Rattle.studio_rules.specs.Command.{Undoing, Checking, RankChecking, Solving, Showing, Ranking}
 use Rattle.studio_rules.specs.Command.{Table, Splitting, Expanding, Drawing, DrawingNetwork}
 use Rattle.studio_rules.specs.Command.{Reporting, Json, Ranging, Planning, Parting, PartingAgainst}
-use Rattle.studio_rules.specs.Command.{Merging, Alternatives, RangingAll}
+use Rattle.studio_rules.specs.Command.{Merging, Alternatives}
 use Rattle.studio_rules.specs.Ending.{IsOneOf}
 use Rattle.studio_rules.specs.declared.status.Status.{Status}
 use Rattle.studio_rules.specs.declared.status.Status.TheVariants.{BadProblem, ReadFault, WriteFault}
@@ -166,8 +166,6 @@ CauseOf held (Reporting file tree) status = InFile (InEither held tree) held fil
 CauseOf held (Json file tree) status = InFile (InEither held tree) held file status
 CauseOf held (Ranging file tree kind name budget) status =
     InFile (InTree (NameCause kind name) held tree) held file status
-CauseOf held (RangingAll file tree budget) status =
-    InFile (InTree NoCause held tree) held file status
 CauseOf held (Planning file plan budget) status = InFile (InPlan held plan) held file status
 CauseOf held (Parting file inside outside budget) status =
     InFile (AtNode NoCause inside outside) held file status

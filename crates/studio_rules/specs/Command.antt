@@ -34,7 +34,6 @@ pub data Command : Type 0 where
   Reporting : List ℕ → List ℕ → Command
   Json : List ℕ → List ℕ → Command
   Ranging : List ℕ → List ℕ → SpotKind → List ℕ → ℕ → Command
-  RangingAll : List ℕ → List ℕ → ℕ → Command
   Planning : List ℕ → List ℕ → ℕ → Command
   Parting : List ℕ → List ℕ → List ℕ → ℕ → Command
   PartingAgainst : List ℕ → List ℕ → List ℕ → ℕ → List ℕ → Command
@@ -158,7 +157,6 @@ with_file word file second =
     else if bytes_eq word (codes "report") then Some (Reporting file second)
     else if bytes_eq word (codes "json") then Some (Json file second)
     else if bytes_eq word (codes "periods") then Some (Planning file second full_budget)
-    else if bytes_eq word (codes "stable") then Some (RangingAll file second full_budget)
     else None
 
 -- the commands of a file and one more word
@@ -258,8 +256,6 @@ form_of (word ∷ first ∷ second ∷ third ∷ []) =
     (Listing first second) (count_of third)
     else if bytes_eq word (codes "periods") && are_files (first ∷ second ∷ []) then option_map
     (Planning first second) (budget_of third)
-    else if bytes_eq word (codes "stable") && are_files (first ∷ second ∷ []) then option_map
-    (RangingAll first second) (budget_of third)
     else if bytes_eq word (codes "rank") && is_file_word first then ranked_by first
     (rank_count_of second) (budget_of third)
     else if bytes_eq word (codes "alternatives") && is_file_word first then alternatives_by first
@@ -298,7 +294,6 @@ IsFileOf (DrawingNetwork file tree) name = (name ≡ file) ⊎ (name ≡ tree)
 IsFileOf (Reporting file tree) name = (name ≡ file) ⊎ (name ≡ tree)
 IsFileOf (Json file tree) name = (name ≡ file) ⊎ (name ≡ tree)
 IsFileOf (Ranging file tree kind word budget) name = (name ≡ file) ⊎ (name ≡ tree)
-IsFileOf (RangingAll file tree budget) name = (name ≡ file) ⊎ (name ≡ tree)
 IsFileOf (Planning file plan budget) name = (name ≡ file) ⊎ (name ≡ plan)
 IsFileOf (Parting file inside outside budget) name = name ≡ file
 IsFileOf (PartingAgainst file inside outside budget tree) name = (name ≡ file) ⊎ (name ≡ tree)
@@ -317,7 +312,6 @@ AreWithin (Migrate file years) = (1 ≤ years) × (years ≤ 100)
 AreWithin (Solving file budget) = (1 ≤ budget) × (budget ≤ 1000000)
 AreWithin (Showing file budget) = (1 ≤ budget) × (budget ≤ 1000000)
 AreWithin (Ranging file tree kind name budget) = (1 ≤ budget) × (budget ≤ 1000000)
-AreWithin (RangingAll file tree budget) = (1 ≤ budget) × (budget ≤ 1000000)
 AreWithin (Planning file plan budget) = (1 ≤ budget) × (budget ≤ 1000000)
 AreWithin (Parting file inside outside budget) = (1 ≤ budget) × (budget ≤ 1000000)
 AreWithin (PartingAgainst file inside outside budget tree) = (1 ≤ budget) × (budget ≤ 1000000)

@@ -8,7 +8,6 @@ use Rattle.tree_rules.specs.Accepted.{Tree}
 use Rattle.report_rules.specs.declared.verdict.Verdict.{Verdict}
 use Rattle.report_rules.specs.declared.verdict.Verdict.TheVariants.{Proved, Unfinished, Fails}
 use Rattle.report_rules.specs.Verdict.{IsVerdict}
-use Rattle.report_rules.specs.Marginal.{Marginals, AreClaimMarginals}
 use Rattle.json_rules.specs.Json.{quoted, null, member}
 use Rattle.json_rules.specs.Facts.{text_member, fact_lines, bare_lines}
 use Rattle.json_rules.specs.Lower.{low_json, gap_json}
@@ -49,23 +48,18 @@ head_of p claim verdict =
 -- ---- all
 
 -- the head, then the facts of the network if the claim has one
-abbrev pub lines_behind : List (List ℕ) → Problem → Marginals → Claim → List (List ℕ)
-lines_behind head p m (network w) = fact_lines head p w m
-lines_behind head p m infeasible = bare_lines head
-lines_behind head p m unknown = bare_lines head
+abbrev pub lines_behind : List (List ℕ) → Problem → Claim → List (List ℕ)
+lines_behind head p (network w) = fact_lines head p w
+lines_behind head p infeasible = bare_lines head
+lines_behind head p unknown = bare_lines head
 
-abbrev pub json_lines : Problem → Marginals → Claim → Verdict → List (List ℕ)
-json_lines p m claim verdict = lines_behind (head_of p claim verdict) p m claim
-
--- the lines say the verdict, with marginals that are right for the network of the claim
-abbrev pub FactsSay : Problem → Claim → Verdict → List (List ℕ) → Type 0
-FactsSay p claim verdict lines = (m : Marginals) × AreClaimMarginals p claim m
-    × (lines ≡ json_lines p m claim verdict)
+abbrev pub json_lines : Problem → Claim → Verdict → List (List ℕ)
+json_lines p claim verdict = lines_behind (head_of p claim verdict) p claim
 
 -- the verdict is that on the tree: `proved` exactly if `check` accepts it
 abbrev pub JsonSays : Problem → Claim → Tree → List (List ℕ) → Type 0
 JsonSays p claim tree lines = (verdict : Verdict) × IsVerdict p claim tree verdict
-    × FactsSay p claim verdict lines
+    × (lines ≡ json_lines p claim verdict)
 
 -- A claim that fails, though nothing may be claimed, is refused for the first of its lines that
 -- does.

@@ -53,7 +53,6 @@ pub mod Show
 pub mod Solve
 pub mod Split
 pub mod Stable
-pub mod StableTable
 pub mod Start
 pub mod StructurePages
 pub mod Summary

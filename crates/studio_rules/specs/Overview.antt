@@ -23,7 +23,7 @@ overview =
     codes "  report FILE TREE               the network of TREE; for programs: table, json" ∷
     codes "  graph FILE, graph FILE TREE    the plant, and the network in it, for Graphviz" ∷
     codes "  rank FILE N [BUDGET]           N best networks; see alternatives, rankcheck" ∷
-    codes "  stable FILE TREE [BUDGET]      how far each price and each cost may move" ∷
+    codes "  stable FILE TREE KIND NAME [BUDGET]   how far a price or a cost may move" ∷
     codes "  edit FILE SCRIPT               the plant after edits; the way back: undo" ∷
     codes "  migrate FILE YEARS             the script from yearly costs to investments" ∷
     codes "  periods FILE PLAN [BUDGET]     one design for several periods; see expand" ∷

@@ -8,7 +8,6 @@ use Rattle.report_rules.specs.declared.rank_verdict.RankVerdict.{RankVerdict}
 use Rattle.report_rules.specs.declared.rank_verdict.RankVerdict.TheVariants.{Proved, Unfinished}
 use Rattle.report_rules.specs.declared.rank_verdict.RankVerdict.TheVariants.{Fails}
 use Rattle.report_rules.specs.RankVerdict.{IsRankVerdict}
-use Rattle.report_rules.specs.Marginal.{Marginals, AreFirstMarginals}
 use Rattle.json_rules.specs.Json.{quoted, null, member}
 use Rattle.json_rules.specs.Facts.{text_member, count_member}
 use Rattle.json_rules.specs.Ranked.{networks_member, lines_behind}
@@ -46,18 +45,13 @@ rank_head p r verdict =
     ∷ text_member (codes "claim") (claim_word r.distinct)
     ∷ count_member (codes "asked") r.count ∷ networks_member p r.networks ∷ []
 
-abbrev pub rank_json_lines : Problem → Marginals → Ranking → RankVerdict → List (List ℕ)
-rank_json_lines p m r verdict = lines_behind (rank_head p r verdict) p m r.networks
-
--- the lines say the verdict, with marginals that are right for the first network
-abbrev pub RankFactsSay : Problem → Ranking → RankVerdict → List (List ℕ) → Type 0
-RankFactsSay p r verdict lines = (m : Marginals) × AreFirstMarginals p r.networks m
-    × (lines ≡ rank_json_lines p m r verdict)
+abbrev pub rank_json_lines : Problem → Ranking → RankVerdict → List (List ℕ)
+rank_json_lines p r verdict = lines_behind (rank_head p r verdict) p r.networks
 
 -- the verdict is that on the tree: `proved` exactly if `rankcheck` accepts the ranking
 abbrev pub RankJsonSays : Problem → Ranking → List (List ℕ) → Type 0
 RankJsonSays p r lines = (verdict : RankVerdict) × IsRankVerdict p r verdict
-    × RankFactsSay p r verdict lines
+    × (lines ≡ rank_json_lines p r verdict)
 
 abbrev pub RankJsonWork : Problem → Text → Status → List (List ℕ) → Type 0
 RankJsonWork p t Done lines = RankJsonSays p (ranking_of t) lines

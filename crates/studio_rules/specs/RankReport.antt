@@ -11,7 +11,6 @@ use Rattle.report_rules.specs.declared.rank_verdict.RankVerdict.{RankVerdict}
 use Rattle.report_rules.specs.declared.rank_verdict.RankVerdict.TheVariants.{Proved, Unfinished}
 use Rattle.report_rules.specs.declared.rank_verdict.RankVerdict.TheVariants.{Fails}
 use Rattle.report_rules.specs.RankVerdict.{IsRankVerdict}
-use Rattle.report_rules.specs.Marginal.{Marginals, AreFirstMarginals}
 use Rattle.report_rules.specs.Ranked.{ranking_lines}
 use Rattle.studio_rules.specs.RankWords.{rank_why_word, network_line}
 use Rattle.studio_rules.specs.declared.status.Status.{Status}
@@ -67,19 +66,14 @@ rank_first_line distinct count found (Fails node why) = failing_words node why
 
 -- ---- all
 
-abbrev pub rank_report_lines : Problem → Marginals → Ranking → RankVerdict → List (List ℕ)
-rank_report_lines p m r verdict =
-    rank_first_line r.distinct r.count (length r.networks) verdict ∷ ranking_lines p m r.networks
-
--- the lines say the verdict, with marginals that are right for the first network
-abbrev pub RankVerdictSays : Problem → Ranking → RankVerdict → List (List ℕ) → Type 0
-RankVerdictSays p r verdict lines = (m : Marginals) × AreFirstMarginals p r.networks m
-    × (lines ≡ rank_report_lines p m r verdict)
+abbrev pub rank_report_lines : Problem → Ranking → RankVerdict → List (List ℕ)
+rank_report_lines p r verdict =
+    rank_first_line r.distinct r.count (length r.networks) verdict ∷ ranking_lines p r.networks
 
 -- the lines say what the tree proves: `PROVED` exactly if `rankcheck` accepts the ranking
 abbrev pub RankReportSays : Problem → Ranking → List (List ℕ) → Type 0
 RankReportSays p r lines = (verdict : RankVerdict) × IsRankVerdict p r verdict
-    × RankVerdictSays p r verdict lines
+    × (lines ≡ rank_report_lines p r verdict)
 
 -- a ranking of which a network fails is refused for the first that does
 abbrev pub NetworkRefusal : Problem → Ranking → List (List ℕ) → Type 0

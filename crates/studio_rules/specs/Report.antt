@@ -11,7 +11,6 @@ use Rattle.report_rules.specs.declared.verdict.Verdict.TheVariants.{Proved, Unfi
 use Rattle.report_rules.specs.declared.lower_bound.LowerBound.{LowerBound}
 use Rattle.report_rules.specs.Verdict.{IsVerdict}
 use Rattle.report_rules.specs.Lower.{low_cell, gap_text}
-use Rattle.report_rules.specs.Marginal.{Marginals, AreClaimMarginals}
 use Rattle.report_rules.specs.Report.{total_cell, report_lines}
 use Rattle.report_rules.specs.Clash.{clash_lines}
 use Rattle.studio_rules.specs.RefusalWords.{why_word, claim_line}
@@ -57,27 +56,21 @@ first_line p claim (Fails node why) = failing_line node why
 -- ---- all
 
 -- a network has tables; if it is proved that none meets the bounds, bounds clash
-abbrev pub tables_of : Problem → Marginals → Claim → Tree → Verdict → List (List ℕ)
-tables_of p m (network w) tree verdict = report_lines p w m
-tables_of p m infeasible tree Proved = clash_lines p tree
-tables_of p m infeasible tree (Unfinished low) = []
-tables_of p m infeasible tree (Fails node why) = []
-tables_of p m unknown tree verdict = []
+abbrev pub tables_of : Problem → Claim → Tree → Verdict → List (List ℕ)
+tables_of p (network w) tree verdict = report_lines p w
+tables_of p infeasible tree Proved = clash_lines p tree
+tables_of p infeasible tree (Unfinished low) = []
+tables_of p infeasible tree (Fails node why) = []
+tables_of p unknown tree verdict = []
 
-abbrev pub verdict_lines : Problem → Marginals → Claim → Tree → Verdict → List (List ℕ)
-verdict_lines p m claim tree verdict =
-    first_line p claim verdict ∷ tables_of p m claim tree verdict
-
--- the lines say the verdict, with marginals that are right for the network of the claim
-abbrev pub VerdictSays : Problem → Claim → Tree → Verdict → List (List ℕ) → Type 0
-VerdictSays p claim tree verdict lines =
-    (m : Marginals) × AreClaimMarginals p claim m
-    × (lines ≡ verdict_lines p m claim tree verdict)
+abbrev pub verdict_lines : Problem → Claim → Tree → Verdict → List (List ℕ)
+verdict_lines p claim tree verdict = first_line p claim verdict ∷ tables_of p claim tree verdict
 
 -- the lines say what the tree proves: `PROVED` exactly if `check` accepts it
 abbrev pub ReportSays : Problem → Claim → Tree → List (List ℕ) → Type 0
 ReportSays p claim tree lines =
-    (verdict : Verdict) × IsVerdict p claim tree verdict × VerdictSays p claim tree verdict lines
+    (verdict : Verdict) × IsVerdict p claim tree verdict
+    × (lines ≡ verdict_lines p claim tree verdict)
 
 -- A claim that fails, though nothing may be claimed, is refused for the first of its lines that
 -- does.

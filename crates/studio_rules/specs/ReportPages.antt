@@ -48,10 +48,6 @@ report_page =
     codes "one of materials and one of sums. Costs are above 0, incomes below; numbers with" ∷
     codes "more than 6 digits show 6. limit names the bound that an amount is at: max, min," ∷
     codes "fixed (both), idle (built, but of size 0), or UNBOUNDED?, at 1000000000." ∷
-    codes "marginal is what one more of a net amount costs while these units stay. Above 0" ∷
-    codes "one more of a demand costs it, and one more of a raw material at max saves it;" ∷
-    codes "below 0 one more of a limit, as on CO2, saves it; 0 for a by-product left over." ∷
-    codes "For a unit it is what one more of its size saves. It is - if a number overflows." ∷
     codes "NOT FINISHED says, if each open node has a bound, what no network costs less" ∷
     codes "than (rounded down), and the gap to the best one in per cent (rounded up)." ∷
     codes "If no network meets the bounds, those that clash follow: what the multipliers of" ∷
@@ -129,7 +125,10 @@ abbrev pub stable_ends : List (List ℕ)
 stable_ends =
     codes "Ends with" ∷
     codes "  0   The whole text was printed." ∷
-    codes "  1   refused claim WHY: as in pns help report." ∷
+    codes "  1   refused claim WHY: the claim has no network (unknown), or its network" ∷
+    codes "      breaks an axiom (axiom) or an exclusion (exclusion), or its sizes break a" ∷
+    codes "      bound (flows), or its cost is wrong (cost), or a number is too large" ∷
+    codes "      (sum). Is FILE the plant that TREE was made for?" ∷
     codes "  4   at V, then a tree text or a place line: a number overflowed 128 bits; the" ∷
     codes "      plant need not be wrong. Write rates and costs with fewer digits, or" ∷
     codes "      tighter bounds and capacities, and call again." ∷
@@ -150,9 +149,8 @@ stable_ends =
 unfoldable pub stable_page : List (List ℕ)
 stable_page =
     codes "pns stable FILE TREE KIND NAME [BUDGET]" ∷
-    codes "pns stable FILE TREE [BUDGET]" ∷
     codes "Finds how far one price or cost may move while the network of the claim still" ∷
-    codes "costs least. Without KIND and NAME: each price and each cost of the network." ∷
+    codes "costs least." ∷
     codes "  FILE    the plant, PNS_problem_v1" ∷
     codes "  TREE    a tree text, as solve prints it" ∷
     codes "  KIND    price, fix or proportional" ∷
@@ -160,7 +158,5 @@ stable_page =
     codes "  BUDGET  the most nodes, 1 to 1000000; 10k is 10000; 1M if it is left out" ∷
     codes "Prints from V, then below and a network that is cheaper under V, or below limit;" ∷
     codes "to V, then above in the same way. V is in millionths." ∷
-    codes "Without KIND and NAME it prints a table with numbers as in FILE: the two ends," ∷
-    codes "or limit for the limit of the values, or ? if a search stopped." ∷
     codes "Standard error shows how far it is, unless PNS_QUIET is set." ∷
     stable_ends

@@ -22,7 +22,6 @@ use Rattle.studio_rules.specs.Command.{unit_count_of, years_of, rank_count_of, b
 use Rattle.studio_rules.specs.Command.{full_budget, is_file_word, are_files, AreWithin, Table}
 use Rattle.studio_rules.specs.Command.{Splitting, Expanding, Drawing, DrawingNetwork, Reporting}
 use Rattle.studio_rules.specs.Command.{Json, Planning, Parting, PartingAgainst, Merging}
-use Rattle.studio_rules.specs.Command.{RangingAll}
 use Rattle.stability_rules.specs.declared.spot.SpotKind.{SpotKind}
 
 numeral_within : (least most : ℕ) (word : List ℕ)
@@ -119,12 +118,6 @@ planning_within : (file plan : List ℕ) (budget : Option ℕ)
 planning_within file plan None p = tt
 planning_within file plan (Some budget) p = p
 
-ranging_within : (file tree : List ℕ) (budget : Option ℕ)
-    → IfSome budget (λ n. (1 ≤ n) × (n ≤ 1000000))
-    → IfSome (option_map (RangingAll file tree) budget) AreWithin
-ranging_within file tree None p = tt
-ranging_within file tree (Some budget) p = p
-
 parting_within : (file inside outside : List ℕ) (budget : Option ℕ)
     → IfSome budget (λ n. (1 ≤ n) × (n ≤ 1000000))
     → IfSome (option_map (Parting file inside outside) budget) AreWithin
@@ -179,10 +172,8 @@ with_file_within word file second =
     (either_within (bytes_eq word (codes "graph")) (Some (DrawingNetwork file second)) _ tt
     (either_within (bytes_eq word (codes "report")) (Some (Reporting file second)) _ tt
     (either_within (bytes_eq word (codes "json")) (Some (Json file second)) _ tt
-    (either_within (bytes_eq word (codes "periods")) (Some (Planning file second full_budget)) _
-    full_within
-    (either_within (bytes_eq word (codes "stable")) (Some (RangingAll file second full_budget)) None
-    full_within tt))))))))))))
+    (either_within (bytes_eq word (codes "periods")) (Some (Planning file second full_budget)) None
+    full_within tt)))))))))))
 
 on_file_within : (word file second : List ℕ) → IfSome (on_file word file second) AreWithin
 on_file_within word file second =
@@ -247,9 +238,6 @@ forms_within (word ∷ first ∷ second ∷ third ∷ []) =
     (either_within (bytes_eq word (codes "periods") && are_files (first ∷ second ∷ []))
     (option_map (Planning first second) (budget_of third)) _
     (planning_within first second (budget_of third) (budget_within third))
-    (either_within (bytes_eq word (codes "stable") && are_files (first ∷ second ∷ []))
-    (option_map (RangingAll first second) (budget_of third)) _
-    (ranging_within first second (budget_of third) (budget_within third))
     (either_within (bytes_eq word (codes "rank") && is_file_word first)
     (ranked_by first (rank_count_of second) (budget_of third)) _
     (ranked_within first (rank_count_of second) (budget_of third) (numeral_within 1 1000 second)
@@ -259,7 +247,7 @@ forms_within (word ∷ first ∷ second ∷ third ∷ []) =
     (alternatives_within first (rank_count_of second) (budget_of third)
     (numeral_within 1 1000 second) (budget_within third))
     (either_within (bytes_eq word (codes "part") && is_file_word first)
-    (Some (Parting first second third full_budget)) None full_within tt))))))
+    (Some (Parting first second third full_budget)) None full_within tt)))))
 forms_within (word ∷ first ∷ second ∷ third ∷ fourth ∷ []) =
     either_within (bytes_eq word (codes "part") && is_file_word first)
     (option_map (Parting first second third) (budget_of fourth)) _

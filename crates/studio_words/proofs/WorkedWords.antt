@@ -4,7 +4,7 @@ use Rattle.studio_rules.specs.Pages.{command_page_of, command_text}
 use Rattle.studio_rules.specs.Command.{command_of, budget_of, Max, Listing, Linting, Solving}
 use Rattle.studio_rules.specs.Command.{Alternatives}
 use Rattle.studio_rules.specs.Command.{Ranking, Planning, Parting, PartingAgainst, Ranging, Trial}
-use Rattle.studio_rules.specs.Command.{Checking, Merging, Flows, Telling, RangingAll}
+use Rattle.studio_rules.specs.Command.{Checking, Merging, Flows, Telling}
 use Rattle.stability_rules.specs.declared.spot.SpotKind.TheVariants as kinds
 
 -- budgets
@@ -70,17 +70,6 @@ trial_alone = refl
 stable_alone : command_of (codes "stable" ∷ codes "a" ∷ codes "t" ∷ codes "fix" ∷ codes "U2" ∷ [])
     ≡ Some (Ranging (codes "a") (codes "t") kinds.Fix (codes "U2") 1000000)
 stable_alone = refl
-
-stable_of_all : command_of (codes "stable" ∷ codes "a" ∷ codes "t" ∷ [])
-    ≡ Some (RangingAll (codes "a") (codes "t") 1000000)
-stable_of_all = refl
-
-stable_of_all_within : command_of (codes "stable" ∷ codes "a" ∷ codes "t" ∷ codes "10k" ∷ [])
-    ≡ Some (RangingAll (codes "a") (codes "t") 10000)
-stable_of_all_within = refl
-
-stable_without_name : command_of (codes "stable" ∷ codes "a" ∷ codes "t" ∷ codes "fix" ∷ []) ≡ None
-stable_without_name = refl
 
 part_alone : command_of (codes "part" ∷ codes "a" ∷ codes "4" ∷ codes "8" ∷ [])
     ≡ Some (Parting (codes "a") (codes "4") (codes "8") 1000000)

@@ -12,7 +12,7 @@ use Rattle.studio_words.specs.declared.command.Command.TheVariants.{Drawing, Dra
 use Rattle.studio_words.specs.declared.command.Command.TheVariants.{Reporting, Json, Ranging}
 use Rattle.studio_words.specs.declared.command.Command.TheVariants.{Planning, Parting}
 use Rattle.studio_words.specs.declared.command.Command.TheVariants.{PartingAgainst, Merging}
-use Rattle.studio_words.specs.declared.command.Command.TheVariants.{Alternatives, RangingAll}
+use Rattle.studio_words.specs.declared.command.Command.TheVariants.{Alternatives}
 
 abbrev pub command_view : Command → rules.Command
 command_view (Max file) = rules.Max file.now
@@ -35,7 +35,6 @@ command_view (Reporting file tree) = rules.Reporting file.now tree.now
 command_view (Json file tree) = rules.Json file.now tree.now
 command_view (Ranging file tree kind name budget) =
     rules.Ranging file.now tree.now kind name.now budget
-command_view (RangingAll file tree budget) = rules.RangingAll file.now tree.now budget
 command_view (Planning file plan budget) = rules.Planning file.now plan.now budget
 command_view (Parting file inside outside budget) =
     rules.Parting file.now inside.now outside.now budget

@@ -7,7 +7,6 @@ ghost use Rattle.studio_rules.specs.Command.{unit_names_of, count_of, seed_of, u
 ghost use Rattle.studio_rules.specs.Command.{years_of, rank_count_of, budget_of, kind_of};
 ghost use Rattle.studio_rules.specs.Command.{alone, Axioms, Flows, Listing, Migrate, Solving};
 ghost use Rattle.studio_rules.specs.Command.{Showing, Planning, Parting, PartingAgainst, Telling};
-ghost use Rattle.studio_rules.specs.Command.{RangingAll};
 ghost use Rattle.studio_rules.specs.Pages.{page_text};
 ghost use Rattle.studio_words.specs.View.{command_view};
 
@@ -41,7 +40,6 @@ pub enum Command<'a> {
     Reporting(&'a str, &'a str),
     Json(&'a str, &'a str),
     Ranging(&'a str, &'a str, SpotKind, &'a str, u64),
-    RangingAll(&'a str, &'a str, u64),
     Planning(&'a str, &'a str, u64),
     Parting(&'a str, &'a str, &'a str, u64),
     PartingAgainst(&'a str, &'a str, &'a str, u64, &'a str),
@@ -310,7 +308,6 @@ fn with_file<'a>(word: &str, file: &'a str, second: &'a str) -> Option<Command<'
         "report" => Some(Command::Reporting(file, second)),
         "json" => Some(Command::Json(file, second)),
         "periods" => Some(Command::Planning(file, second, MOST_NODES)),
-        "stable" => Some(Command::RangingAll(file, second, MOST_NODES)),
         _ => None,
     }
 }
@@ -325,8 +322,6 @@ fn of_four<'a>(word: &str, first: &'a str, second: &'a str, third: &'a str) -> O
         listing_of(first, second, third)
     } else if word == "periods" && are_both_files(first, second) {
         planning_of(first, second, third)
-    } else if word == "stable" && are_both_files(first, second) {
-        ranging_of(first, second, third)
     } else if word == "rank" && !first.is_empty() {
         ranked_by(first, second, budget_of(third))
     } else if word == "alternatives" && !first.is_empty() {
@@ -383,14 +378,6 @@ fn planning_of<'a>(file: &'a str, plan: &'a str, budget: &str) -> Option<Command
 {
     let budget = budget_of(budget)?;
     Some(Command::Planning(file, plan, budget))
-}
-
-fn ranging_of<'a>(file: &'a str, tree: &'a str, budget: &str) -> Option<Command<'a>>
-    ensures { option_map command_view result
-        ≡ option_map (RangingAll file.now tree.now) (budget_of budget.now) }
-{
-    let budget = budget_of(budget)?;
-    Some(Command::RangingAll(file, tree, budget))
 }
 
 /// The most networks that one call ranks.

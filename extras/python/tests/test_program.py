@@ -168,9 +168,8 @@ class Reports(unittest.TestCase):
         self.assertEqual(found.counts["units"], 2)
         self.assertEqual(found.units[0], {
             "unit": "U1", "size": 20, "share": Fraction(1, 5), "limit": None, "fixed": 10,
-            "proportional": 20, "investment": 0, "total": 30, "marginal": 0,
+            "proportional": 20, "investment": 0, "total": 30,
         })
-        self.assertEqual([row["marginal"] for row in found.materials], [0, 3, 3])
         self.assertEqual(found.materials[2]["limit"], "fixed")
         self.assertEqual((found.money["material_costs"], found.money["total"]), (40, 75))
         self.assertEqual((found.paid_once, found.left_out), (0, ("U2", "U4", "U5")))

@@ -1,5 +1,5 @@
 use Rattle.std.specs.List.{slice_get}
-use Rattle.std.proofs.Common.{◌≡◌, List, Option, Some, take, subst, arith}
+use Rattle.std.proofs.Common.{◌≡◌, ◌+◌, List, Option, Some, take, length, subst, sym, arith}
 use Rattle.tree_rules.specs.Claim.{Network}
 use Rattle.rank_search.proofs.NameLemmas.{item_there}
 use Rattle.rank_search.proofs.PlaceLemmas.{take_whole}

@@ -1,6 +1,7 @@
+use Rattle.std.specs.Prelude.{get_or}
 use Rattle.std.specs.List.{slice_get}
-use Rattle.std.proofs.Common.{◌≡◌, ◌∷◌, [], refl, Option, Some, None, length}
-use Rattle.std.proofs.Common.{subst, sym, ap, arith}
+use Rattle.std.proofs.Common.{◌≡◌, ◌+◌, ◌<◌, ◌∷◌, [], refl, List, Option, Some, None, length}
+use Rattle.std.proofs.Common.{subst, sym, ap, ◌∙◌, arith}
 use Rattle.std.proofs.Common.{ℕ, length-append}
 use Rattle.mixed_numbers.specs.declared.number.Mixed.{Mixed}
 use Rattle.search_tree.specs.Cells.{cell_at}
@@ -19,8 +20,8 @@ naming-init c = record {
   each = λ j lt. absurd (omega (arith, lt));
 }
 
-pub node_at-inside-requires : goal.node_at-inside-requires
-node_at-inside-requires c =
+pub node_at-requires : goal.node_at-requires
+node_at-requires c =
     let t = c.naming-test.true in
     let n = c.naming.invariant.counted in
     let m = c.requires.as_many in
@@ -41,9 +42,9 @@ naming-preserved c =
     (reached_of os i) c.name_for.result) c.naming.invariant.counted
     (subst
     (λ (n : Node). IsNameFor c.args.listed.now n.inside (reached_of os i) c.name_for.result)
-    c.node_at-inside.ensures
+    c.node_at.ensures
     (subst
-    (λ (o : Option Mixed). IsNameFor c.args.listed.now c.node_at-inside.result.inside o
+    (λ (o : Option Mixed). IsNameFor c.args.listed.now c.node_at.result.inside o
     c.name_for.result) (sym here) c.name_for.ensures)) in
     let pushed = c.in_ok-push.ensures.items in
     record {

@@ -1,5 +1,5 @@
 use Rattle.std.specs.Prelude.{slice_index_or}
-use Rattle.std.proofs.Common.{List, Option, None, sym, subst, map}
+use Rattle.std.proofs.Common.{◌≡◌, List, Option, None, refl, sym, subst, map}
 use Rattle.search_tree.specs.declared.shut.Shut.{Shut}
 use Rattle.abb_search.specs.Closing.{ShutAll, EndSome, LeavesOpen, IsSpentFor}
 use Rattle.abb_search.specs.declared.rounds.Ending.{Ending}
@@ -9,7 +9,7 @@ use Rattle.rank_search.specs.declared.outcome.Ranked.TheVariants as ranks
 use Rattle.distinct_search.specs.Listed.{IsListedBy}
 use Rattle.distinct_search.specs.Listing.{goal_of}
 use Rattle.distinct_search.specs.Turns.{EndsAs}
-use Rattle.distinct_search.proofs.ToldLemmas.{spent_listed, past_listed}
+use Rattle.distinct_search.proofs.ToldLemmas.{whole_listed, spent_listed, past_listed}
 use Rattle.distinct_search.proofs.told.listed_by.Goals as goal
 
 pub tell_whole-requires-clause-shut : goal.tell_whole-requires-clause-shut

@@ -1,5 +1,6 @@
-use Rattle.std.proofs.Common.{None}
-use Rattle.distinct_search.proofs.TurnLemmas.{growing_of}
+use Rattle.std.proofs.Common.{◌≡◌, sym, ap, ◌∙◌, subst, None}
+use Rattle.distinct_search.specs.Turns.{IsSearching}
+use Rattle.distinct_search.proofs.TurnLemmas.{growing_of, searching_settled, goes_settled, ends}
 use Rattle.distinct_search.proofs.turns.go_on.Goals as goal
 
 pub next_leaf-requires-clause-growing : goal.next_leaf-requires-clause-growing

@@ -1,4 +1,4 @@
-use Rattle.std.proofs.Common.{◌∙◌, ℕ, List, Option, Some, None, sym, subst}
+use Rattle.std.proofs.Common.{◌∙◌, ℕ, List, length, Option, Some, None, sym, subst, arith}
 use Rattle.pns_rules.specs.Shape.{shape_of}
 use Rattle.neutral_extension.specs.Candidates.{AreMakersOf}
 use Rattle.abb_search.specs.declared.rounds.Ending.{Ending}

@@ -1,23 +1,25 @@
-use Rattle.std.proofs.Common.{◌∷◌, [], true, refl, inl, ℕ, List, codes}
+use Rattle.std.proofs.Common.{◌++◌, ◌∷◌, [], true, refl, inl, ℕ, List, codes}
 use Rattle.branch_tree.specs.View.{claim_of}
 use Rattle.tree_rules.specs.Claim.{ClaimFails}
-use Rattle.studio_rules.specs.Lines.{line}
+use Rattle.studio_rules.specs.Lines.{line, text_of}
 use Rattle.studio_rules.specs.RefusalWords.{claim_line}
-use Rattle.studio_rules.specs.Json.{JsonWork, FactsSay}
+use Rattle.studio_rules.specs.Json.{JsonWork, json_lines}
 use Rattle.studio_rules.specs.Ending.{Tells}
 use Rattle.studio_rules.specs.declared.status.Status.{Status}
-use Rattle.studio_rules.specs.declared.status.Status.TheVariants.{BadClaim, Memory}
-use Rattle.endings.proofs.Ending.{Ends-map, Ends-told, only_in, only_or_memory_in, one_line}
+use Rattle.studio_rules.specs.declared.status.Status.TheVariants.{Done, BadClaim, Memory}
+use Rattle.endings.proofs.Ending.{Ends-map, only_in, only_or_memory_in, one_line}
 use Rattle.json_commands.proofs.call.say_judged.Goals as goal
 
 pub returns-in-Ok : goal.returns-in-Ok
 returns-in-Ok g c =
     let p = c.args.site.now in
     let claim = claim_of c.args.claim.now in
-    Ends-told c.json_text.result (λ v. v.items) (JsonWork p claim c.args.tree.now)
-    (FactsSay p claim c.in-Ok.verdict) c.args.out.now _ _
-    (λ lines says. (c.in-Ok.verdict, c.in-Ok.ensures.verdict, says)) c.json_text.ensures
-    c.say_told.ensures
+    let Q : Status → List ℕ → Type 0 = Tells (JsonWork p claim c.args.tree.now) in
+    let lines : List (List ℕ) = json_lines p claim c.in-Ok.verdict in
+    Ends-map _ Q c.args.out.now _ _
+    (only_or_memory_in Q Done (text_of lines)
+    (lines, (c.in-Ok.verdict, c.in-Ok.ensures.verdict, refl), refl) ([], inl refl, refl))
+    (c.say_made.ensures lines c.json_text.ensures)
 
 pub returns-in-Err-Claim : goal.returns-in-Err-Claim
 returns-in-Err-Claim g c =

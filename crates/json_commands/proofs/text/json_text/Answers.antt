@@ -1,11 +1,11 @@
-use Rattle.std.proofs.Common.{◌≡◌, ◌∷◌, [], ◌∙◌, ap, refl, ℕ, List, codes}
+use Rattle.std.proofs.Common.{◌≡◌, ◌∷◌, [], ◌∙◌, ap, ℕ, List, codes}
 use Rattle.problem_rules.specs.Problem.{Problem}
 use Rattle.branch_tree.specs.View.{claim_of}
 use Rattle.json_rules.specs.Json.{member}
 use Rattle.json_rules.specs.Facts.{text_member}
 use Rattle.json_rules.specs.Lower.{low_json}
 use Rattle.studio_rules.specs.Lines.{text_of}
-use Rattle.studio_rules.specs.Json.{verdict_word, claim_word, lines_behind, json_lines}
+use Rattle.studio_rules.specs.Json.{verdict_word, claim_word, lines_behind}
 use Rattle.json_commands.proofs.text.json_text.Goals as goal
 
 pub returns : goal.returns
@@ -22,13 +22,9 @@ returns c =
     c.in_ok-low.ensures
     ∙ ap (λ (p : Problem). member (codes "low") (low_json p c.args.verdict))
     c.problem.ensures.same in
-    let told = c.in_ok-bytes.ensures in (
-      json_lines c.args.site.now told.0 claim c.args.verdict,
-      (told.0, told.1, refl),
-      told.2
-          ∙ (λ i. text_of
-          (lines_behind
-          (stated i ∷ c.in_ok-node.ensures i ∷ c.in_ok-why.ensures i ∷ claimed i ∷ low i
-          ∷ c.in_ok-gap.ensures i ∷ [])
-          c.args.site.now told.0 claim)),
-    )
+    c.in_ok-bytes.ensures
+    ∙ (λ i. text_of
+    (lines_behind
+    (stated i ∷ c.in_ok-node.ensures i ∷ c.in_ok-why.ensures i ∷ claimed i ∷ low i
+    ∷ c.in_ok-gap.ensures i ∷ [])
+    c.args.site.now claim))

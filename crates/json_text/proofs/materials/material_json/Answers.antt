@@ -3,7 +3,6 @@ use Rattle.problem_rules.specs.Problem.{material_at}
 use Rattle.report_rules.specs.Number.{Number}
 use Rattle.report_rules.specs.declared.amount.UnitAmount.TheVariants.{Made, Used}
 use Rattle.report_rules.specs.Amounts.{unit_sum, net, price, cost}
-use Rattle.report_rules.specs.Marginal.{marginal}
 use Rattle.report_rules.specs.Report.{material_limit}
 use Rattle.json_rules.specs.Json.{object}
 use Rattle.json_rules.specs.Facts.{text_member, number_member, limit_member}
@@ -14,7 +13,6 @@ returns c =
     let p = c.args.problem.now in
     let w = c.args.network.now in
     let j = c.args.j in
-    let m = c.args.marginals.now in
     let name : c.in_ok-name.name ≡ text_member (codes "name") (material_at p j).name =
     c.in_ok-name.ensures
     ∙ ap (λ (t : List ℕ). text_member (codes "name") t) c.material_name.ensures in
@@ -33,10 +31,7 @@ returns c =
     ∙ ap (λ (n : Number). number_member (codes "price") n) c.price.ensures in
     let paid : c.in_ok-paid.paid ≡ number_member (codes "cost") (cost p w j) =
     c.in_ok-paid.ensures ∙ ap (λ (n : Number). number_member (codes "cost") n) c.cost.ensures in
-    let more : c.in_ok-more.more ≡ number_member (codes "marginal") (marginal p m j) =
-    c.in_ok-more.ensures
-    ∙ ap (λ (n : Number). number_member (codes "marginal") n) c.of_material.ensures in
     c.in_ok-json.ensures
     ∙ (λ i. object
     (name i ∷ c.in_ok-kind.ensures i ∷ made i ∷ used i ∷ left i ∷ limit i ∷ money i ∷ paid i
-    ∷ more i ∷ []))
+    ∷ []))

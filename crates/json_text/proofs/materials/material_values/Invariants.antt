@@ -9,7 +9,7 @@ abbrev pub invariant-loop-j : goal.invariant-loop-j
 invariant-loop-j l = record {
   within : IsWithin (has l.j-iterator)
       (has (materials_of (net_of l.fn.site) (has l.fn.network.units)));
-  values : l.values.items ++ map (material_json l.fn.site l.fn.network l.fn.marginals) l.j-iterator
-      ≡ map (material_json l.fn.site l.fn.network l.fn.marginals)
+  values : l.values.items ++ map (material_json l.fn.site l.fn.network) l.j-iterator
+      ≡ map (material_json l.fn.site l.fn.network)
       (materials_of (net_of l.fn.site) (has l.fn.network.units));
 }

@@ -17,17 +17,16 @@ pub returns : goal.returns
 returns c =
     let p = c.args.site.now in
     let w = c.args.network.now in
-    let m = c.args.marginals.now in
     four_blocks c.new-text.result.items c.push_head.new.text.items c.push_units.new.text.items
     c.push_materials.new.text.items c.push_foot.new.text.items
-    (head_lines c.args.head.now p w) (unit_lines p w m) (material_lines p w m) (foot_lines p w)
+    (head_lines c.args.head.now p w) (unit_lines p w) (material_lines p w) (foot_lines p w)
     c.in_ok-push_head.ensures
     (c.in_ok-push_units.ensures
-    ∙ ap (λ (p : Problem). c.push_head.new.text.items ++ printed (unit_lines p w m))
+    ∙ ap (λ (p : Problem). c.push_head.new.text.items ++ printed (unit_lines p w))
     c.problem-problem.ensures.same)
     c.in_ok-push_materials.ensures c.in_ok-push_foot.ensures
     ∙ ap
     (λ t. t
     ++ printed
     (head_lines c.args.head.now p w
-    ++ (unit_lines p w m ++ (material_lines p w m ++ foot_lines p w)))) c.new-text.ensures.items
+    ++ (unit_lines p w ++ (material_lines p w ++ foot_lines p w)))) c.new-text.ensures.items

@@ -4,7 +4,6 @@ use Rattle.report_rules.specs.Number.{Number}
 use Rattle.report_rules.specs.declared.amount.UnitAmount.TheVariants.{Fixed, Proportional}
 use Rattle.report_rules.specs.declared.amount.UnitAmount.TheVariants.{Investment, Total}
 use Rattle.report_rules.specs.Amounts.{size, amount}
-use Rattle.report_rules.specs.Marginal.{unit_marginal}
 use Rattle.report_rules.specs.Report.{unit_limit}
 use Rattle.json_rules.specs.Json.{object}
 use Rattle.json_rules.specs.Facts.{text_member, number_member, limit_member}
@@ -15,7 +14,6 @@ returns c =
     let p = c.args.problem.now in
     let w = c.args.network.now in
     let u = c.args.u in
-    let m = c.args.marginals.now in
     let name : c.in_ok-name.name ≡ text_member (codes "name") (unit_at p u).name =
     c.in_ok-name.ensures
     ∙ ap (λ (t : List ℕ). text_member (codes "name") t) c.unit_name.ensures in
@@ -38,10 +36,7 @@ returns c =
     let total : c.in_ok-total.total ≡ number_member (codes "total") (amount Total p w u) =
     c.in_ok-total.ensures
     ∙ ap (λ (n : Number). number_member (codes "total") n) c.amount-cost-4.ensures in
-    let saved : c.in_ok-saved.saved ≡ number_member (codes "marginal") (unit_marginal p m u) =
-    c.in_ok-saved.ensures
-    ∙ ap (λ (n : Number). number_member (codes "marginal") n) c.of_unit.ensures in
     c.in_ok-json.ensures
     ∙ (λ i. object
     (name i ∷ sized i ∷ c.in_ok-share.ensures i ∷ limit i ∷ fixed i ∷ proportional i
-    ∷ investment i ∷ total i ∷ saved i ∷ []))
+    ∷ investment i ∷ total i ∷ []))

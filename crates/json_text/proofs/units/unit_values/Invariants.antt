@@ -7,6 +7,6 @@ use Rattle.json_text.proofs.units.unit_values.Given as goal
 abbrev pub invariant-loop-u : goal.invariant-loop-u
 invariant-loop-u l = record {
   within : IsWithin (has l.u-iterator) (has l.fn.network.units);
-  values : l.values.items ++ map (unit_json l.fn.problem l.fn.network l.fn.marginals) l.u-iterator
-      ≡ map (unit_json l.fn.problem l.fn.network l.fn.marginals) l.fn.network.units;
+  values : l.values.items ++ map (unit_json l.fn.problem l.fn.network) l.u-iterator
+      ≡ map (unit_json l.fn.problem l.fn.network) l.fn.network.units;
 }

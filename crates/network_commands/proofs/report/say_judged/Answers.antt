@@ -1,23 +1,25 @@
 use Rattle.std.proofs.Common.{◌∷◌, [], true, refl, inl, ℕ, List, codes}
 use Rattle.branch_tree.specs.View.{claim_of}
 use Rattle.tree_rules.specs.Claim.{ClaimFails}
-use Rattle.studio_rules.specs.Lines.{line}
+use Rattle.studio_rules.specs.Lines.{line, text_of}
 use Rattle.studio_rules.specs.RefusalWords.{claim_line}
-use Rattle.studio_rules.specs.Report.{ReportWork, VerdictSays}
+use Rattle.studio_rules.specs.Report.{ReportWork, verdict_lines}
 use Rattle.studio_rules.specs.Ending.{Tells}
 use Rattle.studio_rules.specs.declared.status.Status.{Status}
-use Rattle.studio_rules.specs.declared.status.Status.TheVariants.{BadClaim, Memory}
-use Rattle.endings.proofs.Ending.{Ends-map, Ends-told, only_in, only_or_memory_in, one_line}
+use Rattle.studio_rules.specs.declared.status.Status.TheVariants.{Done, BadClaim, Memory}
+use Rattle.endings.proofs.Ending.{Ends-map, only_in, only_or_memory_in, one_line}
 use Rattle.network_commands.proofs.report.say_judged.Goals as goal
 
 pub returns-in-Ok : goal.returns-in-Ok
 returns-in-Ok g c =
     let p = c.args.site.now in
     let claim = claim_of c.args.claim.now in
-    Ends-told c.verdict_text.result (λ v. v.items) (ReportWork p claim c.args.tree.now)
-    (VerdictSays p claim c.args.tree.now c.in-Ok.verdict) c.args.out.now _ _
-    (λ lines says. (c.in-Ok.verdict, c.in-Ok.ensures.verdict, says)) c.verdict_text.ensures
-    c.say_told.ensures
+    let Q : Status → List ℕ → Type 0 = Tells (ReportWork p claim c.args.tree.now) in
+    let lines : List (List ℕ) = verdict_lines p claim c.args.tree.now c.in-Ok.verdict in
+    Ends-map _ Q c.args.out.now _ _
+    (only_or_memory_in Q Done (text_of lines)
+    (lines, (c.in-Ok.verdict, c.in-Ok.ensures.verdict, refl), refl) ([], inl refl, refl))
+    (c.say_made.ensures lines c.verdict_text.ensures)
 
 pub returns-in-Err-Claim : goal.returns-in-Err-Claim
 returns-in-Err-Claim g c =

@@ -6,7 +6,7 @@ use Rattle.endings.proofs.Ending.{Ends-map, Tells-map, Tells-memory, only_in}
 use Rattle.distinct_search.specs.Listed.{IsListedTo}
 use Rattle.rank_searches.specs.Found.{FoundSays}
 use Rattle.studio_rules.specs.Alternates.{AlternatesWork}
-use Rattle.rank_searches.proofs.DistinctLists.{can_print, found_works}
+use Rattle.rank_searches.proofs.Alternates.{can_print, found_works}
 use Rattle.rank_searches.proofs.alternates.say_listed.Goals as goal
 
 pub say_found-requires : goal.say_found-requires

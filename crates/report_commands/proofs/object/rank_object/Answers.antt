@@ -1,28 +1,17 @@
-use Rattle.std.proofs.Common.{◌≡◌, ◌∷◌, [], ◌∙◌, ap, refl, sym, subst, ℕ, Bool, List, codes}
+use Rattle.std.proofs.Common.{◌≡◌, ◌∷◌, [], ◌∙◌, ap, sym, subst, ℕ, List, codes}
 use Rattle.tree_rules.specs.Claim.{Network}
-use Rattle.rank_rules.specs.Text.{ranking_of}
-use Rattle.report_rules.specs.Marginal.{AreFirstMarginals}
 use Rattle.report_tables.specs.First.{IsFirstFeasible}
 use Rattle.json_rules.specs.Facts.{text_member}
 use Rattle.json_rules.specs.Ranked.{lines_behind}
 use Rattle.studio_rules.specs.Lines.{text_of}
-use Rattle.studio_rules.specs.RankJson.{rank_verdict_word, claim_word, rank_json_lines}
+use Rattle.studio_rules.specs.RankJson.{rank_verdict_word}
 use Rattle.report_commands.proofs.Works.{first_feasible}
 use Rattle.report_commands.proofs.object.rank_object.Goals as goal
 
-pub first_marginals-requires : goal.first_marginals-requires
-first_marginals-requires c =
-    subst (λ (ws : List Network). IsFirstFeasible c.args.site.now ws)
-    (sym c.networks-networks.ensures)
-    (first_feasible c.args.ranking.now.distinct c.args.site.now c.args.ranking.now.networks
-    c.requires.listed)
-
 pub first_of-requires : goal.first_of-requires
 first_of-requires c =
-    subst (λ (ws : List Network). IsFirstFeasible c.args.site.now ws)
-    (sym c.networks-networks.ensures)
-    (first_feasible c.args.ranking.now.distinct c.args.site.now c.args.ranking.now.networks
-    c.requires.listed)
+    subst (λ (ws : List Network). IsFirstFeasible c.args.site.now ws) (sym c.networks.ensures)
+    (first_feasible c.args.site.now c.args.ranking.now.networks c.requires.listed)
 
 pub returns : goal.returns
 returns c =
@@ -30,25 +19,9 @@ returns c =
     ≡ text_member (codes "verdict") (rank_verdict_word c.args.verdict) =
     c.in_ok-stated.ensures
     ∙ ap (λ (words : List ℕ). text_member (codes "verdict") words) c.verdict_word.ensures in
-    let claimed : c.in_ok-claimed.claimed
-    ≡ text_member (codes "claim") (claim_word c.args.ranking.now.distinct) =
-    c.in_ok-claimed.ensures
-    ∙ (ap (λ (words : List ℕ). text_member (codes "claim") words) c.claim_word.ensures
-    ∙ ap (λ (distinct : Bool). text_member (codes "claim") (claim_word distinct))
-    c.is_distinct.ensures) in
-    let p = c.args.site.now in
-    let m = c.in_ok-marginals.marginals in (
-      rank_json_lines p m (ranking_of c.args.ranking.now) c.args.verdict,
-      (
-        m,
-        subst (λ (ws : List Network). AreFirstMarginals p ws m) c.networks-networks.ensures
-            c.in_ok-marginals.ensures,
-        refl,
-      ),
-      c.in_ok-bytes.ensures
-          ∙ (λ i. text_of
-          (lines_behind
-          (stated i ∷ c.in_ok-node.ensures i ∷ c.in_ok-why.ensures i ∷ claimed i
-          ∷ c.in_ok-asked.ensures i ∷ c.in_ok-listed.ensures i ∷ [])
-          p m (c.networks-networks.ensures i))),
-    )
+    c.in_ok-bytes.ensures
+    ∙ (λ i. text_of
+    (lines_behind
+    (stated i ∷ c.in_ok-node.ensures i ∷ c.in_ok-why.ensures i ∷ c.in_ok-claimed.ensures i
+    ∷ c.in_ok-asked.ensures i ∷ c.in_ok-listed.ensures i ∷ [])
+    c.args.site.now (c.networks.ensures i)))

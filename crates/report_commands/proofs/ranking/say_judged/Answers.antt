@@ -1,13 +1,13 @@
 use Rattle.std.proofs.Common.{◌∷◌, [], refl, inl, ℕ, List, codes}
 use Rattle.rank_rules.specs.Ranked.{NetworkIsFault}
 use Rattle.rank_rules.specs.Text.{ranking_of}
-use Rattle.studio_rules.specs.Lines.{line}
+use Rattle.studio_rules.specs.Lines.{line, text_of}
 use Rattle.studio_rules.specs.RankWords.{network_line}
 use Rattle.studio_rules.specs.Ending.{Ends, Tells, Only, OrMemory}
 use Rattle.studio_rules.specs.declared.status.Status.{Status}
-use Rattle.studio_rules.specs.declared.status.Status.TheVariants.{BadClaim, Memory}
-use Rattle.endings.proofs.Ending.{Ends-map, Ends-told, only_in, only_or_memory_in, one_line}
-use Rattle.report_commands.specs.Works.{RankWork, RankLines}
+use Rattle.studio_rules.specs.declared.status.Status.TheVariants.{Done, BadClaim, Memory}
+use Rattle.endings.proofs.Ending.{Ends-map, only_in, only_or_memory_in, one_line}
+use Rattle.report_commands.specs.Works.{RankWork, rank_lines}
 use Rattle.report_commands.proofs.Works.{done, refused}
 use Rattle.report_commands.proofs.ranking.say_judged.Goals as goal
 
@@ -16,11 +16,12 @@ returns-in-Ok g c =
     let form = c.args.form in
     let p = c.args.site.now in
     let t = c.args.ranking.now in
-    let verdict = c.in-Ok.verdict in
-    Ends-told c.text_of.result (λ v. v.items) (RankWork form p t)
-    (RankLines form p (ranking_of t) verdict) c.args.out.now _ _
-    (λ lines says. done form p t verdict lines c.in-Ok.ensures.verdict says) c.text_of.ensures
-    c.say_told.ensures
+    let Q : Status → List ℕ → Type 0 = Tells (RankWork form p t) in
+    let lines : List (List ℕ) = rank_lines form p (ranking_of t) c.in-Ok.verdict in
+    Ends-map _ Q c.args.out.now _ _
+    (only_or_memory_in Q Done (text_of lines)
+    (lines, done form p t c.in-Ok.verdict c.in-Ok.ensures.verdict, refl) ([], inl refl, refl))
+    (c.say_made.ensures lines c.text_of.ensures)
 
 pub returns-in-Err-Network : goal.returns-in-Err-Network
 returns-in-Err-Network g c =

@@ -20,13 +20,13 @@ loop-j-init c =
     record {
       within = all_within c.into_iter-j-iterator.result js are;
       rows = λ i. c.new-rows.ensures.items i
-          ++ map (material_row c.args.site.now c.args.network.now c.args.marginals.now) (are i);
+          ++ map (material_row c.args.site.now c.args.network.now) (are i);
     }
 
 pub returns : goal.returns
 returns c =
-    last_row (material_row c.args.site.now c.args.network.now c.args.marginals.now)
-    c.loop-j.j-iterator c.loop-j.rows.items _ c.in-None.ensures.steps.0 c.loop-j.invariant.rows
+    last_row (material_row c.args.site.now c.args.network.now) c.loop-j.j-iterator
+    c.loop-j.rows.items _ c.in-None.ensures.steps.0 c.loop-j.invariant.rows
 
 pub material_row-requires-clause-feasible : goal.material_row-requires-clause-feasible
 material_row-requires-clause-feasible c =
@@ -54,17 +54,16 @@ pub loop-j-preserved : goal.loop-j-preserved
 loop-j-preserved c =
     let p = c.args.site.now in
     let w = c.args.network.now in
-    let m = c.args.marginals.now in
     record {
       within =
           rest_within (has (materials_of (net_of p) (has w.units))) c.loop-j.j-iterator
           c.next.new.self c.in-Some.j c.in-Some.ensures.steps c.loop-j.invariant.within;
       rows =
-          next_row (material_row p w m) c.loop-j.j-iterator c.next.new.self c.in-Some.j
+          next_row (material_row p w) c.loop-j.j-iterator c.next.new.self c.in-Some.j
           c.loop-j.rows.items c.push.new.self.items _ c.in-Some.ensures.steps
           (c.in_ok-push.ensures.items
           ∙ (λ i. c.loop-j.rows.items
           ++ (c.in_ok-material_row.ensures
-          ∙ ap (λ (p : Problem). material_row p w m c.in-Some.j) c.problem.ensures.same) i ∷ []))
+          ∙ ap (λ (p : Problem). material_row p w c.in-Some.j) c.problem.ensures.same) i ∷ []))
           c.loop-j.invariant.rows;
     }

@@ -5,8 +5,7 @@ use Rattle.report_tables.proofs.materials.push_materials.Goals as goal
 
 pub returns : goal.returns
 returns c =
-    let rows : c.deref.result.now
-    ≡ material_rows c.args.site.now c.args.network.now c.args.marginals.now =
+    let rows : c.deref.result.now ≡ material_rows c.args.site.now c.args.network.now =
     c.deref.ensures.value ∙ c.in_ok-push.ensures.items
     ∙ (λ i. c.in_ok-rows.ensures i ++ c.in_ok-all_materials_row.ensures i ∷ []) in
     c.in_ok-push_table_and_gap.ensures

@@ -23,14 +23,13 @@ pub returns : goal.returns
 returns c =
     let p = c.args.site.now in
     let w = c.args.network.now in
-    let m = c.args.marginals.now in
-    parts_printed (head_lines p w) (unit_lines p w m) (material_lines p w m) (money_lines p w)
+    parts_printed (head_lines p w) (unit_lines p w) (material_lines p w) (money_lines p w)
     (foot_lines p w) (string_bytes c.args.text.now) (string_bytes c.push_head.new.text)
     (string_bytes c.push_units.new.text) (string_bytes c.push_materials.new.text)
     (string_bytes c.push_money.new.text) (string_bytes c.push_foot.new.text)
     c.in_ok-push_head.ensures
     (c.in_ok-push_units.ensures
-    ∙ ap (λ (p : Problem). string_bytes c.push_head.new.text ++ printed (unit_lines p w m))
+    ∙ ap (λ (p : Problem). string_bytes c.push_head.new.text ++ printed (unit_lines p w))
     c.problem-problem.ensures.same)
     c.in_ok-push_materials.ensures c.in_ok-push_money.ensures
     (c.in_ok-push_foot.ensures

@@ -12,14 +12,13 @@ loop-u-init c =
     c.into_iter-u-iterator.ensures.into_iter_gives.0 ∙ c.units-u-items.ensures in
     record {
       within = all_within c.into_iter-u-iterator.result w.units are;
-      rows = λ i. c.new-rows.ensures.items i
-          ++ map (unit_row c.args.problem.now w c.args.marginals.now) (are i);
+      rows = λ i. c.new-rows.ensures.items i ++ map (unit_row c.args.problem.now w) (are i);
     }
 
 pub returns : goal.returns
 returns c =
-    last_row (unit_row c.args.problem.now c.args.network.now c.args.marginals.now)
-    c.loop-u.u-iterator c.loop-u.rows.items _ c.in-None.ensures.steps.0 c.loop-u.invariant.rows
+    last_row (unit_row c.args.problem.now c.args.network.now) c.loop-u.u-iterator
+    c.loop-u.rows.items _ c.in-None.ensures.steps.0 c.loop-u.invariant.rows
 
 pub unit_row-requires : goal.unit_row-requires
 unit_row-requires c =
@@ -33,9 +32,8 @@ loop-u-preserved c = record {
       rest_within (has c.args.network.now.units) c.loop-u.u-iterator c.next.new.self c.in-Some.u
       c.in-Some.ensures.steps c.loop-u.invariant.within;
   rows =
-      next_row (unit_row c.args.problem.now c.args.network.now c.args.marginals.now)
-      c.loop-u.u-iterator c.next.new.self c.in-Some.u c.loop-u.rows.items c.push.new.self.items _
-      c.in-Some.ensures.steps
+      next_row (unit_row c.args.problem.now c.args.network.now) c.loop-u.u-iterator c.next.new.self
+      c.in-Some.u c.loop-u.rows.items c.push.new.self.items _ c.in-Some.ensures.steps
       (c.in_ok-push.ensures.items
       ∙ ap (λ (r : List (List ℕ)). c.loop-u.rows.items ++ r ∷ []) c.in_ok-unit_row.ensures)
       c.loop-u.invariant.rows;

@@ -7,6 +7,6 @@ use Rattle.report_tables.proofs.units.unit_rows.Given as goal
 abbrev pub invariant-loop-u : goal.invariant-loop-u
 invariant-loop-u l = record {
   within : IsWithin (has l.u-iterator) (has l.fn.network.units);
-  rows : l.rows.items ++ map (unit_row l.fn.problem l.fn.network l.fn.marginals) l.u-iterator
-      ≡ map (unit_row l.fn.problem l.fn.network l.fn.marginals) l.fn.network.units;
+  rows : l.rows.items ++ map (unit_row l.fn.problem l.fn.network) l.u-iterator
+      ≡ map (unit_row l.fn.problem l.fn.network) l.fn.network.units;
 }

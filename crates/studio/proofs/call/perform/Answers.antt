@@ -3,7 +3,7 @@ use Rattle.studio_rules.specs.Command.{Command, Max, Axioms, Flows, Listing, Lin
 use Rattle.studio_rules.specs.Command.{Editing, Undoing, Checking, RankChecking, Solving, Showing}
 use Rattle.studio_rules.specs.Command.{Ranking, Telling, AreWithin, Table, Splitting, Expanding}
 use Rattle.studio_rules.specs.Command.{Drawing, DrawingNetwork, Reporting, Json, Ranging, Planning}
-use Rattle.studio_rules.specs.Command.{Parting, PartingAgainst, Merging, Alternatives, RangingAll}
+use Rattle.studio_rules.specs.Command.{Parting, PartingAgainst, Merging, Alternatives}
 use Rattle.studio_words.specs.View.{command_view}
 use Rattle.studio_rules.specs.Answers.{CommandSays}
 use Rattle.studio_rules.specs.Make.{MakeWork}
@@ -223,24 +223,6 @@ returns-in-Ranging-clause-ends g c =
     (λ s t h. subst (λ (v : Command). CommandSays old new v s t)
     (sym (ap command_view c.in-Ranging.is)) h) c.stable.ensures.ends
 
-pub ranges-requires : goal.ranges-requires
-ranges-requires g c =
-    let within : (1 ≤ c.in-RangingAll.budget) × (c.in-RangingAll.budget ≤ 1000000) =
-    subst AreWithin (ap command_view c.in-RangingAll.is) c.requires in
-    record { some = within.0 }
-
-pub returns-in-RangingAll-clause-ends : goal.returns-in-RangingAll-clause-ends
-returns-in-RangingAll-clause-ends g c =
-    let old = g.F.Shelf.state c.args.shelf.now in
-    let new = g.F.Shelf.state c.ranges-in-RangingAll.new.shelf in
-    let Q : Status → List ℕ → Type 0 = CommandSays old new (command_view c.args.command) in
-    Ends-map
-    (CommandSays old new
-    (RangingAll c.in-RangingAll.file.now c.in-RangingAll.tree.now c.in-RangingAll.budget)) Q
-    c.args.out.now _ _
-    (λ s t h. subst (λ (v : Command). CommandSays old new v s t)
-    (sym (ap command_view c.in-RangingAll.is)) h) c.ranges-in-RangingAll.ensures.ends
-
 pub periods-requires : goal.periods-requires
 periods-requires g c =
     let within : (1 ≤ c.in-Planning.budget) × (c.in-Planning.budget ≤ 1000000) =
@@ -422,12 +404,6 @@ pub overflow_cast-effort : goal.overflow_cast-effort
 overflow_cast-effort g c =
     let within : (1 ≤ c.in-Ranging.budget) × (c.in-Ranging.budget ≤ 1000000)
     = subst AreWithin (ap command_view c.in-Ranging.is) c.requires in
-    let few = within.1 in omega (arith, few)
-
-pub overflow_cast-effort-in-RangingAll : goal.overflow_cast-effort-in-RangingAll
-overflow_cast-effort-in-RangingAll g c =
-    let within : (1 ≤ c.in-RangingAll.budget) × (c.in-RangingAll.budget ≤ 1000000)
-    = subst AreWithin (ap command_view c.in-RangingAll.is) c.requires in
     let few = within.1 in omega (arith, few)
 
 pub overflow_cast-effort-in-Planning : goal.overflow_cast-effort-in-Planning

@@ -1,5 +1,6 @@
-use Rattle.std.proofs.Common.{◌≡◌, ◌∷◌, [], List, Option, length, refl, sym, ap, subst}
-use Rattle.std.proofs.Common.{◌∙◌, append_assoc, append-nil, length-append, arith, rules}
+use Rattle.std.specs.Prelude.{Result, Ok, Err, OnErr}
+use Rattle.std.proofs.Common.{◌≡◌, ◌++◌, ◌∷◌, [], List, Option, length, take, refl, sym, ap, subst}
+use Rattle.std.proofs.Common.{◌∙◌, append_assoc, append-nil, length-append, arith}
 use Rattle.std.specs.Vec.Iter.{into_iter_items}
 use Rattle.tree_rules.specs.Claim.{Network}
 use Rattle.distinct_search.specs.Plants.{AreAdded}
@@ -9,10 +10,6 @@ use Rattle.distinct_search.proofs.plants.Plants.add_all.Goals as goal
 nothing_left : {X : Type 0} (l : List X) → length l ≡ 0 → l ≡ []
 nothing_left [] h = refl
 nothing_left (x ∷ xs) h = absurd (omega arith)
-
-pub networks-init : goal.networks-init
-networks-init c =
-    (refl, added_nothing c.args.self.now c.are_distinct.ensures, search rules, omega arith)
 
 pub overflow_add-leaf : goal.overflow_add-leaf
 overflow_add-leaf c =

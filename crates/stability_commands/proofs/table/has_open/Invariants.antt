@@ -1,6 +1,0 @@
-use Rattle.std.proofs.Common.{◌≡◌, drop}
-use Rattle.studio_rules.specs.StableTable.{has_open}
-use Rattle.stability_commands.proofs.table.has_open.Given as goal
-
-abbrev pub invariant-rows : goal.invariant-rows
-invariant-rows l = has_open (drop l.row-index l.rows) ≡ has_open l.rows
