@@ -92,6 +92,9 @@ if it overflows 128 bits. A line has one unit or one material.
 Of a rank text claim is ranking or alternatives, asked says how many were
 wanted, and networks has place, cost, above, share_above, taken_in, left_out,
 idle of each. The keys from counts on are those of the best one.
+Of a table, as pns stable prints it, claim is ranges, and ranges has kind, name,
+from, now, to, from_limit, to_limit and finished of each row. It is not judged:
+run pns stable again for the proof.
 Ends with
   0   The whole text was printed. The verdict says what is proved.
   1   refused claim WHY, refused network K WHY: as of pns report

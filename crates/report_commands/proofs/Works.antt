@@ -11,10 +11,13 @@ use Rattle.rank_rules.specs.declared.why.RankWhy.{RankWhy}
 use Rattle.report_tables.specs.First.{IsFirstFeasible}
 use Rattle.report_rules.specs.RankVerdict.{IsRankVerdict}
 use Rattle.report_rules.specs.declared.rank_verdict.RankVerdict.{RankVerdict}
-use Rattle.report_commands.specs.Works.{TreeWork, RankWork, rank_lines}
+use Rattle.range_rules.specs.Table.{is_table}
+use Rattle.report_commands.specs.Works.{TreeWork, RankWork, FormSays, rank_lines}
 use Rattle.report_commands.specs.declared.form.Form.{Form}
 use Rattle.report_commands.specs.declared.form.Form.TheVariants.{Report, Json}
 use Rattle.studio_rules.specs.Json.{JsonWork}
+use Rattle.studio_rules.specs.RankJson.{RankJsonWork}
+use Rattle.studio_rules.specs.RangesJson.{TableSays, AnySays}
 use Rattle.studio_rules.specs.Reading.{IsLong}
 use Rattle.studio_rules.specs.RankWords.{network_line}
 use Rattle.studio_rules.specs.Report.{ReportWork}
@@ -69,13 +72,46 @@ module _ (form : Form) (name : List ℕ) (p : Problem) (file : List ℕ) where
       subst (λ (kind : Bool). by_kind kind (RankSays (RankWork form) name p file s lines)
       (TreeSays (TreeWork form) name p file s lines)) (sym e) h
 
-  long_kind : (kind : Bool) (lines : List (List ℕ)) → IsLong name tree_limit file lines
-      → by_kind kind (RankSays (RankWork form) name p file TooLong lines)
-      (TreeSays (TreeWork form) name p file TooLong lines)
-  long_kind true lines h = inl h
-  long_kind false lines h = inl h
+module _ (name : List ℕ) (p : Problem) (file : List ℕ) where
+  -- of a table, and of any other text
+  pub of_table : is_table file ≡ true → (s : Status) (lines : List (List ℕ))
+      → TableSays name p file s lines → AnySays name p file s lines
+  of_table e s lines h =
+      subst (λ (kind : Bool). by_kind kind (TableSays name p file s lines)
+      (EitherSays JsonWork RankJsonWork name p file s lines)) (sym e) h
+
+  pub of_other : is_table file ≡ false → (s : Status) (lines : List (List ℕ))
+      → EitherSays JsonWork RankJsonWork name p file s lines → AnySays name p file s lines
+  of_other e s lines h =
+      subst (λ (kind : Bool). by_kind kind (TableSays name p file s lines)
+      (EitherSays JsonWork RankJsonWork name p file s lines)) (sym e) h
+
+  -- in the form that is wanted
+  pub in_report : (form : Form) → form ≡ Report → (s : Status) (lines : List (List ℕ))
+      → EitherSays (TreeWork Report) (RankWork Report) name p file s lines
+      → FormSays form name p file s lines
+  in_report form e s lines h =
+      subst (λ (f : Form). FormSays f name p file s lines) (sym e) h
+
+  pub in_json : (form : Form) → form ≡ Json → (s : Status) (lines : List (List ℕ))
+      → AnySays name p file s lines → FormSays form name p file s lines
+  in_json form e s lines h = subst (λ (f : Form). FormSays f name p file s lines) (sym e) h
 
   -- of a file above the limit
-  pub of_long : (lines : List (List ℕ)) → IsLong name tree_limit file lines
-      → EitherSays (TreeWork form) (RankWork form) name p file TooLong lines
-  of_long lines h = long_kind (is_ranking file) lines h
+  long_kind : (form : Form) (kind : Bool) (lines : List (List ℕ))
+      → IsLong name tree_limit file lines
+      → by_kind kind (RankSays (RankWork form) name p file TooLong lines)
+      (TreeSays (TreeWork form) name p file TooLong lines)
+  long_kind form true lines h = inl h
+  long_kind form false lines h = inl h
+
+  long_any : (kind : Bool) (lines : List (List ℕ)) → IsLong name tree_limit file lines
+      → by_kind kind (TableSays name p file TooLong lines)
+      (EitherSays JsonWork RankJsonWork name p file TooLong lines)
+  long_any true lines h = h
+  long_any false lines h = long_kind Json (is_ranking file) lines h
+
+  pub of_long : (form : Form) (lines : List (List ℕ)) → IsLong name tree_limit file lines
+      → FormSays form name p file TooLong lines
+  of_long Report lines h = long_kind Report (is_ranking file) lines h
+  of_long Json lines h = long_any (is_table file) lines h

@@ -1,24 +1,23 @@
 //! The commands `report` and `json`.
 ghost use Rattle.std.specs.Prelude.{◌≡◌};
-ghost use Rattle.report_commands.specs.Works.{TreeWork, RankWork};
+ghost use Rattle.report_commands.specs.Works.{OnForm};
 ghost use Rattle.studio_rules.specs.Reading.{TwoFilesSay};
 ghost use Rattle.studio_rules.specs.Report.{ReportWork};
-ghost use Rattle.studio_rules.specs.Json.{JsonWork};
 ghost use Rattle.studio_rules.specs.RankReport.{RankReportWork};
-ghost use Rattle.studio_rules.specs.RankJson.{RankJsonWork};
+ghost use Rattle.studio_rules.specs.RangesJson.{OnAny};
 ghost use Rattle.studio_rules.specs.TextFile.{OnEither};
 ghost use Rattle.studio_rules.specs.Ending.{Ends, Says};
 ghost use Rattle.studio_rules.specs.Keeps.{Keeps};
 
 use crate::form::Form;
-use crate::text::say_either;
+use crate::text::say_any;
 use command_files::{bytes_of, problem_of};
 use pns_io::{Outputs, Shelf, Sink};
 use pns_problem::Problem;
 use std::alloc::Global;
 use studio_rules::Status;
 
-/// The most bytes of a file that has a tree or a ranking.
+/// The most bytes of a file that has a tree, a ranking or a table.
 const TEXT_LIMIT: u64 = 268_435_456;
 
 /// What is printed for the problem of a call: in this form, of the file of this name.
@@ -37,13 +36,13 @@ fn say_file<F: Shelf, K: Sink, E: Sink>(
 ) -> Status
     ensures ends { Ends
         (Says
-        (OnEither (TreeWork wanted.now.form) (RankWork wanted.now.form) (F.state shelf.old).held
-        wanted.now.name.now problem.now) (λ other. other ≡ wanted.now.name.now) (F.state shelf.old)
-        (F.state shelf.new)) out.old out.new result }
+        (OnForm wanted.now.form (F.state shelf.old).held wanted.now.name.now problem.now)
+        (λ other. other ≡ wanted.now.name.now) (F.state shelf.old) (F.state shelf.new)) out.old
+        out.new result }
     ensures keeps { Keeps (F.state shelf.old) (F.state shelf.new) }
 {
     match bytes_of(alloc, shelf, out, wanted.name, TEXT_LIMIT) {
-        Ok(bytes) => say_either(alloc, wanted.form, out, problem, &bytes),
+        Ok(bytes) => say_any(alloc, wanted.form, out, problem, &bytes),
         Err(status) => status,
     }
 }
@@ -56,8 +55,8 @@ fn say_text<F: Shelf, K: Sink, E: Sink>(
     out: &mut Outputs<K, E>,
 ) -> Status
     ensures ends { Ends
-        (TwoFilesSay (OnEither (TreeWork wanted.now.form) (RankWork wanted.now.form)) file.now
-        wanted.now.name.now (F.state shelf.old) (F.state shelf.new)) out.old out.new result }
+        (TwoFilesSay (OnForm wanted.now.form) file.now wanted.now.name.now (F.state shelf.old)
+        (F.state shelf.new)) out.old out.new result }
     ensures keeps { Keeps (F.state shelf.old) (F.state shelf.new) }
 {
     match problem_of(alloc, shelf, out, file) {
@@ -87,7 +86,7 @@ pub fn report<F: Shelf, K: Sink, E: Sink>(
     say_text(alloc, file, &wanted, shelf, out)
 }
 
-/// The same for programs.
+/// The same for programs; or the object of a table of ranges.
 pub fn json<F: Shelf, K: Sink, E: Sink>(
     alloc: Global,
     file: &str,
@@ -96,8 +95,8 @@ pub fn json<F: Shelf, K: Sink, E: Sink>(
     out: &mut Outputs<K, E>,
 ) -> Status
     ensures ends { Ends
-        (TwoFilesSay (OnEither JsonWork RankJsonWork) file.now text.now (F.state shelf.old)
-        (F.state shelf.new)) out.old out.new result }
+        (TwoFilesSay OnAny file.now text.now (F.state shelf.old) (F.state shelf.new)) out.old
+        out.new result }
     ensures keeps { Keeps (F.state shelf.old) (F.state shelf.new) }
 {
     let wanted = Wanted {

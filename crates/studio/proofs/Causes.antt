@@ -60,6 +60,9 @@ use Rattle.studio_rules.specs.Json.{JsonWork}
 use Rattle.studio_rules.specs.RankReport.{RankReportWork}
 use Rattle.studio_rules.specs.RankJson.{RankJsonWork}
 use Rattle.studio_rules.specs.TextFile.{by_kind, RankSays, EitherSays, OnEither}
+use Rattle.studio_rules.specs.RangesJson.{TableSays, AnySays, OnAny}
+use Rattle.range_rules.specs.Table.{is_table, read_table}
+use Rattle.range_rules.specs.declared.row.Row.{Row}
 use Rattle.rank_rules.specs.Headed.{is_ranking}
 use Rattle.studio_rules.specs.Graph.{PlantGraphWork, NetworkGraphWork}
 use Rattle.studio_rules.specs.Expand.{ExpandWork}
@@ -85,7 +88,8 @@ use Rattle.studio_rules.specs.Answers.{AnswersTo, CommandAnswers, WordsSay}
 use Rattle.studio_rules.specs.Causes.{caused, FileCause, HasProblemFault, HasScriptFault}
 use Rattle.studio_rules.specs.Causes.{HasPlanFault, HasTreeFault, HasRankFault, HasPartFault}
 use Rattle.studio_rules.specs.Causes.{NoCause, TokenCause, MigrationCause, NameCause, InFile}
-use Rattle.studio_rules.specs.Causes.{InScript, InPlan, InRank, InTree, InEither, InParts}
+use Rattle.studio_rules.specs.Causes.{InScript, InPlan, InRank, InTree, InEither, InAny}
+use Rattle.studio_rules.specs.Causes.{InParts, HasTableFault, HasEitherFault}
 use Rattle.studio_rules.specs.Causes.{AtNode, CauseOf}
 use Rattle.studio_rules.specs.Causes.{AreTold, EndsExactly}
 use Rattle.studio.proofs.Accepted.{no_fault, one_problem}
@@ -732,6 +736,71 @@ module _ (p : Problem) (s : Status) (lines : List (List ℕ)) (c : Caused s) whe
       elim (claim_status budget inside outside p claim tree s lines h)
       [ inl q ↦ subst Caused q c | inr o ↦ stops_plain o ]
 
+-- ---- a table of ranges, a tree or a ranking as an object
+
+not_bad_table : (p : Problem) (file : List ℕ) (rows : List Row) (s : Status)
+    → (length file ≤ tree_limit) → read_table p file ≡ Ok rows
+    → FileCause tree_limit BadTree (HasTableFault p) file s → ⊥
+not_bad_table p file rows s short read (inl h) = let b = h.1 in absurd (omega (arith, short, b))
+not_bad_table p file rows s short read (inr h) =
+    let e : ◌≡◌ {A = Result (List Row) trees.Fault} (Ok rows) (Err (h.2.0, h.2.1)) =
+    sym read ∙ h.2.2 in cc
+
+module _ (p : Problem) (name file : List ℕ) where
+  table_cause : (s : Status) (lines : List (List ℕ)) → Caused s → TableSays name p file s lines
+      → FileCause tree_limit BadTree (HasTableFault p) file s
+  table_cause Done lines c h = absurd c
+  table_cause BadTree lines c h = inr (refl, h.0, (h.1.0, h.1.1, h.1.2))
+  table_cause TooLong lines c h = inl (refl, h.0)
+  table_cause s lines c h = absurd h
+
+  table_always : (status s : Status) (lines : List (List ℕ))
+      → FileCause tree_limit BadTree (HasTableFault p) file status
+      → TableSays name p file s lines → s ≡ status
+  table_always status Done lines why h =
+      absurd (not_bad_table p file h.1.0 status h.0 h.1.1 why)
+  table_always status BadTree lines why h =
+      one_cause tree_limit BadTree (HasTableFault p) file BadTree status
+      (table_cause BadTree lines tt h) why
+  table_always status TooLong lines why h =
+      one_cause tree_limit BadTree (HasTableFault p) file TooLong status
+      (table_cause TooLong lines tt h) why
+  table_always status s lines why h = absurd h
+
+  any_cause : (kind : Bool) (s : Status) (lines : List (List ℕ)) → Caused s
+      → by_kind kind (TableSays name p file s lines)
+      (EitherSays JsonWork RankJsonWork name p file s lines)
+      → FileCause tree_limit BadTree
+      (λ bytes. by_kind kind (HasTableFault p bytes) (HasEitherFault p bytes)) file s
+  any_cause true s lines c h = table_cause s lines c h
+  any_cause false s lines c h =
+      kind_cause JsonWork RankJsonWork p
+      (λ claim its s lines c h. unclaimed_plain p s lines c (json_status p claim its s lines h))
+      (λ t s lines c h. unclaimed_plain p s lines c (rank_json_status p t s lines h))
+      (is_ranking file) name file s lines c h
+
+  any_kind_always : (kind : Bool) (status s : Status) (lines : List (List ℕ))
+      → FileCause tree_limit BadTree
+      (λ bytes. by_kind kind (HasTableFault p bytes) (HasEitherFault p bytes)) file status
+      → by_kind kind (TableSays name p file s lines)
+      (EitherSays JsonWork RankJsonWork name p file s lines)
+      → s ≡ status
+  any_kind_always true status s lines why h = table_always status s lines why h
+  any_kind_always false status s lines why h =
+      kind_always JsonWork RankJsonWork p (is_ranking file) name file status s lines why h
+
+any_only : (held : List ℕ → Told) (name : List ℕ) (p : Problem)
+    → Only (OnAny held name p) (InAny held name p)
+any_only held name p s lines c (file, is, said) =
+    (file, is, any_cause p name file (is_table file) s lines c said)
+
+any_always : (held : List ℕ → Told) (name : List ℕ) (p : Problem) → IsSome (held name)
+    → Always (OnAny held name p) (InAny held name p)
+any_always held name p told status s lines (file, is, why) (other, there, said) =
+    let same : other ≡ file = same_file (held name) file other told is there in
+    any_kind_always p name file (is_table file) status s lines why
+    (subst (λ (b : List ℕ). AnySays name p b s lines) same said)
+
 -- ---- all commands
 
 module _ (held : List ℕ → Told) where
@@ -790,11 +859,7 @@ module _ (held : List ℕ → Told) where
       (report_status p claim its s lines h))
       (λ t s lines c h. unclaimed_plain p s lines c (rank_report_status p t s lines h)) held tree)
   command_only (Json file tree) =
-      file_only held file (OnEither JsonWork RankJsonWork held tree) (InEither held tree)
-      (λ p. either_only JsonWork RankJsonWork p
-      (λ claim its s lines c h. unclaimed_plain p s lines c
-      (json_status p claim its s lines h))
-      (λ t s lines c h. unclaimed_plain p s lines c (rank_json_status p t s lines h)) held tree)
+      file_only held file (OnAny held tree) (InAny held tree) (any_only held tree)
   command_only (Ranging file tree kind name budget) =
       file_only held file (OnTree (StableWork kind name budget) held tree)
       (InTree (NameCause kind name) held tree)
@@ -900,8 +965,8 @@ module _ (held : List ℕ → Told) where
       (λ p valid. either_always ReportWork RankReportWork p held tree (told tree (inr refl)))
       (told file (inl refl))
   command_always once (Json file tree) told =
-      file_always held file (OnEither JsonWork RankJsonWork held tree) (InEither held tree)
-      (λ p valid. either_always JsonWork RankJsonWork p held tree (told tree (inr refl)))
+      file_always held file (OnAny held tree) (InAny held tree)
+      (λ p valid. any_always held tree p (told tree (inr refl)))
       (told file (inl refl))
   command_always once (Ranging file tree kind name budget) told =
       file_always held file (OnTree (StableWork kind name budget) held tree)

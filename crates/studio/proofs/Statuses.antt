@@ -45,6 +45,8 @@ use Rattle.studio_rules.specs.Json.{JsonWork}
 use Rattle.studio_rules.specs.RankReport.{RankReportWork}
 use Rattle.studio_rules.specs.RankJson.{RankJsonWork}
 use Rattle.studio_rules.specs.TextFile.{by_kind, RankSays, EitherSays, OnEither}
+use Rattle.studio_rules.specs.RangesJson.{TableSays, OnAny}
+use Rattle.range_rules.specs.Table.{is_table}
 use Rattle.rank_rules.specs.Headed.{is_ranking}
 use Rattle.studio_rules.specs.Graph.{PlantGraphWork, NetworkGraphWork}
 use Rattle.studio_rules.specs.Split.{SplitWork}
@@ -350,6 +352,44 @@ module _ (on_tree : Problem → Claim → Tree → Status → List (List ℕ) �
         | inr (inr (inr q)) ↦ let e = q.0 in cc
       ]
 
+-- ---- a table of ranges, a tree or a ranking as an object
+
+any_kind_status : (kind : Bool) (name : List ℕ) (p : Problem) (file : List ℕ) (s : Status)
+    (lines : List (List ℕ))
+    → by_kind kind (TableSays name p file s lines)
+    (EitherSays JsonWork RankJsonWork name p file s lines)
+    → (s ≡ Done) ⊎ ((s ≡ BadClaim)
+    ⊎ ((s ≡ BadTree) ⊎ ((s ≡ TooLong) × (tree_limit < length file))))
+any_kind_status true name p file Done lines h = inl refl
+any_kind_status true name p file BadTree lines h = inr (inr (inl refl))
+any_kind_status true name p file TooLong lines h = inr (inr (inr (refl, h.0)))
+any_kind_status true name p file s lines h = absurd h
+any_kind_status false name p file s lines h =
+    by_kind_status JsonWork RankJsonWork json_status rank_json_status (is_ranking file) name p file
+    s lines h
+
+any_status : (held : List ℕ → Told) (name : List ℕ) (p : Problem) (s : Status)
+    (lines : List (List ℕ)) → OnAny held name p s lines
+    → IsToldAnd (held name) (λ told. length told ≤ tree_limit)
+    → IsOneOf (Done ∷ BadClaim ∷ BadProblem ∷ BadTree ∷ Memory ∷ []) s
+any_status held name p s lines (file, is, said) short =
+    elim (any_kind_status (is_table file) name p file s lines said) [
+      | inl q ↦ inl q
+      | inr (inl q) ↦ inr (inl q)
+      | inr (inr (inl q)) ↦ inr (inr (inr (inl q)))
+      | inr (inr (inr q)) ↦ absurd (within_limit (held name) tree_limit file short is q.1)
+    ]
+
+any_not_usage : (held : List ℕ → Told) (name : List ℕ) (p : Problem) (lines : List (List ℕ))
+    → OnAny held name p Usage lines → ⊥
+any_not_usage held name p lines (file, is, said) =
+    elim (any_kind_status (is_table file) name p file Usage lines said) [
+      | inl q ↦ cc
+      | inr (inl q) ↦ cc
+      | inr (inr (inl q)) ↦ cc
+      | inr (inr (inr q)) ↦ let e = q.0 in cc
+    ]
+
 -- ---- networks drawn and reported
 
 pub plant_graph_status : (p : Problem) (s : Status) (lines : List (List ℕ))
@@ -627,8 +667,7 @@ command_status held (Json name tree) s lines (file, is, inl fault) short =
           q.1)
     ]
 command_status held (Json name tree) s lines (file, is, inr work) short =
-    either_status JsonWork RankJsonWork json_status rank_json_status held tree work.0 s lines
-    work.2 (short tree tree_limit (inr (refl, refl)))
+    any_status held tree work.0 s lines work.2 (short tree tree_limit (inr (refl, refl)))
 command_status held (Splitting name tree) s lines (file, is, inl fault) short =
     elim (fault_status name file s lines fault) [
       | inl q ↦ inr (inr (inl q))
@@ -922,8 +961,7 @@ answer_status held (Reporting name tree) lines (file, is, inr (p, given, said)) 
     said)
 answer_status held (Json name tree) lines (file, is, inl fault) = absurd fault
 answer_status held (Json name tree) lines (file, is, inr (p, given, said)) =
-    absurd
-    (either_not_usage JsonWork RankJsonWork json_status rank_json_status held tree p lines said)
+    absurd (any_not_usage held tree p lines said)
 answer_status held (Splitting name tree) lines (file, is, inl fault) = absurd fault
 answer_status held (Splitting name tree) lines
     (file, is, inr (p, given, (bytes, there, inl fault))) = absurd fault

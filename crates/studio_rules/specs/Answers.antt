@@ -38,10 +38,9 @@ use Rattle.studio_rules.specs.Alternates.{AlternatesWork}
 use Rattle.studio_rules.specs.Network.{OnNetwork}
 use Rattle.studio_rules.specs.Table.{TableWork}
 use Rattle.studio_rules.specs.Report.{ReportWork}
-use Rattle.studio_rules.specs.Json.{JsonWork}
 use Rattle.studio_rules.specs.TextFile.{OnEither}
 use Rattle.studio_rules.specs.RankReport.{RankReportWork}
-use Rattle.studio_rules.specs.RankJson.{RankJsonWork}
+use Rattle.studio_rules.specs.RangesJson.{OnAny}
 use Rattle.studio_rules.specs.Graph.{PlantGraphWork, NetworkGraphWork}
 use Rattle.studio_rules.specs.Split.{SplitWork}
 use Rattle.studio_rules.specs.Merge.{MergeWork}
@@ -116,7 +115,7 @@ CommandAnswers held (DrawingNetwork file tree) status lines =
 CommandAnswers held (Reporting file tree) status lines =
     OnFile (OnEither ReportWork RankReportWork held tree) held file status lines
 CommandAnswers held (Json file tree) status lines =
-    OnFile (OnEither JsonWork RankJsonWork held tree) held file status lines
+    OnFile (OnAny held tree) held file status lines
 CommandAnswers held (Merging file tree parts) status lines =
     OnFile (OnTree (MergeWork held parts) held tree) held file status lines
 CommandAnswers held (Telling text) status lines = (status ≡ Done) × (text ≡ text_of lines)

@@ -17,6 +17,7 @@ use Rattle.tree_text_rules.specs.declared.TreeKind.{TreeKind}
 use Rattle.tree_text_rules.specs.Read as trees
 use Rattle.rank_rules.specs.Read as ranks
 use Rattle.rank_rules.specs.Headed.{is_ranking}
+use Rattle.range_rules.specs.Table.{is_table, read_table}
 use Rattle.part_rules.specs.Part.{Part}
 use Rattle.part_rules.specs.Read.{PartReads}
 use Rattle.stability_rules.specs.declared.spot.SpotKind.{SpotKind}
@@ -74,6 +75,13 @@ HasRankFault p file = (line : ℕ) × (kind : TreeKind) × (ranks.read_text p fi
 abbrev pub HasEitherFault : Problem → List ℕ → Type 0
 HasEitherFault p file = by_kind (is_ranking file) (HasRankFault p file) (HasTreeFault p file)
 
+-- of a table of ranges, or else of a tree or of a ranking
+abbrev pub HasTableFault : Problem → List ℕ → Type 0
+HasTableFault p file = (line : ℕ) × (kind : TreeKind) × (read_table p file ≡ Err (line, kind))
+
+abbrev pub HasAnyFault : Problem → List ℕ → Type 0
+HasAnyFault p file = by_kind (is_table file) (HasTableFault p file) (HasEitherFault p file)
+
 abbrev pub HasPartFault : Problem → List ℕ → Type 0
 HasPartFault p file = (line : ℕ) × (kind : TreeKind) × PartReads p file (Err (line, kind))
 
@@ -130,6 +138,11 @@ abbrev pub InEither : (List ℕ → Told) → List ℕ → Problem → Status �
 InEither held name p status = (file : List ℕ) × AreHeld (held name) file
     × FileCause tree_limit BadTree (HasEitherFault p) file status
 
+-- a table, a tree or a ranking
+abbrev pub InAny : (List ℕ → Told) → List ℕ → Problem → Status → Type 0
+InAny held name p status = (file : List ℕ) × AreHeld (held name) file
+    × FileCause tree_limit BadTree (HasAnyFault p) file status
+
 abbrev pub InParts : (List ℕ → Told) → List (List ℕ) → Problem → Status → Type 0
 InParts held [] p status = ⊥
 InParts held (name ∷ names) p status =
@@ -163,7 +176,7 @@ CauseOf held (Expanding file plan) status = InFile (InPlan held plan) held file 
 CauseOf held (Drawing file) status = InFile NoCause held file status
 CauseOf held (DrawingNetwork file tree) status = InFile (InTree NoCause held tree) held file status
 CauseOf held (Reporting file tree) status = InFile (InEither held tree) held file status
-CauseOf held (Json file tree) status = InFile (InEither held tree) held file status
+CauseOf held (Json file tree) status = InFile (InAny held tree) held file status
 CauseOf held (Ranging file tree kind name budget) status =
     InFile (InTree (NameCause kind name) held tree) held file status
 CauseOf held (Planning file plan budget) status = InFile (InPlan held plan) held file status

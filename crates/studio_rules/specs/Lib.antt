@@ -37,6 +37,7 @@ pub mod PlanPages
 pub mod Printed
 pub mod ProgramPages
 pub mod Rank
+pub mod RangesJson
 pub mod RankJson
 pub mod RankPages
 pub mod RankReport

@@ -83,6 +83,9 @@ json_page =
     codes "Of a rank text claim is ranking or alternatives, asked says how many were" ∷
     codes "wanted, and networks has place, cost, above, share_above, taken_in, left_out," ∷
     codes "idle of each. The keys from counts on are those of the best one." ∷
+    codes "Of a table, as pns stable prints it, claim is ranges, and ranges has kind, name," ∷
+    codes "from, now, to, from_limit, to_limit and finished of each row. It is not judged:" ∷
+    codes "run pns stable again for the proof." ∷
     codes "Ends with" ∷
     codes "  0   The whole text was printed. The verdict says what is proved." ∷
     codes "  1   refused claim WHY, refused network K WHY: as of pns report" ∷

@@ -1,0 +1,29 @@
+use Rattle.studio_rules.specs.RangesJson.{AnySays}
+use Rattle.studio_rules.specs.TextFile.{EitherSays}
+use Rattle.studio_rules.specs.Ending.{Tells}
+use Rattle.endings.proofs.Ending.{Ends-map, Tells-map}
+use Rattle.report_commands.specs.Works.{TreeWork, RankWork, FormSays}
+use Rattle.report_commands.specs.declared.form.Form.TheVariants.{Report}
+use Rattle.report_commands.proofs.Works.{in_report, in_json}
+use Rattle.report_commands.proofs.text.say_any.Goals as goal
+
+pub returns-in-Report : goal.returns-in-Report
+returns-in-Report g c name =
+    let form = c.args.form in
+    let p = c.args.problem.now in
+    let file = c.args.bytes.now in
+    Ends-map (Tells (EitherSays (TreeWork Report) (RankWork Report) name p file))
+    (Tells (FormSays form name p file)) c.args.out.now _ _
+    (Tells-map (EitherSays (TreeWork Report) (RankWork Report) name p file)
+    (FormSays form name p file) (in_report name p file form c.in-Report.is))
+    (c.say_either.ensures name)
+
+pub returns : goal.returns
+returns g c name =
+    let form = c.args.form in
+    let p = c.args.problem.now in
+    let file = c.args.bytes.now in
+    Ends-map (Tells (AnySays name p file)) (Tells (FormSays form name p file)) c.args.out.now _ _
+    (Tells-map (AnySays name p file) (FormSays form name p file)
+    (in_json name p file form c.in-Json.is))
+    (c.say_object.ensures name)
