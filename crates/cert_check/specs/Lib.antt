@@ -1,4 +1,5 @@
 pub mod Bare
+pub mod Headed
 pub mod OpenLeaves
 pub mod Refusals
 pub mod Subtrees

@@ -7,8 +7,10 @@ use Rattle.tree_rules.specs.declared.refusal.Refusal.{Refusal}
 use Rattle.tree_rules.specs.declared.refusal.Refusal.TheVariants as refusals
 use Rattle.tree_rules.specs.Tree.{TreeNode, roots, StepsPass, after_all, below, EndPasses}
 use Rattle.tree_rules.specs.Ways.{Way, width, MayBranch, options_at}
-use Rattle.tree_rules.specs.Leaf.{Leaf, LeafPasses, LeafFails}
+use Rattle.tree_rules.specs.Leaf.{Leaf}
 use Rattle.tree_rules.specs.Accepted.{Tree}
+use Rattle.charges.specs.Known.{facts_of}
+use Rattle.head_rules.specs.Headed.{LeafPassesBy, LeafFailsBy}
 use Rattle.cert_parts.specs.Shown.{cost_over}
 use Rattle.cert_check.specs.Bare.{as_judged}
 use Rattle.cert_check.specs.declared.visit.Judge.{Judge}
@@ -17,11 +19,14 @@ use Rattle.cert_check.specs.declared.visit.Halt.TheVariants.{Memory, Fails}
 
 -- the leaves that pass, and those that fail
 abbrev pub leaf_passes : Judge → Node → Leaf → Type 0
-leaf_passes j n l = LeafPasses j.partial j.site.now (cost_over j.claimed) n (as_judged j.bounds l)
+leaf_passes j n l =
+    LeafPassesBy (facts_of j.facts.now) j.partial j.site.now (cost_over j.claimed) n
+    (as_judged j.bounds l)
 
 abbrev pub leaf_fails : Judge → Node → Leaf → Why → Type 0
 leaf_fails j n l why =
-    LeafFails j.partial j.site.now (cost_over j.claimed) n (as_judged j.bounds l) why
+    LeafFailsBy (facts_of j.facts.now) j.partial j.site.now (cost_over j.claimed) n
+    (as_judged j.bounds l) why
 
 -- how the walk is refused that halts at node k
 abbrev pub refusal_at : ℕ → Halt → Refusal

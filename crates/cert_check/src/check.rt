@@ -22,6 +22,7 @@ use crate::open_leaf::OpenLeaf;
 use crate::visit::Judge;
 use crate::walk::{Stop, walk, walk_to};
 use branch_tree::{Claim, Tree};
+use charges::Facts;
 use frac128::CostOver;
 use pgraph::Site;
 use std::alloc::Global;
@@ -60,11 +61,13 @@ pub fn check_from(
     claim_has_one_fault();
     tree_has_one_fault();
     tree.is_tree();
+    let facts = Facts::own(site.problem());
     match judge_claim(site, claim, partial) {
         Ok(()) => {
             let judge = Judge {
                 site,
                 claimed: cost_of_claim(claim),
+                facts: &facts,
                 partial,
                 bounds: true,
             };
@@ -100,9 +103,11 @@ pub fn check_nodes(
         (leaves_at stop.leaves.items)) }
 {
     tree.is_tree();
+    let facts = Facts::own(site.problem());
     let judge = Judge {
         site,
         claimed: undercut,
+        facts: &facts,
         partial: true,
         bounds: false,
     };

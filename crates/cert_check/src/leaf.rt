@@ -3,7 +3,9 @@ ghost use Rattle.std.specs.Prelude.{◌≡◌, Bool, Option, OnOk, IfErr};
 ghost use Rattle.pns_rules.specs.Shape.{shape_of};
 ghost use Rattle.tree_rules.specs.Tree.{leaf};
 ghost use Rattle.tree_rules.specs.Claim as claims;
-ghost use Rattle.tree_rules.specs.Leaf.{Leaf, charged, untried, LeafPasses, LeafFails};
+ghost use Rattle.tree_rules.specs.Leaf.{Leaf, charged, untried, LeafPasses, LeafFails, why_of};
+ghost use Rattle.head_rules.specs.Headed.{LeafPassesBy, LeafFailsBy};
+ghost use Rattle.charges.specs.Known.{facts_of};
 ghost use Rattle.pgraph.specs.View.{node_of};
 ghost use Rattle.branch_tree.specs.View.{end_of};
 ghost use Rattle.cert_check.specs.Visits.{leaf_passes, leaf_fails};
@@ -15,28 +17,40 @@ use branch_tree::{End, Scaled};
 use cert_parts::{
     judge_bound, judge_charge, judge_clash, judge_dead, judge_low, judge_open, judge_refutation,
 };
+use charge_rules::ChargeWhy;
 use charges::Charge;
 use covers::Covers;
-use frac128::CostOver;
 use pgraph::Site;
 use tree_rules::Why;
 use unit_sets::Node;
 
-/// Judges a leaf that charges the node.
+/// The cause of a charge that fails, as that of its leaf.
+fn why_of(why: ChargeWhy) -> Why
+    ensures { result ≡ why_of why }
+{
+    match why {
+        ChargeWhy::Bound => Why::Bound,
+        ChargeWhy::Cover => Why::Cover,
+        ChargeWhy::Sum => Why::Sum,
+    }
+}
+
+/// Judges a leaf that charges the node, with what is known of sizes.
 fn judge_charged(
-    site: &Site<'_>,
+    judge: &Judge<'_>,
     node: &Node,
-    claimed: Option<CostOver>,
     scaled: &Scaled,
     covers: &Covers,
 ) -> Result<(), Why>
-    requires known { KnowsInside (shape_of site.now) (node_of node.now) }
-    ensures passes { OnOk result ((partial : Bool)
-        → LeafPasses partial site.now (cost_over claimed) (node_of node.now)
+    requires known { KnowsInside (shape_of judge.now.site.now) (node_of node.now) }
+    ensures passes { OnOk result
+        (LeafPassesBy (facts_of judge.now.facts.now) judge.now.partial judge.now.site.now
+        (cost_over judge.now.claimed) (node_of node.now)
         (charged (record { d = scaled.now.d; ys = scaled.now.ys; covers = covers.now }))) }
-    ensures fails { IfErr result (λ why. (partial : Bool)
-        → LeafFails partial site.now (cost_over claimed) (node_of node.now)
-        (charged (record { d = scaled.now.d; ys = scaled.now.ys; covers = covers.now })) why) }
+    ensures fails { IfErr result
+        (LeafFailsBy (facts_of judge.now.facts.now) judge.now.partial judge.now.site.now
+        (cost_over judge.now.claimed) (node_of node.now)
+        (charged (record { d = scaled.now.d; ys = scaled.now.ys; covers = covers.now }))) }
 {
     covers.are_kept();
     let charge = Charge {
@@ -44,7 +58,10 @@ fn judge_charged(
         ys: scaled.ys(),
         covers: covers.covers(),
     };
-    judge_charge(site, node, claimed, &charge)
+    match judge_charge(judge.site, node, judge.facts, judge.claimed, &charge) {
+        Ok(()) => Ok(()),
+        Err(why) => Err(why_of(why)),
+    }
 }
 
 /// Judges an open leaf, with its bound if one is known.
@@ -67,28 +84,25 @@ fn judge_untried(
 }
 
 /// Judges the leaf at the node. A branched node is no leaf, and is not judged.
-fn judge_leaf(
-    site: &Site<'_>,
-    node: &Node,
-    claimed: Option<CostOver>,
-    partial: bool,
-    end: &End,
-) -> Result<(), Why>
-    requires known { KnowsInside (shape_of site.now) (node_of node.now) }
+fn judge_leaf(judge: &Judge<'_>, node: &Node, end: &End) -> Result<(), Why>
+    requires known { KnowsInside (shape_of judge.now.site.now) (node_of node.now) }
     ensures passes { OnOk result
         ((l : Leaf) → end_of end.now ≡ leaf l
-        → LeafPasses partial site.now (cost_over claimed) (node_of node.now) l) }
+        → LeafPassesBy (facts_of judge.now.facts.now) judge.now.partial judge.now.site.now
+        (cost_over judge.now.claimed) (node_of node.now) l) }
     ensures fails { IfErr result
         (λ why. (l : Leaf) → end_of end.now ≡ leaf l
-        → LeafFails partial site.now (cost_over claimed) (node_of node.now) l why) }
+        → LeafFailsBy (facts_of judge.now.facts.now) judge.now.partial judge.now.site.now
+        (cost_over judge.now.claimed) (node_of node.now) l why) }
 {
+    let site = judge.site;
     match end {
         End::Dead(x) => judge_dead(site, node, *x),
         End::Clash(k) => judge_clash(site, node, *k),
         End::Refuted(ys) => judge_refutation(site, node, ys.numbers()),
-        End::Bound(scaled) => judge_bound(site, node, claimed, scaled.d(), scaled.ys()),
-        End::Charge { scaled, covers } => judge_charged(site, node, claimed, scaled, covers),
-        End::Open(low) => judge_untried(site, node, partial, low),
+        End::Bound(scaled) => judge_bound(site, node, judge.claimed, scaled.d(), scaled.ys()),
+        End::Charge { scaled, covers } => judge_charged(judge, node, scaled, covers),
+        End::Open(low) => judge_untried(site, node, judge.partial, low),
         End::Branch { .. } | End::Either(_) => Ok(()),
     }
 }
@@ -102,10 +116,10 @@ pub(crate) fn judge_leaf_by(judge: &Judge<'_>, node: &Node, end: &End) -> Result
         → leaf_fails judge.now (node_of node.now) l why) }
 {
     if judge.bounds {
-        return judge_leaf(judge.site, node, judge.claimed, judge.partial, end);
+        return judge_leaf(judge, node, end);
     }
     match end {
         End::Open(_) => judge_open(judge.site.problem(), node, judge.partial),
-        end => judge_leaf(judge.site, node, judge.claimed, judge.partial, end),
+        end => judge_leaf(judge, node, end),
     }
 }

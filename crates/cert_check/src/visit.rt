@@ -24,17 +24,20 @@ use crate::leaf::judge_leaf_by;
 use crate::subtrees::{Behind, roots};
 use branch_tree::{End, TreeNode};
 use cert_parts::{after_steps, are_all_options, are_options_of_unit, with_unit, without_unit};
+use charges::Facts;
 use frac128::CostOver;
 use pgraph::{Graph, Site};
 use tree_rules::Why;
 use unit_sets::{Node, UnitSet};
 
 /// By what nodes are judged: the problem with its P-graph, the cost that is to be undercut, if
-/// there is one, whether leaves may be open, and whether the bounds of open leaves are judged.
+/// there is one, what is known of sizes, whether leaves may be open, and whether the bounds of open
+/// leaves are judged.
 #[derive(Clone, Copy)]
 pub struct Judge<'a> {
     pub site: &'a Site<'a>,
     pub claimed: Option<CostOver>,
+    pub facts: &'a Facts,
     pub partial: bool,
     pub bounds: bool,
 }

@@ -1,4 +1,4 @@
--- A leaf that charges its node: when it passes, and the first of its conditions that fails.
+-- A charge of a node: when it passes, and the first of its conditions that fails.
 use Rattle.std.proofs.Common.{◌≡◌, ◌⊎◌, ℕ, ◌≤◌, zero, suc, ℤ, pos, negsuc, ◌≤ℤ◌, Bool, List, []}
 use Rattle.std.proofs.Common.{◌∷◌, length, Option, refl, sym, subst, inl, inr, arith}
 use Rattle.std.proofs.lemmas.Int.{ints}
@@ -7,13 +7,13 @@ use Rattle.problem_rules.specs.Each.{Each}
 use Rattle.problem_rules.specs.Problem.{Problem}
 use Rattle.pns_rules.specs.Shape.{shape_of}
 use Rattle.pns_rules.specs.Nodes.{Node}
-use Rattle.flow_rules.specs.Net.{net_of}
-use Rattle.charge_rules.specs.Facts.{own_facts}
-use Rattle.charge_rules.specs.Leaf.{Handed, IsScale, CoversPass, IsFormed, ChargeReaches, charge_of}
-use Rattle.charge_rules.specs.declared.charge_why.ChargeWhy.TheVariants as charge_causes
-use Rattle.tree_rules.specs.declared.why.Why.TheVariants as causes
+use Rattle.charge_rules.specs.Facts.{Facts}
+use Rattle.charge_rules.specs.Leaf.{Handed, IsScale, IsOneEach, CoversPass, IsFormed}
+use Rattle.charge_rules.specs.Leaf.{ChargeReaches, charge_of, ChargePasses, ChargeFails}
+use Rattle.charge_rules.specs.declared.charge_why.ChargeWhy.{ChargeWhy}
+use Rattle.charge_rules.specs.declared.charge_why.ChargeWhy.TheVariants as causes
 use Rattle.tree_rules.specs.Claim.{CostOver, IsAtLeast}
-use Rattle.tree_rules.specs.Leaf.{charged, IsClaimed, IsOneEach, LeafPasses, LeafFails}
+use Rattle.tree_rules.specs.Leaf.{IsClaimed}
 use Rattle.covers.specs.declared.cover.Cover.{Cover}
 use Rattle.covers.specs.View.{cover_of, covers_of}
 use Rattle.covers.specs.Kept.{IsKept, AreKept}
@@ -40,40 +40,34 @@ beside_small (c ∷ cs) each = (each.0.beside, beside_small cs each.1)
 
 -- ---- the conditions in turn
 
-module _ (p : Problem) (claimed : Option CostOver) (n : Node) (h : Handed) (partial : Bool) where
-  pub scale_fails : (IsScale (IsClaimed claimed) h.d → ⊥)
-      → LeafFails partial p claimed n (charged h) causes.Bound
-  scale_fails never = (charge_causes.Bound, refl, inl (refl, λ k. never k.0))
+module _ (p : Problem) (claimed : Option CostOver) (n : Node) (f : Facts) (h : Handed) where
+  abbrev FailsBy : ChargeWhy → Type 0
+  FailsBy why = ChargeFails p (IsClaimed claimed) (IsAtLeast claimed) n f h why
 
-  pub rows_fail : (IsOneEach p n h.ys → ⊥) → LeafFails partial p claimed n (charged h) causes.Bound
-  rows_fail never = (charge_causes.Bound, refl, inl (refl, λ k. never k.1))
+  pub scale_fails : (IsScale (IsClaimed claimed) h.d → ⊥) → FailsBy causes.Bound
+  scale_fails never = inl (refl, λ k. never k.0)
+
+  pub rows_fail : (IsOneEach p n h.ys → ⊥) → FailsBy causes.Bound
+  rows_fail never = inl (refl, λ k. never k.1)
 
   module _ (scale : IsScale (IsClaimed claimed) h.d) (each : IsOneEach p n h.ys) where
-    pub covers_fail : (CoversPass (shape_of p) n h.covers → ⊥)
-        → LeafFails partial p claimed n (charged h) causes.Cover
-    covers_fail never = (charge_causes.Cover, refl, inr ((scale, each), inl (refl, never)))
+    pub covers_fail : (CoversPass (shape_of p) n h.covers → ⊥) → FailsBy causes.Cover
+    covers_fail never = inr ((scale, each), inl (refl, never))
 
     module _ (covered : CoversPass (shape_of p) n h.covers) where
-      pub sum_fails : (IsFormed p n (own_facts (net_of p)) h → ⊥)
-          → LeafFails partial p claimed n (charged h) causes.Sum
-      sum_fails never =
-          (charge_causes.Sum, refl, inr ((scale, each), inr (covered, inl (refl, never))))
+      pub sum_fails : (IsFormed p n f h → ⊥) → FailsBy causes.Sum
+      sum_fails never = inr ((scale, each), inr (covered, inl (refl, never)))
 
-      module _ (formed : IsFormed p n (own_facts (net_of p)) h) (x : ℤ)
-          (is : x ≡ charge_of p n (own_facts (net_of p)) h) where
-        pub charge_fails : (ChargeReaches (IsAtLeast claimed) x h.d → ⊥)
-            → LeafFails partial p claimed n (charged h) causes.Bound
+      module _ (formed : IsFormed p n f h) (x : ℤ) (is : x ≡ charge_of p n f h) where
+        pub charge_fails : (ChargeReaches (IsAtLeast claimed) x h.d → ⊥) → FailsBy causes.Bound
         charge_fails never =
-            let y = charge_of p n (own_facts (net_of p)) h in
+            let y = charge_of p n f h in
             let below : ChargeReaches (IsAtLeast claimed) y h.d → ⊥ =
-            λ r. never (subst (λ (z : ℤ). ChargeReaches (IsAtLeast claimed) z h.d) (sym is) r) in (
-              charge_causes.Bound,
-              refl,
-              inr ((scale, each), inr (covered, inr (formed, inl (refl, below)))),
-            )
+            λ r. never (subst (λ (z : ℤ). ChargeReaches (IsAtLeast claimed) z h.d) (sym is) r) in
+            inr ((scale, each), inr (covered, inr (formed, inl (refl, below))))
 
         pub charge_passes : ChargeReaches (IsAtLeast claimed) x h.d
-            → LeafPasses partial p claimed n (charged h)
+            → ChargePasses p (IsClaimed claimed) (IsAtLeast claimed) n f h
         charge_passes reaches = record {
           scale = scale;
           each_row = each;

@@ -1,13 +1,12 @@
-//! A leaf that charges its node.
+//! Charges of a node: of a leaf, or of a line at the head of a tree.
 ghost use Rattle.std.specs.Prelude.{◌≡◌, ◌↔◌, ◌<◌, ◌≤ℤ◌, ◌<ℤ◌, pos, Bool, IsTrue, IfSome, IfNone};
 ghost use Rattle.std.specs.Prelude.{OnOk, IfErr};
 ghost use Rattle.pns_rules.specs.Shape.{shape_of};
-ghost use Rattle.flow_rules.specs.Net.{net_of};
-ghost use Rattle.charge_rules.specs.Facts.{own_facts};
-ghost use Rattle.charge_rules.specs.Leaf.{IsScale, CoverPasses, CoversPass, IsFormed};
-ghost use Rattle.charge_rules.specs.Leaf.{ChargeReaches, charge_of};
+ghost use Rattle.charge_rules.specs.Leaf.{IsScale, IsOneEach, CoverPasses, CoversPass, IsFormed};
+ghost use Rattle.charge_rules.specs.Leaf.{ChargeReaches, charge_of, ChargePasses, ChargeFails};
+ghost use Rattle.charges.specs.Known.{facts_of};
 ghost use Rattle.tree_rules.specs.Claim.{IsAtLeast};
-ghost use Rattle.tree_rules.specs.Leaf.{charged, IsClaimed, IsOneEach, LeafPasses, LeafFails};
+ghost use Rattle.tree_rules.specs.Leaf.{IsClaimed};
 ghost use Rattle.pgraph.specs.Tables.{shape};
 ghost use Rattle.pgraph.specs.View.{node_of};
 ghost use Rattle.covers.specs.View.{cover_of, covers_of};
@@ -16,11 +15,11 @@ ghost use Rattle.cert_parts.specs.Known.{KnowsInside};
 ghost use Rattle.cert_parts.specs.Shown.{cost_over, handed};
 
 use crate::leaves::{is_one_each, is_scale};
+use charge_rules::ChargeWhy;
 use charges::{Charge, Facts, charge_of, covers_node, is_cover};
 use covers::Cover;
 use frac128::CostOver;
 use pgraph::{Graph, Site};
-use tree_rules::Why;
 use unit_sets::Node;
 
 /// Whether the number is not below 0.
@@ -77,24 +76,20 @@ fn all_pass(graph: &Graph, node: &Node, covers: &[Cover]) -> bool
     true
 }
 
-/// The charge of the node with the problem's own numbers, or nothing if a number of its sum is
-/// out of range.
-fn own_charge(site: &Site<'_>, node: &Node, charge: &Charge<'_>) -> Option<i128>
+/// The charge of the node with these facts, or nothing if a number of its sum overflows.
+fn formed_charge(site: &Site<'_>, node: &Node, facts: &Facts, charge: &Charge<'_>) -> Option<i128>
     requires known { KnowsInside (shape_of site.now) (node_of node.now) }
     requires multipliers { IsOneEach site.now (node_of node.now) charge.now.ys.now }
     requires covers { AreKept (covers_of charge.now.covers.now) }
     ensures value { IfSome result (λ x. x
-        ≡ charge_of site.now (node_of node.now) (own_facts (net_of site.now))
+        ≡ charge_of site.now (node_of node.now) (facts_of facts.now)
         (handed charge.now.d charge.now.ys.now charge.now.covers.now)) }
-    ensures formed { IfSome result (λ x. IsFormed site.now (node_of node.now)
-        (own_facts (net_of site.now))
+    ensures formed { IfSome result (λ x. IsFormed site.now (node_of node.now) (facts_of facts.now)
         (handed charge.now.d charge.now.ys.now charge.now.covers.now)) }
-    ensures past { IfNone result (IsFormed site.now (node_of node.now)
-        (own_facts (net_of site.now))
+    ensures past { IfNone result (IsFormed site.now (node_of node.now) (facts_of facts.now)
         (handed charge.now.d charge.now.ys.now charge.now.covers.now) → ⊥) }
 {
-    let facts = Facts::own(site.problem());
-    match charge_of(site, node, &facts, charge) {
+    match charge_of(site, node, facts, charge) {
         Ok(sum) => Some(sum),
         Err(_) => None,
     }
@@ -120,38 +115,41 @@ fn reaches(claimed: Option<CostOver>, charge: i128, d: i128) -> bool
     }
 }
 
-/// A leaf at which a charge of the node is to reach the claimed cost, or to be above 0 if it
+/// A charge of the node with these facts is to reach the claimed cost, or to be above 0 if it
 /// counts no cost.
 pub fn judge_charge(
     site: &Site<'_>,
     node: &Node,
+    facts: &Facts,
     claimed: Option<CostOver>,
     charge: &Charge<'_>,
-) -> Result<(), Why>
+) -> Result<(), ChargeWhy>
     requires known { KnowsInside (shape_of site.now) (node_of node.now) }
     requires covers { AreKept (covers_of charge.now.covers.now) }
-    ensures passes { OnOk result ((partial : Bool)
-        → LeafPasses partial site.now (cost_over claimed) (node_of node.now)
-        (charged (handed charge.now.d charge.now.ys.now charge.now.covers.now))) }
-    ensures fails { IfErr result (λ why. (partial : Bool)
-        → LeafFails partial site.now (cost_over claimed) (node_of node.now)
-        (charged (handed charge.now.d charge.now.ys.now charge.now.covers.now)) why) }
+    ensures passes { OnOk result
+        (ChargePasses site.now (IsClaimed (cost_over claimed)) (IsAtLeast (cost_over claimed))
+        (node_of node.now) (facts_of facts.now)
+        (handed charge.now.d charge.now.ys.now charge.now.covers.now)) }
+    ensures fails { IfErr result (λ why.
+        ChargeFails site.now (IsClaimed (cost_over claimed)) (IsAtLeast (cost_over claimed))
+        (node_of node.now) (facts_of facts.now)
+        (handed charge.now.d charge.now.ys.now charge.now.covers.now) why) }
 {
     if !is_charge_scale(claimed, charge.d) {
-        return Err(Why::Bound);
+        return Err(ChargeWhy::Bound);
     }
     if !is_one_each(site, node, charge.ys) {
-        return Err(Why::Bound);
+        return Err(ChargeWhy::Bound);
     }
     if !all_pass(site.graph(), node, charge.covers) {
-        return Err(Why::Cover);
+        return Err(ChargeWhy::Cover);
     }
-    let Some(sum) = own_charge(site, node, charge) else {
-        return Err(Why::Sum);
+    let Some(sum) = formed_charge(site, node, facts, charge) else {
+        return Err(ChargeWhy::Sum);
     };
     if reaches(claimed, sum, charge.d) {
         Ok(())
     } else {
-        Err(Why::Bound)
+        Err(ChargeWhy::Bound)
     }
 }

@@ -10,7 +10,7 @@
 //! possible; `nodes` the nodes that steps and options leave, `options` whether given sets are all
 //! options of a material: they can be as many as 2^128, so their list is walked and never made;
 //! `either` branches in two at one unit; `network` and `leaves` judge claims and leaves, and
-//! `charge` the leaves that charge their node.
+//! `charge` what charges a node, with facts that are known of sizes.
 #![tactic(auto)]
 
 mod charge;

@@ -1,5 +1,5 @@
 -- The facts that a table has.
-use Rattle.std.specs.Prelude.{None, slice_index_or}
+use Rattle.std.specs.Prelude.{◌==◌, ℕ, ℤ, None, cond, slice_index_or}
 use Rattle.flow_program.specs.Entry.{entry}
 use Rattle.charge_rules.specs.Facts as rules
 use Rattle.charges.specs.declared.facts.Facts.{Facts}
@@ -10,3 +10,7 @@ facts_of f = record {
   most = entry f.most;
   used = λ j. slice_index_or f.used j None;
 }
+
+-- the sizes, but for another one of unit u
+abbrev pub at_one : (ℕ → ℤ) → ℕ → ℤ → ℕ → ℤ
+at_one sizes u size i = cond (u == i) size (sizes i)

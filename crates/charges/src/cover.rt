@@ -48,7 +48,7 @@ pub fn covers_node(graph: &Graph, node: &Node, cover: &Cover) -> bool
 }
 
 /// Whether the node has the unit, and it is neither taken in nor left out.
-fn is_free(graph: &Graph, node: &Node, u: u32) -> bool
+pub fn is_free(graph: &Graph, node: &Node, u: u32) -> bool
     ensures { IsTrue result ↔ IsFree (shape graph.now) (node_of node.now) u }
 {
     graph.is_proper();

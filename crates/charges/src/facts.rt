@@ -2,7 +2,7 @@
 ghost use Rattle.std.specs.Prelude.{◌≡◌, ◌<◌};
 ghost use Rattle.flow_rules.specs.Net.{net_of};
 ghost use Rattle.charge_rules.specs.Facts.{own_facts};
-ghost use Rattle.charges.specs.Known.{facts_of};
+ghost use Rattle.charges.specs.Known.{facts_of, at_one};
 
 use pns_problem::Problem;
 
@@ -36,7 +36,7 @@ impl Facts {
     }
 
     /// The least size of a unit.
-    pub(crate) fn least_of(&self, u: u32) -> i64
+    pub fn least_of(&self, u: u32) -> i64
         requires { u < 128 }
         ensures { result ≡ (facts_of self.now).least u }
     {
@@ -44,7 +44,7 @@ impl Facts {
     }
 
     /// The greatest size of a unit.
-    pub(crate) fn most_of(&self, u: u32) -> i64
+    pub fn most_of(&self, u: u32) -> i64
         requires { u < 128 }
         ensures { result ≡ (facts_of self.now).most u }
     {
@@ -57,5 +57,41 @@ impl Facts {
         ensures { result ≡ (facts_of self.now).used j }
     {
         self.used[j as usize]
+    }
+
+    /// These facts, but with another least size of a unit.
+    pub fn with_least(&self, u: u32, size: i64) -> Facts
+        requires { u < 128 }
+        ensures { facts_of result ≡ record {
+          least = at_one (facts_of self.now).least u size;
+          most = (facts_of self.now).most;
+          used = (facts_of self.now).used;
+        } }
+    {
+        let mut least = self.least;
+        least[u as usize] = size;
+        Facts {
+            least,
+            most: self.most,
+            used: self.used,
+        }
+    }
+
+    /// These facts, but with another greatest size of a unit.
+    pub fn with_most(&self, u: u32, size: i64) -> Facts
+        requires { u < 128 }
+        ensures { facts_of result ≡ record {
+          least = (facts_of self.now).least;
+          most = at_one (facts_of self.now).most u size;
+          used = (facts_of self.now).used;
+        } }
+    {
+        let mut most = self.most;
+        most[u as usize] = size;
+        Facts {
+            least: self.least,
+            most,
+            used: self.used,
+        }
     }
 }

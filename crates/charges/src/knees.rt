@@ -22,7 +22,7 @@ pub(crate) struct Knees {
 }
 
 /// The quotient, rounded up.
-fn rounded_up(x: i128, y: i64) -> i128
+pub fn rounded_up(x: i128, y: i64) -> i128
     requires positive { pos 0 <ℤ y }
     requires small { unsigned_abs x ≤ 10 ^ 37 }
     ensures { result ≡ rounded_up x y }

@@ -8,10 +8,13 @@
 //! whether a set covers a node, and [`is_cover`] whether it has the form of one. No call takes
 //! memory.
 //!
+//! [`is_free`] tests whether a unit is undecided. [`most_used`], [`makers_most`], [`rate_of`],
+//! [`rounded_up`] and [`costs_of`] give numbers from which a charge is formed.
+//!
 //! Modules: `facts`, `cover`; `rows` and `paid` (sums over rows and covers); `useful` (how much of
-//! a material can be used); `knees` (above which size an output is worth nothing); `bending` (what
-//! the knees leave of what a unit owes); `unit` (the part of a unit); `charge` (the whole sum);
-//! `tables` (multipliers by material); `products`.
+//! a material can be used); `made` (how much of it can be made); `knees` (above which size an
+//! output is worth nothing); `bending` (what the knees leave of what a unit owes); `unit` (the part
+//! of a unit); `charge` (the whole sum); `tables` (multipliers by material); `products`.
 #![tactic(auto)]
 
 mod bending;
@@ -19,6 +22,7 @@ mod charge;
 mod cover;
 mod facts;
 mod knees;
+mod made;
 mod paid;
 mod products;
 mod rows;
@@ -28,6 +32,10 @@ mod unit;
 mod useful;
 
 pub use charge::{Charge, charge_of};
-pub use cover::{covers_node, is_cover};
+pub use cover::{covers_node, is_cover, is_free};
 pub use covers::Cover;
 pub use facts::Facts;
+pub use knees::rounded_up;
+pub use made::makers_most;
+pub use unit::{Costs, costs_of};
+pub use useful::{most_used, rate_of};

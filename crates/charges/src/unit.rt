@@ -31,13 +31,13 @@ pub(crate) struct Multipliers {
 
 /// What a unit of size 1 costs, its fixed cost aside, and what it costs to be there.
 #[derive(Clone, Copy)]
-pub(crate) struct Costs {
-    pub(crate) size: i128,
-    pub(crate) fixed: i128,
+pub struct Costs {
+    pub size: i128,
+    pub fixed: i128,
 }
 
 /// The costs of a unit. They are those of a node that takes in this unit alone.
-pub(crate) fn costs_of(problem: &Problem, u: u32, materials: MatSet, rates: &[i64]) -> Costs
+pub fn costs_of(problem: &Problem, u: u32, materials: MatSet, rates: &[i64]) -> Costs
     requires unit { u < length problem.now.units }
     requires rates { AreRates problem.now u materials rates.now }
     ensures size { result.size ≡ size_cost (net_of problem.now) u }

@@ -37,7 +37,7 @@ fn use_rate_of(rate: i64) -> i64
 }
 
 /// An amount for each part of a size.
-fn times(rate: i64, size: i64) -> i128
+pub(crate) fn times(rate: i64, size: i64) -> i128
     requires { unsigned_abs rate ≤ 2000000000000000 }
     ensures value { result ≡ rate *ℤ size }
     ensures small { unsigned_abs result ≤ 20000000000000000000000000000000000 }
@@ -46,7 +46,7 @@ fn times(rate: i64, size: i64) -> i128
 }
 
 /// The unit's rate of the material.
-fn rate_of(site: &Site<'_>, j: u32, u: u32) -> i64
+pub fn rate_of(site: &Site<'_>, j: u32, u: u32) -> i64
     requires { u < length site.now.units }
     ensures value { result ≡ (net_of site.now).rate j u }
     ensures small { unsigned_abs result ≤ 2000000000000000 }
@@ -113,6 +113,19 @@ fn at_most(used: Option<i64>, most: i128) -> i128
         Some(v) => lesser(times(1_000_000, v), most),
         None => most,
     }
+}
+
+/// How much is used of the material at most, as far as is known: by the units of the node, or at
+/// all. The set is that of the units of the node.
+pub fn most_used(site: &Site<'_>, node: &Node, set: UnitSet, facts: &Facts, j: u32) -> i128
+    requires known { j < length site.now.materials }
+    requires small { j < 256 }
+    requires units { set ≡ units (net_of site.now) (node_of node.now) }
+    ensures value { result ≡ at_most ((facts_of facts.now).used j)
+        (users_most (net_of site.now) (node_of node.now) (facts_of facts.now) j) }
+    ensures small { unsigned_abs result ≤ 256 * 10 ^ 34 }
+{
+    at_most(facts.used_of(j), users_most(site, node, set, facts, j))
 }
 
 /// What has to be left over and what can be used.

@@ -3,8 +3,10 @@ ghost use Rattle.std.specs.Prelude.{◌≡◌, ◌<◌, ◌^◌, ℕ, List, IfOk
 ghost use Rattle.std.specs.Prelude.{string_bytes};
 ghost use Rattle.tree_rules.specs.Known.{KnowsClaim, KnowsTree};
 ghost use Rattle.branch_tree.specs.View.{claim_of};
+ghost use Rattle.tree_reading.specs.Said.{said_by};
 ghost use Rattle.studio_rules.specs.Lines.{line};
 ghost use Rattle.studio_rules.specs.Reading.{AreHeld};
+ghost use Rattle.studio_rules.specs.HeadedFile.{GivesHeaded, HeadedFaults};
 ghost use Rattle.studio_rules.specs.TreeFile.{GivesTree, TreeFaults, tree_fault_line};
 ghost use Rattle.studio_rules.specs.TreeFile.{tree_kind_word};
 ghost use Rattle.studio_rules.specs.Ending.{Ends, Says, Only, OrMemory};
@@ -19,7 +21,7 @@ use pns_io::{Outputs, Shelf, Sink};
 use pns_problem::Problem;
 use std::alloc::{AllocError, Global};
 use studio_rules::Status;
-use tree_reading::{TreeFault, read_tree};
+use tree_reading::{Headed, TreeFault, read_headed, read_tree};
 use tree_text_rules::TreeKind;
 
 /// The most bytes of a tree file.
@@ -99,6 +101,42 @@ pub fn tree_of<F: Shelf, K: Sink, E: Sink>(
     };
     match read_tree(alloc, problem, &bytes) {
         Ok((claim, tree, _)) => Ok((claim, tree)),
+        Err(TreeFault::At { line, kind }) => {
+            let source = Source {
+                text: &bytes,
+                format: Format::Tree,
+            };
+            Err(say_tree_fault(alloc, out, source, line, kind))
+        }
+        Err(TreeFault::Memory) => Err(say_memory(out)),
+    }
+}
+
+/// The same with the head that the tree may have.
+pub fn headed_of<F: Shelf, K: Sink, E: Sink>(
+    alloc: Global,
+    shelf: &mut F,
+    out: &mut Outputs<K, E>,
+    name: &str,
+    problem: &Problem,
+) -> Result<Headed, Status>
+    ensures tree { IfOk result
+        (λ found. (file : List ℕ) × AreHeld ((F.state shelf.old).held name.now) file
+        × GivesHeaded problem.now file (said_by found)) }
+    ensures few { IfOk result (λ found. length found.tree < 2 ^ 32) }
+    ensures silent { OnOk result (out.new ≡ out.old) }
+    ensures keeps { Keeps (F.state shelf.old) (F.state shelf.new) }
+    ensures told { IfErr result
+        (Ends
+        (Says (HeadedFaults (F.state shelf.old).held name.now problem.now)
+        (λ other. other ≡ name.now) (F.state shelf.old) (F.state shelf.new)) out.old out.new) }
+{
+    let bytes = match bytes_of(alloc, shelf, out, name, TREE_LIMIT) {
+        Ok(bytes) => bytes,
+        Err(status) => return Err(status),
+    };
+    match read_headed(alloc, problem, &bytes) {
+        Ok(found) => Ok(found),
         Err(TreeFault::At { line, kind }) => {
             let source = Source {
                 text: &bytes,

@@ -6,7 +6,8 @@
 //! Else it gives, as [`PastSum`], the place of the first that is not. The numbers that a sum starts
 //! from, such as costs and ranges, cannot leave the range. [`Program::of`] gives the numbers of a
 //! node's program as lists, from which a simplex method starts. [`sets_of`], [`unit_numbers`],
-//! [`row_range`] and [`put_rates`] give the same numbers one unit or row at a time, without memory.
+//! [`row_range`], [`full_range`] and [`put_rates`] give the same numbers one unit or row at a time,
+//! without memory.
 //!
 //! Modules: `costs`, `ranges` and `rates` read a problem; `node_sets` and `node_numbers` say what
 //! it is at a node; `tables` finds a value by the number of a material or unit; `products`
@@ -30,7 +31,7 @@ pub use bound::{bound_of, refutes};
 pub use cost::cost_of;
 pub use costs::fixed_costs;
 pub use feasibility::{feasible, is_within, rate_at, units_with};
-pub use node_numbers::{UnitNumbers, row_range, unit_numbers};
+pub use node_numbers::{UnitNumbers, full_range, row_range, unit_numbers};
 pub use node_sets::{NodeSets, sets_of};
 pub use past_sum::PastSum;
 pub use program::Program;

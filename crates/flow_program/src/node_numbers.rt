@@ -4,7 +4,7 @@ ghost use Rattle.std.specs.Prelude.{length, unsigned_abs};
 ghost use Rattle.std.specs.Ordering.{int_eq};
 ghost use Rattle.pns_rules.specs.Shape.{shape_of};
 ghost use Rattle.pgraph.specs.View.{node_of};
-ghost use Rattle.flow_rules.specs.Net.{net_of, million};
+ghost use Rattle.flow_rules.specs.Net.{net_of, million, low_end, high_end};
 ghost use Rattle.flow_rules.specs.Relaxed.{row_low, row_high, unit_low, unit_cost};
 ghost use Rattle.flow_program.specs.NodeSets.{AreNeeded};
 ghost use Rattle.flow_program.specs.Rates.{AreRates};
@@ -30,6 +30,19 @@ pub fn row_range(problem: &Problem, node: &Node, needed: MatSet, j: u32) -> Rang
     } else {
         range_of(problem, j, 0)
     }
+}
+
+/// The range of what a material leaves over if it is there.
+pub fn full_range(problem: &Problem, j: u32) -> Range
+    requires known { j < length problem.now.materials }
+    ensures low { result.low ≡ low_end (net_of problem.now) j ((net_of problem.now).lower j) }
+    ensures high { result.high ≡ high_end (net_of problem.now) j ((net_of problem.now).lower j) }
+    ensures low_small { unsigned_abs result.low ≤ 10 ^ 21 }
+    ensures high_small { unsigned_abs result.high ≤ 10 ^ 21 }
+{
+    problem.is_valid();
+    let material = &problem.materials()[j as usize];
+    range_of(problem, j, material.lower)
 }
 
 /// What a free unit of size 1 pays instead of its fixed cost.

@@ -1,5 +1,6 @@
 mod Most
 mod Lines
+mod Listed
 mod Moves
 mod Users
 mod Roles

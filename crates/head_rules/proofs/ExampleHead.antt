@@ -23,21 +23,21 @@ use Rattle.head_rules.specs.Head.{with_least, after_lines, LinesPass}
 use Rattle.head_rules.proofs.ExampleProblem.{example}
 use Rattle.head_rules.proofs.Worked.{in_range, at_most, not_at_most, EachBelow, each_below, no_case}
 
-abbrev net : Net
+abbrev pub net : Net
 net = net_of example
 
 abbrev claimed : Option CostOver
 claimed = Some (record { cost = pos 65000000000000000000; d = pos 1 })
 
-abbrev prices : List ℤ
+abbrev pub prices : List ℤ
 prices = pos 0 ∷ pos 0 ∷ pos 3000000 ∷ pos 3000000 ∷ []
 
 -- ---- what is known after each line
 
-abbrev known : List HeadLine → Known
+abbrev pub known : List HeadLine → Known
 known lines = after_lines example (known_first example first_node) lines
 
-abbrev one : List HeadLine
+abbrev pub one : List HeadLine
 one = step (sole 3 3) ∷ []
 
 abbrev two : List HeadLine
@@ -49,7 +49,7 @@ three = step (sole 3 3) ∷ trim 3 ∷ trim 0 ∷ []
 abbrev four : List HeadLine
 four = step (sole 3 3) ∷ trim 3 ∷ trim 0 ∷ trim 1 ∷ []
 
-abbrev five : List HeadLine
+abbrev pub five : List HeadLine
 five = step (sole 3 3) ∷ trim 3 ∷ trim 0 ∷ trim 1 ∷ trim 2 ∷ []
 
 abbrev six : List HeadLine
@@ -90,10 +90,10 @@ untrimmed = refl
 
 -- ---- the lines pass
 
-one_maker : EachBelow 4 (λ v. net.graph.makes v 3 ≡ true → first_node.outside v ≡ false → v ≡ 3)
+pub one_maker : EachBelow 4 (λ v. net.graph.makes v 3 ≡ true → first_node.outside v ≡ false → v ≡ 3)
 one_maker = ((((tt, λ e. no_case e), λ e. no_case e), λ e. no_case e), λ e f. refl)
 
-may_trim_last : MayTrim net (known one).node (known one).facts 3
+pub may_trim_last : MayTrim net (known one).node (known one).facts 3
 unfolding listed
 may_trim_last = record {
   known = omega arith;
@@ -106,7 +106,7 @@ may_trim_last = record {
   less = at_most _ _ tt;
 }
 
-may_trim_first : MayTrim net (known two).node (known two).facts 0
+pub may_trim_first : MayTrim net (known two).node (known two).facts 0
 unfolding listed
 may_trim_first = record {
   known = omega arith;
@@ -121,7 +121,7 @@ may_trim_first = record {
   less = at_most _ _ tt;
 }
 
-may_trim_second : MayTrim net (known three).node (known three).facts 1
+pub may_trim_second : MayTrim net (known three).node (known three).facts 1
 unfolding listed
 may_trim_second = record {
   known = omega arith;
@@ -136,7 +136,7 @@ may_trim_second = record {
   less = at_most _ _ tt;
 }
 
-may_trim_third : MayTrim net (known four).node (known four).facts 2
+pub may_trim_third : MayTrim net (known four).node (known four).facts 2
 unfolding listed
 may_trim_third = record {
   known = omega arith;
@@ -178,7 +178,7 @@ cap_charged = record {
   reaches = inl (at_most _ _ tt, at_most _ _ tt);
 }
 
-lines_pass : LinesPass example claimed (known_first example first_node) head
+pub lines_pass : LinesPass example claimed (known_first example first_node) head
 unfolding listed
 lines_pass = (
   (refl, omega arith, refl, refl, refl, each_below 4 _ one_maker),
@@ -224,6 +224,6 @@ is_charged = record {
 }
 
 -- before U4 is trimmed, 150 of C may be used, and U1 is not larger than 100: it may not be trimmed
-too_early : MayTrim net (known one).node (known one).facts 0 → ⊥
+pub too_early : MayTrim net (known one).node (known one).facts 0 → ⊥
 unfolding listed
 too_early may = not_at_most _ _ tt may.less

@@ -1,6 +1,7 @@
 pub mod ChargedLemmas
 mod ExampleHead
 mod ExampleProblem
+mod ExampleTree
 pub mod FactLemmas
 pub mod FaultLemmas
 pub mod HeadLemmas

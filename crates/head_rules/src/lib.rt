@@ -1,4 +1,4 @@
-//! A head that passes loses no structure below the claim; not used yet.
+//! A head that passes loses no structure below the claim; trees with a head.
 //!
 //! The head of a branch tree is lines with facts that are found before the first branch. A line
 //! takes units in or leaves them out, or bounds the size of a unit. It passes by what is known at
@@ -6,17 +6,20 @@
 //!
 //! The definitions are in `specs/`: `Charged` (nodes whose charge reaches the claim), `Trim` (units
 //! of which no more than so much can be of use), `Head` (the lines), `Keeps` (what is not lost),
-//! `Faults` (the first line that fails, and its cause) and `Laws`. Each law is the contract of a
-//! function without a body.
+//! `Faults` (the first line that fails, and its cause), `Headed` (trees with a head, when one is
+//! accepted, and what a refusal says of it), `Known` (when the numbers of a line are below the
+//! counts of a problem) and `Laws`. Each law is the contract of a function without a body.
 #![tactic(auto)]
 
 mod line_why;
+mod refusal;
 
 ghost use Rattle.head_rules.specs.Laws.{ChargedIsEmpty, CheaperIsCharged, CheaperPasses, HeadKeeps};
 ghost use Rattle.head_rules.specs.Laws.{HeadHasFacts, HeadKeepsLeast, PassingHasNoFault};
 ghost use Rattle.head_rules.specs.Laws.{FaultIsOne, ChargedHasNoFault, ChargeFaultIsOne};
 
 pub use line_why::LineWhy;
+pub use refusal::Refusal;
 
 /// A node that is charged what is claimed has no structure with flows that fit its facts and cost
 /// less.

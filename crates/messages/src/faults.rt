@@ -14,6 +14,7 @@ pub enum Format {
     Part,
     Script,
     Plan,
+    Ranges,
 }
 
 impl Format {
@@ -25,6 +26,7 @@ impl Format {
             Format::Part => "part",
             Format::Script => "script",
             Format::Plan => "plan",
+            Format::Ranges => "table",
         }
     }
 
@@ -37,6 +39,7 @@ impl Format {
             Format::Part => "PART",
             Format::Script => "SCRIPT",
             Format::Plan => "PLAN",
+            Format::Ranges => "TREE",
         }
     }
 
@@ -49,6 +52,7 @@ impl Format {
             Format::Part => "PNS_part_v1",
             Format::Script => "PNS_edits_v1",
             Format::Plan => "PNS_plan_v1",
+            Format::Ranges => "kind name from now to",
         }
     }
 
@@ -69,7 +73,7 @@ impl Format {
     /// Whether a search printed it.
     fn is_printed(self) -> bool {
         match self {
-            Format::Tree | Format::Rank | Format::Part => true,
+            Format::Tree | Format::Rank | Format::Part | Format::Ranges => true,
             Format::Plant | Format::Script | Format::Plan => false,
         }
     }

@@ -7,9 +7,9 @@
 //! which text is printed with which status. In `studio_rules`, `Network` has what all of them print
 //! of a claim that is refused, and `Table`, `Graph` and `Report` have the texts.
 //!
-//! Modules: `claim`, which gives the network of a claim or refuses it; `network`, the way from the
-//! files to the text of a network; `table` and `graph`; `report`, the report of a tree, of which
-//! `report_commands` reads the files; `verdict_lines`, its text.
+//! Modules: `claim`, which gives the network of a claim or refuses it; `network`, the text of the
+//! network of a claim; `table` and `graph`; `report`, the report of a tree; `verdict_lines`, its
+//! text. For `report`, and for `graph` with a tree, `report_commands` reads the files.
 #![tactic(auto)]
 
 mod claim;
@@ -20,6 +20,7 @@ pub mod table;
 mod verdict_lines;
 
 pub use claim::{network_of, say_refused};
-pub use network::NetworkText;
+pub use graph::list_graph;
+pub use network::{NetworkText, say_claimed};
 pub use report::say_reported;
-pub use verdict_lines::verdict_text;
+pub use verdict_lines::{push_gap_behind, push_low_words, verdict_text};

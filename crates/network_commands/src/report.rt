@@ -8,48 +8,30 @@ use crate::claim::say_refused;
 use crate::verdict_lines::verdict_text;
 use branch_tree::{Claim, Tree};
 use endings::say::{say_memory, say_told};
-use pgraph::{Graph, Site};
 use pns_io::{Outputs, Sink};
-use pns_problem::Problem;
+use report_tables::Plant;
 use std::alloc::Global;
 use studio_rules::Status;
 use verdicts::{Unjudged, verdict_of};
 
 /// Prints what the tree proves of the claim, and its network if it has one, or the bounds that
 /// clash; or the first line of the claim that fails.
-fn say_judged<K: Sink, E: Sink>(
-    alloc: Global,
-    out: &mut Outputs<K, E>,
-    site: &Site<'_>,
-    claim: &Claim,
-    tree: &Tree,
-) -> Status
-    requires few { length tree.now < 2 ^ 32 }
-    ensures { Ends (Tells (ReportWork site.now (claim_of claim.now) tree.now)) out.old out.new
-        result }
-{
-    match verdict_of(alloc, site, claim, tree) {
-        Ok(verdict) => say_told(out, verdict_text(alloc, site, claim, tree, verdict)),
-        Err(Unjudged::Claim(why)) => say_refused(alloc, out, why),
-        Err(Unjudged::Memory) => say_memory(out),
-    }
-}
-
-/// The same, once the problem's graph is made.
 pub fn say_reported<K: Sink, E: Sink>(
     alloc: Global,
     out: &mut Outputs<K, E>,
-    problem: &Problem,
+    plant: &Plant<'_>,
     claim: &Claim,
     tree: &Tree,
 ) -> Status
     requires few { length tree.now < 2 ^ 32 }
-    ensures { Ends (Tells (ReportWork problem.now (claim_of claim.now) tree.now)) out.old out.new
-        result }
+    ensures { Ends
+        (Tells
+        (ReportWork plant.now.measures.now plant.now.site.now (claim_of claim.now) tree.now))
+        out.old out.new result }
 {
-    let Ok(graph) = Graph::of(alloc, problem) else {
-        return say_memory(out);
-    };
-    let site = Site::of(problem, &graph);
-    say_judged(alloc, out, &site, claim, tree)
+    match verdict_of(alloc, plant.site, claim, tree) {
+        Ok(verdict) => say_told(out, verdict_text(alloc, plant, claim, tree, verdict)),
+        Err(Unjudged::Claim(why)) => say_refused(alloc, out, why),
+        Err(Unjudged::Memory) => say_memory(out),
+    }
 }

@@ -6,13 +6,15 @@ ghost use Rattle.studio_rules.specs.Reading.{TwoFilesSay};
 ghost use Rattle.studio_rules.specs.TreeFile.{OnTree};
 ghost use Rattle.studio_rules.specs.Network.{OnNetwork};
 ghost use Rattle.studio_rules.specs.Table.{AreTables, TableWork};
-ghost use Rattle.studio_rules.specs.Ending.{Ends};
+ghost use Rattle.studio_rules.specs.Ending.{Ends, Says};
 ghost use Rattle.studio_rules.specs.Keeps.{Keeps};
 
-use crate::network::{NetworkText, say_of_network};
+use crate::network::{NetworkText, say_claimed};
 use branch_tree::Network;
+use command_files::{problem_of, tree_of};
 use pgraph::Site;
 use pns_io::{Outputs, Shelf, Sink};
+use pns_problem::Problem;
 use pns_tables::{material_table, unit_table};
 use std::alloc::{AllocError, Global};
 use studio_rules::Status;
@@ -35,6 +37,25 @@ pub(crate) fn tables(
     Ok(bytes)
 }
 
+fn say_tree<F: Shelf, K: Sink, E: Sink>(
+    alloc: Global,
+    problem: &Problem,
+    name: &str,
+    shelf: &mut F,
+    out: &mut Outputs<K, E>,
+) -> Status
+    ensures ends { Ends
+        (Says (OnTree (OnNetwork TableWork) (F.state shelf.old).held name.now problem.now)
+        (λ other. other ≡ name.now) (F.state shelf.old) (F.state shelf.new)) out.old out.new
+        result }
+    ensures keeps { Keeps (F.state shelf.old) (F.state shelf.new) }
+{
+    match tree_of(alloc, shelf, out, name, problem) {
+        Ok((claim, tree)) => say_claimed(alloc, NetworkText::Table, out, problem, claim, &tree),
+        Err(status) => status,
+    }
+}
+
 /// Prints the network that the tree of the one file claims on the problem of the other as two
 /// tables.
 pub fn table<F: Shelf, K: Sink, E: Sink>(
@@ -49,5 +70,8 @@ pub fn table<F: Shelf, K: Sink, E: Sink>(
         (F.state shelf.new)) out.old out.new result }
     ensures keeps { Keeps (F.state shelf.old) (F.state shelf.new) }
 {
-    say_of_network(alloc, NetworkText::Table, file, tree, shelf, out)
+    match problem_of(alloc, shelf, out, file) {
+        Ok(problem) => say_tree(alloc, &problem, tree, shelf, out),
+        Err(status) => status,
+    }
 }

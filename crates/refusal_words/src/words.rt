@@ -1,11 +1,12 @@
-//! The words of causes, and the line of a node that is refused.
+//! The words of causes, and the lines of what is refused.
 ghost use Rattle.std.specs.Prelude.{◌≡◌, IfOk, string_bytes};
 ghost use Rattle.studio_rules.specs.Lines.{line};
 ghost use Rattle.studio_rules.specs.Ending.{Ends, Only, OrMemory};
 ghost use Rattle.studio_rules.specs.declared.status.Status.TheVariants.{Refused, BadClaim};
-ghost use Rattle.studio_rules.specs.RefusalWords.{why_word, node_line};
+ghost use Rattle.studio_rules.specs.RefusalWords.{why_word, node_line, line_word, head_line};
 
 use endings::say::{say, say_memory, tell};
+use head_rules::LineWhy;
 use messages::refused;
 use pns_io::{Outputs, Sink};
 use std::alloc::{AllocError, Global};
@@ -72,6 +73,45 @@ pub fn tell_node<K: Sink, E: Sink>(
     let notes = refused(alloc, why);
     match node_line(alloc, node, why) {
         Ok(text) => tell(out, text.as_bytes(), notes.bytes(), Status::BadClaim),
+        Err(_) => say_memory(out),
+    }
+}
+
+fn line_word(why: LineWhy) -> &'static str
+    ensures { result.now ≡ line_word why }
+{
+    match why {
+        LineWhy::Step => "step",
+        LineWhy::Fact => "fact",
+        LineWhy::Trim => "trim",
+        LineWhy::Cover => "some",
+        LineWhy::Bound => "bound",
+        LineWhy::Sum => "sum",
+    }
+}
+
+fn head_line(alloc: Global, number: usize, why: LineWhy) -> Result<String, AllocError>
+    ensures { IfOk result (λ text. string_bytes text ≡ line (head_line number why)) }
+{
+    let mut text = String::from_str(alloc, "refused head ")?;
+    write!(text, "{number}")?;
+    text.push(' ')?;
+    text.push_str(line_word(why))?;
+    text.push('\n')?;
+    Ok(text)
+}
+
+/// Answers that the line at the head of a tree, counted from 0, is refused, and why.
+pub fn say_head<K: Sink, E: Sink>(
+    alloc: Global,
+    out: &mut Outputs<K, E>,
+    number: usize,
+    why: LineWhy,
+) -> Status
+    ensures { Ends (OrMemory (Only Refused (line (head_line number why)))) out.old out.new result }
+{
+    match head_line(alloc, number, why) {
+        Ok(text) => say(out, text.as_bytes(), Status::Refused),
         Err(_) => say_memory(out),
     }
 }

@@ -1,2 +1,4 @@
 mod LowerRows
+mod PlainTree
+mod WorkedMeasures
 mod WorkedRanking

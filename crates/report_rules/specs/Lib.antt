@@ -6,7 +6,9 @@ pub mod Drawn
 pub mod Graph
 pub mod Lower
 pub mod Marginal
+pub mod Measures
 pub mod Number
+pub mod RankLow
 pub mod RankVerdict
 pub mod Ranked
 pub mod Report

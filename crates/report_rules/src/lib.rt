@@ -3,10 +3,11 @@
 //! The definitions are in `specs/`. `Table` has a network as two tables of comma-separated fields,
 //! and `Decimal` has decimal numbers. `Drawn` and `Graph` have the P-graph as text for Graphviz.
 //! `Number` and `Amounts` have the numbers of a report, and those of a network for one year with
-//! their sums. `Marginal` has what one more of a material costs and of a size saves. `Aligned` has
-//! rows of cells in columns, `Report` the three tables of a report, `Verdict` what a tree proves of
-//! its claim, and `Lower` the lower bound of one that is not finished, and the gap. `Ranked` has
-//! the table of a ranking, and `RankVerdict` what the tree of a ranking proves.
+//! their sums. `Marginal` has what one more of a material costs and of a size saves, and `Measures`
+//! the units of measure of headings. `Aligned` has rows of cells in columns, `Report` the three
+//! tables of a report, `Verdict` what a tree proves of its claim, and `Lower` the lower bound of
+//! one that is not finished, and the gap. `Ranked` has the table of a ranking, `RankVerdict` what
+//! the tree of a ranking proves, and `RankLow` the lower bound of a ranking that is not finished.
 #![tactic(auto)]
 
 mod amount;

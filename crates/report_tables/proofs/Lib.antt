@@ -1,4 +1,5 @@
 mod Bounds
 mod LeftOut
 pub mod Pieces
+mod Printable
 mod Walk

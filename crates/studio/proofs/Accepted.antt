@@ -1,12 +1,19 @@
 -- What `solve` prints with status 0 is accepted by `check`.
-use Rattle.std.proofs.Common.{◌≡◌, ◌≤◌, ℕ, false, List, Some, Result, Ok, Err, length, refl, sym}
+use Rattle.std.proofs.Common.{◌≡◌, ◌≤◌, ℕ, false, List, [], Some, Result, Ok, Err, length, refl}
+use Rattle.std.proofs.Common.{sym}
 use Rattle.std.proofs.Common.{◌∙◌, subst, arith, inl, inr}
 use Rattle.text_rules.specs.Outside.{Told}
 use Rattle.problem_rules.specs.Problem.{Problem}
 use Rattle.text_rules.specs.Fault.{Fault}
-use Rattle.tree_rules.specs.Claim.{Claim}
+use Rattle.problem_rules.specs.Validity.{IsValid}
+use Rattle.tree_rules.specs.Claim.{Claim, claimed_cost}
 use Rattle.tree_rules.specs.Accepted.{Tree, first_node, IsAccepted}
-use Rattle.tree_laws.specs.Laws.{PassingClaimHasNoFault, PassingTreeHasNoFault}
+use Rattle.tree_laws.specs.Laws.{PassingClaimHasNoFault}
+use Rattle.head_rules.specs.Laws.{PassingHasNoFault}
+use Rattle.head_rules.specs.Head.{known_first}
+use Rattle.head_rules.specs.Headed.{head_node, IsAcceptedBy}
+use Rattle.head_laws.specs.Laws.{EmptyHeadProves, PassingTreeHasNoFaultBy}
+use Rattle.tree_text_laws.specs.Laws.{PlainTextsAreHeaded}
 use Rattle.tree_rules.specs.Tail.{Tail, whole, spent, past}
 use Rattle.tree_text_rules.specs.Read as trees
 use Rattle.studio_rules.specs.Solve.{Holds, status_of}
@@ -15,7 +22,8 @@ use Rattle.studio_rules.specs.declared.status.Status.{Status}
 use Rattle.studio_rules.specs.declared.status.Status.TheVariants.{Done, Refused, BadProblem}
 use Rattle.studio_rules.specs.declared.status.Status.TheVariants.{BadTree, TooLong}
 use Rattle.studio_rules.specs.Reading.{AreHeld, FileFault, GivesProblem}
-use Rattle.studio_rules.specs.TreeFile.{TreeSays, tree_limit}
+use Rattle.studio_rules.specs.TreeFile.{tree_limit}
+use Rattle.studio_rules.specs.HeadedFile.{HeadedSays}
 use Rattle.studio_rules.specs.Check.{CheckWork}
 use Rattle.studio.specs.SolveLaws.{IsAcceptedOrLong, SolvedIsAccepted}
 
@@ -45,33 +53,53 @@ proves budget p claim tree whole e holds = holds.proved.accepted
 proves budget p claim tree (spent next options) e holds = cc
 proves budget p claim tree (past node nonbasic place) e holds = cc
 
-module _ (no_claim_fault : PassingClaimHasNoFault) (no_tree_fault : PassingTreeHasNoFault) where
-  checked : (p : Problem) (claim : Claim) (tree : Tree) (name file : List ℕ) (s : Status)
-      (lines : List (List ℕ)) → length file ≤ tree_limit → IsAccepted p first_node claim tree
-      → CheckWork p claim tree s lines → IsAcceptedOrLong name file s lines
-  checked p claim tree name file Done lines short accepted work = inl (short, refl, work.1)
-  checked p claim tree name file Refused lines short accepted (inl (why, fails, told)) =
-      absurd (no_claim_fault false p claim why accepted.claimed fails)
-  checked p claim tree name file Refused lines short accepted
-      (inr (passes, (node, why, fails, told))) =
-      absurd (no_tree_fault false p first_node claim tree node why accepted fails)
-  checked p claim tree name file s lines short accepted work = absurd work
+-- the laws by which a tree without a head is judged as one whose head has no lines
+pub record HeadLaws : Type 0 where
+  pub no_claim : PassingClaimHasNoFault
+  pub no_line : PassingHasNoFault
+  pub no_node : PassingTreeHasNoFaultBy
+  pub plain : PlainTextsAreHeaded
+  pub empty : EmptyHeadProves
 
-  pub read : (p : Problem) (c : trees.Certificate) (name file : List ℕ) (s : Status)
-      (lines : List (List ℕ)) → trees.read_text p file ≡ Ok c
-      → IsAccepted p first_node c.claim c.tree → TreeSays CheckWork name p file s lines
+module _ (laws : HeadLaws) where
+  checked : (p : Problem) (t : trees.HeadedCertificate) (name file : List ℕ) (s : Status)
+      (lines : List (List ℕ)) → length file ≤ tree_limit
+      → IsAcceptedBy p t.claim t.head t.tree → CheckWork p t s lines
       → IsAcceptedOrLong name file s lines
-  read p c name file TooLong lines reads accepted (inl fault) = inr (fault.0, refl, fault.1)
-  read p c name file BadTree lines reads accepted (inl fault) =
-      let e : ◌≡◌ {A = Result trees.Certificate trees.Fault} (Ok c) (Err (fault.1.0, fault.1.1)) =
-      sym reads ∙ fault.1.2 in cc
-  read p c name file s lines reads accepted (inl fault) = absurd fault
-  read p c name file s lines reads accepted (inr (claim, tree, given, work)) =
-      let other : trees.Certificate = record { claim = claim; tree = tree; tail = given.1.0 } in
-      let same : Ok c ≡ Ok other = sym reads ∙ given.1.1 in
-      let one : c ≡ other = cc in
-      checked p claim tree name file s lines given.0
-      (subst (λ (d : trees.Certificate). IsAccepted p first_node d.claim d.tree) one accepted)
+  checked p t name file Done lines short accepted work = inl (short, refl, work.1)
+  checked p t name file Refused lines short accepted (inl (why, fails, told)) =
+      absurd (laws.no_claim false p t.claim why accepted.claimed fails)
+  checked p t name file Refused lines short accepted
+      (inr (passes, inl (number, why, fails, told))) =
+      absurd
+      (laws.no_line p (claimed_cost t.claim) (known_first p first_node) t.head accepted.lines number
+      why fails)
+  checked p t name file Refused lines short accepted
+      (inr (passes, inr (head_passes, (node, why, fails, told)))) =
+      absurd
+      (laws.no_node false p (head_node p t.head) t.claim t.head t.tree node why accepted fails)
+  checked p t name file s lines short accepted work = absurd work
+
+  -- the same text, as one whose head has no lines
+  abbrev without_head : trees.Certificate → trees.HeadedCertificate
+  without_head c = record { claim = c.claim; head = []; tree = c.tree; tail = c.tail }
+
+  pub read : (p : Problem) → IsValid p → (c : trees.Certificate) (name file : List ℕ) (s : Status)
+      (lines : List (List ℕ)) → trees.read_text p file ≡ Ok c
+      → IsAccepted p first_node c.claim c.tree → HeadedSays CheckWork name p file s lines
+      → IsAcceptedOrLong name file s lines
+  read p valid c name file TooLong lines reads accepted (inl fault) = inr (fault.0, refl, fault.1)
+  read p valid c name file BadTree lines reads accepted (inl fault) =
+      let e : ◌≡◌ {A = Result trees.HeadedCertificate trees.Fault} (Ok (without_head c))
+      (Err (fault.1.0, fault.1.1)) =
+      sym (laws.plain p valid file c reads) ∙ fault.1.2 in cc
+  read p valid c name file s lines reads accepted (inl fault) = absurd fault
+  read p valid c name file s lines reads accepted (inr (t, given, work)) =
+      let same : Ok (without_head c) ≡ Ok t = sym (laws.plain p valid file c reads) ∙ given.1 in
+      let one : without_head c ≡ t = cc in
+      checked p t name file s lines given.0
+      (subst (λ (d : trees.HeadedCertificate). IsAcceptedBy p d.claim d.head d.tree) one
+      ((laws.empty false p first_node c.claim c.tree).0 accepted))
       work
 
   pub solved_is_accepted : SolvedIsAccepted
@@ -92,7 +120,7 @@ module _ (no_claim_fault : PassingClaimHasNoFault) (no_tree_fault : PassingTreeH
       let one : q ≡ p =
       one_problem f p q given (subst (λ (b : List ℕ). GivesProblem b q) same gives) in
       let the_text : t ≡ text_of solved = is_held (held tree) (text_of solved) t text told in
-      read p c tree (text_of solved) s lines are.reads
+      read p given.valid c tree (text_of solved) s lines are.reads
       (proves budget p c.claim c.tree c.tail e holds)
-      (subst (λ (b : List ℕ). TreeSays CheckWork tree p b s lines) the_text
-      (subst (λ (r : Problem). TreeSays CheckWork tree r t s lines) one judged))
+      (subst (λ (b : List ℕ). HeadedSays CheckWork tree p b s lines) the_text
+      (subst (λ (r : Problem). HeadedSays CheckWork tree r t s lines) one judged))

@@ -190,7 +190,7 @@ command_finished held (Solving name budget) s lines can (file, is, inr (p, given
 command_finished held (Showing name budget) s lines can (file, is, inl fault) =
     fault_not_stopped name file s lines fault
 command_finished held (Showing name budget) s lines can (file, is, inr (p, given, work)) =
-    show_finished budget p s lines (can file p is given) work
+    show_finished budget file p s lines (can file p is given) work
 command_finished held (Ranking name count budget) s lines can (file, is, inl fault) =
     fault_not_stopped name file s lines fault
 command_finished held (Ranking name count budget) s lines can (file, is, inr (p, given, work)) =

@@ -14,7 +14,7 @@ use Rattle.tree_rules.specs.Tree.{End, branch, leaf, TreeNode, Pass, Stands, aft
 use Rattle.tree_rules.specs.Leaf.{Leaf, dead, clash, refuted, bounded, charged, untried, LeafPasses}
 use Rattle.tree_rules.specs.Claim.{Claim, Network, network, infeasible, unknown, claimed_cost}
 use Rattle.tree_rules.specs.Accepted.{Tree, first_node, IsPartial, IsAccepted}
-use Rattle.tree_laws.specs.Laws.{PartialIsAccepted, PassingClaimHasNoFault, PassingTreeHasNoFault}
+use Rattle.tree_laws.specs.Laws.{PartialIsAccepted}
 use Rattle.tree_rules.specs.Known.{KnowsStep, KnowsNode, KnowsTree, AreUnits}
 use Rattle.tree_rules.specs.Tail.{Tail, whole}
 use Rattle.part_rules.specs.Graft.{graft_at, grafted, claim_of_both, cheaper, has_open, is_open}
@@ -29,7 +29,8 @@ use Rattle.part_rules.specs.Part.{Part, start_of}
 use Rattle.part_rules.specs.Several.{AreMerged}
 use Rattle.part_text.specs.Laws.{ReadPartsAreSpelled}
 use Rattle.studio_rules.specs.Reading.{AreHeld, GivesProblem, OnFile}
-use Rattle.studio_rules.specs.TreeFile.{TreeFault, TreeSays, GivesTree, OnTree, tree_limit}
+use Rattle.studio_rules.specs.TreeFile.{TreeFault, GivesTree, OnTree, tree_limit}
+use Rattle.studio_rules.specs.HeadedFile.{HeadedSays, OnHeaded}
 use Rattle.studio_rules.specs.Check.{CheckWork}
 use Rattle.studio_rules.specs.PartFile.{GiveParts, are_several}
 use Rattle.studio_rules.specs.Split.{SplitWork, part_line, split_lines}
@@ -42,7 +43,7 @@ use Rattle.studio_rules.specs.declared.status.Status.{Status}
 use Rattle.studio_rules.specs.declared.status.Status.TheVariants.{Done, Refused, NoLeaf}
 use Rattle.studio.specs.SolveLaws.{IsAcceptedOrLong}
 use Rattle.studio.specs.Calls.{Call, Calls, Puts, Holds, Accepts, HasFailed, CheckAcceptsMerged}
-use Rattle.studio.proofs.Accepted.{is_held, read}
+use Rattle.studio.proofs.Accepted.{is_held, HeadLaws, read}
 use Rattle.studio.proofs.Causes.{not_bad_tree, tree_cause}
 use Rattle.studio.proofs.Calls.{Same, same_file, same_through, answered, given_work, judged}
 use Rattle.studio.proofs.Statuses.{merge_fault_status}
@@ -251,8 +252,7 @@ module _ (spells : SpelledTextsRead) (spelt : ReadTextsAreSpelled)
 
 module _ (spells : SpelledTextsRead) (spelt : ReadTextsAreSpelled)
     (parts_spelt : ReadPartsAreSpelled) (grafts : GraftIsTree) (stand : OpenLeavesStand)
-    (decide : PartialIsAccepted) (no_claim_fault : PassingClaimHasNoFault)
-    (no_tree_fault : PassingTreeHasNoFault) where
+    (decide : PartialIsAccepted) (laws : HeadLaws) where
   pub check_accepts_merged : CheckAcceptsMerged
   check_accepts_merged merging splitting checking file tree merged part parts text calls puts splits
       ends between holds checks behind here =
@@ -351,10 +351,10 @@ module _ (spells : SpelledTextsRead) (spelt : ReadTextsAreSpelled)
               grown are does.0 empty in
               judged checking (Checking file merged) merged text checks (λ s ls h.
               let judge =
-              given_work (OnTree CheckWork checking.shelf_before.held merged)
+              given_work (OnHeaded CheckWork checking.shelf_before.held merged)
               checking.shelf_before.held file keep.0 p s ls keep.2 last h in
-              read no_claim_fault no_tree_fault p
+              read laws p valid
               (record { claim = both; tree = grown; tail = whole }) merged text s ls reads
               accepted
-              (subst (λ (b : List ℕ). TreeSays CheckWork merged p b s ls)
+              (subst (λ (b : List ℕ). HeadedSays CheckWork merged p b s ls)
               (is_held (checking.shelf_before.held merged) text judge.0 here judge.1) judge.2))

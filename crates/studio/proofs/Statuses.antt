@@ -32,6 +32,8 @@ use Rattle.studio_rules.specs.Edits.{EditWork, UndoWork}
 use Rattle.tree_rules.specs.Claim.{Claim, Network}
 use Rattle.tree_rules.specs.Accepted.{Tree}
 use Rattle.studio_rules.specs.TreeFile.{TreeFault, TreeSays, OnTree, tree_limit}
+use Rattle.tree_text_rules.specs.Read.{HeadedCertificate}
+use Rattle.studio_rules.specs.HeadedFile.{HeadedFault, OnHeaded}
 use Rattle.studio_rules.specs.Check.{CheckWork}
 use Rattle.rank_rules.specs.Text.{Text}
 use Rattle.studio_rules.specs.Rank as rankings
@@ -40,11 +42,15 @@ use Rattle.studio_rules.specs.Alternates.{AlternatesHold, AlternatesWork}
 use Rattle.studio_rules.specs.Rankcheck.{RankFault, RankcheckWork, FilesListBest, AcceptedAreBest}
 use Rattle.studio_rules.specs.Network.{OnNetwork, ClaimRefusal}
 use Rattle.studio_rules.specs.Table.{TableWork}
+use Rattle.report_rules.specs.Measures.{Measures, measures_of}
 use Rattle.studio_rules.specs.Report.{ReportWork}
 use Rattle.studio_rules.specs.Json.{JsonWork}
 use Rattle.studio_rules.specs.RankReport.{RankReportWork}
 use Rattle.studio_rules.specs.RankJson.{RankJsonWork}
+use Rattle.studio_rules.specs.RankGraph.{RankGraphWork}
 use Rattle.studio_rules.specs.TextFile.{by_kind, RankSays, EitherSays, OnEither}
+use Rattle.studio_rules.specs.RangesJson.{TableSays, OnAny}
+use Rattle.range_rules.specs.Table.{is_table}
 use Rattle.rank_rules.specs.Headed.{is_ranking}
 use Rattle.studio_rules.specs.Graph.{PlantGraphWork, NetworkGraphWork}
 use Rattle.studio_rules.specs.Split.{SplitWork}
@@ -164,12 +170,18 @@ tree_status name p file TooLong lines h = inr (refl, h.0)
 tree_status name p file BadTree lines h = inl refl
 tree_status name p file s lines h = absurd h
 
-pub check_status : (p : Problem) (claim : Claim) (tree : Tree) (s : Status)
-    (lines : List (List ℕ))
-    → CheckWork p claim tree s lines → (s ≡ Done) ⊎ (s ≡ Refused)
-check_status p claim tree Done lines h = inl refl
-check_status p claim tree Refused lines h = inr refl
-check_status p claim tree s lines h = absurd h
+headed_status : (name : List ℕ) (p : Problem) (file : List ℕ) (s : Status)
+    (lines : List (List ℕ)) → HeadedFault name p file s lines → (s ≡ BadTree)
+    ⊎ ((s ≡ TooLong) × (tree_limit < length file))
+headed_status name p file TooLong lines h = inr (refl, h.0)
+headed_status name p file BadTree lines h = inl refl
+headed_status name p file s lines h = absurd h
+
+pub check_status : (p : Problem) (text : HeadedCertificate) (s : Status) (lines : List (List ℕ))
+    → CheckWork p text s lines → (s ≡ Done) ⊎ (s ≡ Refused)
+check_status p text Done lines h = inl refl
+check_status p text Refused lines h = inr refl
+check_status p text s lines h = absurd h
 
 rank_file_status : (name : List ℕ) (p : Problem) (file : List ℕ) (s : Status)
     (lines : List (List ℕ)) → RankFault name p file s lines → (s ≡ BadTree)
@@ -196,12 +208,12 @@ pub table_status : (p : Problem) (w : Network) (s : Status) (lines : List (List 
 table_status p w Done lines h = refl
 table_status p w s lines h = absurd h
 
-pub report_status : (p : Problem) (claim : Claim) (tree : Tree) (s : Status)
+pub report_status : (ms : Measures) (p : Problem) (claim : Claim) (tree : Tree) (s : Status)
     (lines : List (List ℕ))
-    → ReportWork p claim tree s lines → (s ≡ Done) ⊎ (s ≡ BadClaim)
-report_status p claim tree Done lines h = inl refl
-report_status p claim tree BadClaim lines h = inr refl
-report_status p claim tree s lines h = absurd h
+    → ReportWork ms p claim tree s lines → (s ≡ Done) ⊎ (s ≡ BadClaim)
+report_status ms p claim tree Done lines h = inl refl
+report_status ms p claim tree BadClaim lines h = inr refl
+report_status ms p claim tree s lines h = absurd h
 
 pub json_status : (p : Problem) (claim : Claim) (tree : Tree) (s : Status) (lines : List (List ℕ))
     → JsonWork p claim tree s lines → (s ≡ Done) ⊎ (s ≡ BadClaim)
@@ -209,11 +221,12 @@ json_status p claim tree Done lines h = inl refl
 json_status p claim tree BadClaim lines h = inr refl
 json_status p claim tree s lines h = absurd h
 
-pub rank_report_status : (p : Problem) (t : Text) (s : Status) (lines : List (List ℕ))
-    → RankReportWork p t s lines → (s ≡ Done) ⊎ (s ≡ BadClaim)
-rank_report_status p t Done lines h = inl refl
-rank_report_status p t BadClaim lines h = inr refl
-rank_report_status p t s lines h = absurd h
+pub rank_report_status : (ms : Measures) (p : Problem) (t : Text) (s : Status)
+    (lines : List (List ℕ))
+    → RankReportWork ms p t s lines → (s ≡ Done) ⊎ (s ≡ BadClaim)
+rank_report_status ms p t Done lines h = inl refl
+rank_report_status ms p t BadClaim lines h = inr refl
+rank_report_status ms p t s lines h = absurd h
 
 pub rank_json_status : (p : Problem) (t : Text) (s : Status) (lines : List (List ℕ))
     → RankJsonWork p t s lines → (s ≡ Done) ⊎ (s ≡ BadClaim)
@@ -239,9 +252,10 @@ pub solve_status : (budget : ℕ) (p : Problem) (s : Status) (lines : List (List
     → SolveWork budget p s lines → (s ≡ Done) ⊎ ((s ≡ Spent) ⊎ (s ≡ Past))
 solve_status budget p s lines h = tail_status h.0.tail s h.1
 
-pub show_status : (budget : ℕ) (p : Problem) (s : Status) (lines : List (List ℕ))
-    → ShowWork budget p s lines → (s ≡ Done) ⊎ ((s ≡ Spent) ⊎ (s ≡ Past))
-show_status budget p s lines h = tail_status h.0.tail s h.2.0
+pub show_status : (budget : ℕ) (file : List ℕ) (p : Problem) (s : Status)
+    (lines : List (List ℕ))
+    → ShowWork budget file p s lines → (s ≡ Done) ⊎ ((s ≡ Spent) ⊎ (s ≡ Past))
+show_status budget file p s lines h = tail_status h.0.tail s h.2.0
 
 pub rank_status : (count budget : ℕ) (p : Problem) (s : Status) (lines : List (List ℕ))
     → RankWork count budget p s lines → (s ≡ Done) ⊎ ((s ≡ Spent) ⊎ (s ≡ Past))
@@ -306,6 +320,21 @@ trees_status end work status held name p s lines (file, is, inr rest) short =
       | inr q ↦ inr (inl q)
     ]
 
+checks_status : (held : List ℕ → Told) (name : List ℕ) (p : Problem) (s : Status)
+    (lines : List (List ℕ)) → OnHeaded CheckWork held name p s lines
+    → IsToldAnd (held name) (λ told. length told ≤ tree_limit)
+    → IsOneOf (Done ∷ Refused ∷ BadProblem ∷ BadTree ∷ Memory ∷ []) s
+checks_status held name p s lines (file, is, inl fault) short =
+    elim (headed_status name p file s lines fault) [
+      | inl q ↦ inr (inr (inr (inl q)))
+      | inr q ↦ absurd (within_limit (held name) tree_limit file short is q.1)
+    ]
+checks_status held name p s lines (file, is, inr rest) short =
+    elim (check_status p rest.0 s lines rest.2) [
+      | inl q ↦ inl q
+      | inr q ↦ inr (inl q)
+    ]
+
 -- a tree or a ranking; both works end with the same statuses
 module _ (on_tree : Problem → Claim → Tree → Status → List (List ℕ) → Type 0)
     (on_rank : Problem → Text → Status → List (List ℕ) → Type 0)
@@ -351,6 +380,44 @@ module _ (on_tree : Problem → Claim → Tree → Status → List (List ℕ) �
         | inr (inr (inr q)) ↦ let e = q.0 in cc
       ]
 
+-- ---- a table of ranges, a tree or a ranking as an object
+
+any_kind_status : (kind : Bool) (name : List ℕ) (p : Problem) (file : List ℕ) (s : Status)
+    (lines : List (List ℕ))
+    → by_kind kind (TableSays name p file s lines)
+    (EitherSays JsonWork RankJsonWork name p file s lines)
+    → (s ≡ Done) ⊎ ((s ≡ BadClaim)
+    ⊎ ((s ≡ BadTree) ⊎ ((s ≡ TooLong) × (tree_limit < length file))))
+any_kind_status true name p file Done lines h = inl refl
+any_kind_status true name p file BadTree lines h = inr (inr (inl refl))
+any_kind_status true name p file TooLong lines h = inr (inr (inr (refl, h.0)))
+any_kind_status true name p file s lines h = absurd h
+any_kind_status false name p file s lines h =
+    by_kind_status JsonWork RankJsonWork json_status rank_json_status (is_ranking file) name p file
+    s lines h
+
+any_status : (held : List ℕ → Told) (name : List ℕ) (p : Problem) (s : Status)
+    (lines : List (List ℕ)) → OnAny held name p s lines
+    → IsToldAnd (held name) (λ told. length told ≤ tree_limit)
+    → IsOneOf (Done ∷ BadClaim ∷ BadProblem ∷ BadTree ∷ Memory ∷ []) s
+any_status held name p s lines (file, is, said) short =
+    elim (any_kind_status (is_table file) name p file s lines said) [
+      | inl q ↦ inl q
+      | inr (inl q) ↦ inr (inl q)
+      | inr (inr (inl q)) ↦ inr (inr (inr (inl q)))
+      | inr (inr (inr q)) ↦ absurd (within_limit (held name) tree_limit file short is q.1)
+    ]
+
+any_not_usage : (held : List ℕ → Told) (name : List ℕ) (p : Problem) (lines : List (List ℕ))
+    → OnAny held name p Usage lines → ⊥
+any_not_usage held name p lines (file, is, said) =
+    elim (any_kind_status (is_table file) name p file Usage lines said) [
+      | inl q ↦ cc
+      | inr (inl q) ↦ cc
+      | inr (inr (inl q)) ↦ cc
+      | inr (inr (inr q)) ↦ let e = q.0 in cc
+    ]
+
 -- ---- networks drawn and reported
 
 pub plant_graph_status : (p : Problem) (s : Status) (lines : List (List ℕ))
@@ -362,6 +429,12 @@ pub graph_status : (p : Problem) (w : Network) (s : Status) (lines : List (List 
     → NetworkGraphWork p w s lines → s ≡ Done
 graph_status p w Done lines h = refl
 graph_status p w s lines h = absurd h
+
+pub rank_graph_status : (p : Problem) (t : Text) (s : Status) (lines : List (List ℕ))
+    → RankGraphWork p t s lines → (s ≡ Done) ⊎ (s ≡ BadClaim)
+rank_graph_status p t Done lines h = inl refl
+rank_graph_status p t BadClaim lines h = inr refl
+rank_graph_status p t s lines h = absurd h
 
 -- ---- designs
 
@@ -584,7 +657,7 @@ command_status held (Checking name tree) s lines (file, is, inl fault) short =
           q.1)
     ]
 command_status held (Checking name tree) s lines (file, is, inr work) short =
-    trees_status Refused CheckWork check_status held tree work.0 s lines work.2
+    checks_status held tree work.0 s lines work.2
     (short tree tree_limit (inr (refl, refl)))
 command_status held (RankChecking name rank) s lines (file, is, inl fault) short =
     elim (fault_status name file s lines fault) [
@@ -630,8 +703,9 @@ command_status held (Reporting name tree) s lines (file, is, inl fault) short =
           q.1)
     ]
 command_status held (Reporting name tree) s lines (file, is, inr work) short =
-    either_status ReportWork RankReportWork report_status rank_report_status held tree work.0 s
-    lines work.2 (short tree tree_limit (inr (refl, refl)))
+    let ms = measures_of file in
+    either_status (ReportWork ms) (RankReportWork ms) (report_status ms) (rank_report_status ms)
+    held tree work.0 s lines work.2 (short tree tree_limit (inr (refl, refl)))
 command_status held (Json name tree) s lines (file, is, inl fault) short =
     elim (fault_status name file s lines fault) [
       | inl q ↦ inr (inr (inl q))
@@ -641,8 +715,7 @@ command_status held (Json name tree) s lines (file, is, inl fault) short =
           q.1)
     ]
 command_status held (Json name tree) s lines (file, is, inr work) short =
-    either_status JsonWork RankJsonWork json_status rank_json_status held tree work.0 s lines
-    work.2 (short tree tree_limit (inr (refl, refl)))
+    any_status held tree work.0 s lines work.2 (short tree tree_limit (inr (refl, refl)))
 command_status held (Splitting name tree) s lines (file, is, inl fault) short =
     elim (fault_status name file s lines fault) [
       | inl q ↦ inr (inr (inl q))
@@ -672,9 +745,9 @@ command_status held (DrawingNetwork name tree) s lines (file, is, inl fault) sho
           q.1)
     ]
 command_status held (DrawingNetwork name tree) s lines (file, is, inr work) short =
-    trees_status BadClaim (OnNetwork NetworkGraphWork)
-    (network_status NetworkGraphWork graph_status) held tree work.0 s lines work.2
-    (short tree tree_limit (inr (refl, refl)))
+    either_status (OnNetwork NetworkGraphWork) RankGraphWork
+    (network_status NetworkGraphWork graph_status) rank_graph_status held tree work.0 s lines
+    work.2 (short tree tree_limit (inr (refl, refl)))
 command_status held (Ranging name tree kind word budget) s lines (file, is, inl fault) short =
     elim (fault_status name file s lines fault) [
       | inl q ↦ inr (inr (inr (inr (inl q))))
@@ -854,7 +927,7 @@ command_status held (Showing name budget) s lines (file, is, inl fault) short =
           (within_limit (held name) file_limit file (short name file_limit (refl, refl)) is q.1)
     ]
 command_status held (Showing name budget) s lines (file, is, inr work) short =
-    elim (show_status budget work.0 s lines work.2) [
+    elim (show_status budget file work.0 s lines work.2) [
       | inl q ↦ inl q
       | inr o ↦ elim o [ inl q ↦ inr (inl q) | inr q ↦ inr (inr (inl q)) ]
     ]
@@ -941,7 +1014,7 @@ answer_status held (Checking name tree) lines
     (file, is, inr (p, given, (bytes, there, inl fault))) = absurd fault
 answer_status held (Checking name tree) lines
     (file, is, inr (p, given, (bytes, there, inr rest))) =
-    absurd rest.3
+    absurd rest.2
 answer_status held (RankChecking name rank) lines (file, is, inl fault) = absurd fault
 answer_status held (RankChecking name rank) lines
     (file, is, inr (p, given, (bytes, there, inl fault))) = absurd fault
@@ -955,13 +1028,13 @@ answer_status held (Table name tree) lines (file, is, inr (p, given, (bytes, the
     [ inl q ↦ cc | inr q ↦ cc ]
 answer_status held (Reporting name tree) lines (file, is, inl fault) = absurd fault
 answer_status held (Reporting name tree) lines (file, is, inr (p, given, said)) =
+    let ms = measures_of file in
     absurd
-    (either_not_usage ReportWork RankReportWork report_status rank_report_status held tree p lines
-    said)
+    (either_not_usage (ReportWork ms) (RankReportWork ms) (report_status ms)
+    (rank_report_status ms) held tree p lines said)
 answer_status held (Json name tree) lines (file, is, inl fault) = absurd fault
 answer_status held (Json name tree) lines (file, is, inr (p, given, said)) =
-    absurd
-    (either_not_usage JsonWork RankJsonWork json_status rank_json_status held tree p lines said)
+    absurd (any_not_usage held tree p lines said)
 answer_status held (Splitting name tree) lines (file, is, inl fault) = absurd fault
 answer_status held (Splitting name tree) lines
     (file, is, inr (p, given, (bytes, there, inl fault))) = absurd fault
@@ -970,12 +1043,10 @@ answer_status held (Splitting name tree) lines
 answer_status held (Drawing name) lines (file, is, inl fault) = absurd fault
 answer_status held (Drawing name) lines (file, is, inr work) = absurd work.2
 answer_status held (DrawingNetwork name tree) lines (file, is, inl fault) = absurd fault
-answer_status held (DrawingNetwork name tree) lines
-    (file, is, inr (p, given, (bytes, there, inl fault))) = absurd fault
-answer_status held (DrawingNetwork name tree) lines
-    (file, is, inr (p, given, (bytes, there, inr rest))) =
-    elim (network_status NetworkGraphWork graph_status p rest.0 rest.1 Usage lines rest.3)
-    [ inl q ↦ cc | inr q ↦ cc ]
+answer_status held (DrawingNetwork name tree) lines (file, is, inr (p, given, said)) =
+    absurd
+    (either_not_usage (OnNetwork NetworkGraphWork) RankGraphWork
+    (network_status NetworkGraphWork graph_status) rank_graph_status held tree p lines said)
 answer_status held (Ranging name tree kind word budget) lines (file, is, inl fault) = absurd fault
 answer_status held (Ranging name tree kind word budget) lines
     (file, is, inr (p, given, (bytes, there, inl fault))) = absurd fault
@@ -1038,7 +1109,7 @@ answer_status held (Solving name budget) lines (file, is, inr work) =
     [ inl q ↦ cc | inr o ↦ elim o [ inl q ↦ cc | inr q ↦ cc ] ]
 answer_status held (Showing name budget) lines (file, is, inl fault) = absurd fault
 answer_status held (Showing name budget) lines (file, is, inr work) =
-    elim (show_status budget work.0 Usage lines work.2)
+    elim (show_status budget file work.0 Usage lines work.2)
     [ inl q ↦ cc | inr o ↦ elim o [ inl q ↦ cc | inr q ↦ cc ] ]
 answer_status held (Ranking name count budget) lines (file, is, inl fault) = absurd fault
 answer_status held (Ranking name count budget) lines (file, is, inr work) =
@@ -1105,9 +1176,10 @@ finished budget p s lines can (c, e, holds, text) = at c.tail e holds
     at (past node nonbasic place) e holds = let h =
         holds.1 in absurd (can.in_range h.node nonbasic place h.sound h.reduced h.past.past)
 
-pub show_finished : (budget : ℕ) (p : Problem) (s : Status) (lines : List (List ℕ))
-    → CanFinish budget p → ShowWork budget p s lines → IsNotStopped s
-show_finished budget p s lines can (c, holds, shows) = at c.tail shows.0 holds
+pub show_finished : (budget : ℕ) (file : List ℕ) (p : Problem) (s : Status)
+    (lines : List (List ℕ))
+    → CanFinish budget p → ShowWork budget file p s lines → IsNotStopped s
+show_finished budget file p s lines can (c, holds, shows) = at c.tail shows.0 holds
   where
     at : (tail : Tail) → s ≡ status_of tail → Holds budget p c.claim c.tree tail → IsNotStopped s
     at whole e holds = ((λ q. cc), (λ q. cc))

@@ -7,12 +7,14 @@ ghost use Rattle.studio.specs.Calls.{CheckAcceptsSolved, RankcheckAcceptsRanked}
 ghost use Rattle.studio.specs.Calls.{RankcheckAcceptsAlternatives};
 ghost use Rattle.studio.specs.Calls.{CheckAcceptsMerged, ListingsJoin};
 
+use head_laws::{empty_head_is_none, tree_has_one_fault_by};
+use head_rules::one_fault;
 use part_laws::{grafts_are_partial, open_leaves_stand};
 use part_text::read_parts_are_spelled;
 use problem_rules::valid_is_well_formed;
 use rank_laws::{network_has_one_fault, ranking_has_one_fault};
-use tree_laws::{claim_has_one_fault, open_leaves_decide, tree_has_one_fault};
-use tree_text_laws::{read_texts_are_spelled, spelled_texts_read};
+use tree_laws::{claim_has_one_fault, open_leaves_decide};
+use tree_text_laws::{plain_texts_are_headed, read_texts_are_spelled, spelled_texts_read};
 
 /// A listing in parts is the listing at once. Each part begins after the last token of the part
 /// before.
@@ -26,7 +28,10 @@ pub fn solved_is_accepted()
     ensures { SolvedIsAccepted }
 {
     claim_has_one_fault();
-    tree_has_one_fault();
+    one_fault();
+    tree_has_one_fault_by();
+    empty_head_is_none();
+    plain_texts_are_headed();
 }
 
 /// What `rank` prints with status 0 is accepted by `rankcheck` on the same problem, or is too long
@@ -83,7 +88,10 @@ pub fn check_accepts_merged()
     open_leaves_stand();
     open_leaves_decide();
     claim_has_one_fault();
-    tree_has_one_fault();
+    one_fault();
+    tree_has_one_fault_by();
+    empty_head_is_none();
+    plain_texts_are_headed();
 }
 
 /// Two calls of `list`, the second after the last token of the first, print what one does. The text

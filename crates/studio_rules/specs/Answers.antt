@@ -31,17 +31,17 @@ use Rattle.studio_rules.specs.Expand.{ExpandWork}
 use Rattle.studio_rules.specs.Migrate.{MigrateWork}
 use Rattle.studio_rules.specs.Edits.{EditWork, UndoWork}
 use Rattle.studio_rules.specs.TreeFile.{OnTree, GivesTree, tree_limit}
+use Rattle.studio_rules.specs.HeadedFile.{OnHeaded}
 use Rattle.studio_rules.specs.Check.{CheckWork}
 use Rattle.studio_rules.specs.Rankcheck.{OnRank}
 use Rattle.studio_rules.specs.Rank.{RankWork}
 use Rattle.studio_rules.specs.Alternates.{AlternatesWork}
 use Rattle.studio_rules.specs.Network.{OnNetwork}
 use Rattle.studio_rules.specs.Table.{TableWork}
-use Rattle.studio_rules.specs.Report.{ReportWork}
-use Rattle.studio_rules.specs.Json.{JsonWork}
 use Rattle.studio_rules.specs.TextFile.{OnEither}
-use Rattle.studio_rules.specs.RankReport.{RankReportWork}
-use Rattle.studio_rules.specs.RankJson.{RankJsonWork}
+use Rattle.studio_rules.specs.RankReport.{ReportsOn}
+use Rattle.studio_rules.specs.RankGraph.{RankGraphWork}
+use Rattle.studio_rules.specs.RangesJson.{OnAny}
 use Rattle.studio_rules.specs.Graph.{PlantGraphWork, NetworkGraphWork}
 use Rattle.studio_rules.specs.Split.{SplitWork}
 use Rattle.studio_rules.specs.Merge.{MergeWork}
@@ -77,7 +77,7 @@ SearchAnswers held (PartingAgainst file inside outside budget tree) status lines
 SearchAnswers held (Solving file budget) status lines =
     OnFile (SolveWork budget) held file status lines
 SearchAnswers held (Showing file budget) status lines =
-    OnFile (ShowWork budget) held file status lines
+    OnText (ShowWork budget) held file status lines
 SearchAnswers held (Ranking file count budget) status lines =
     OnFile (RankWork count budget) held file status lines
 SearchAnswers held (Alternatives file count budget) status lines =
@@ -104,7 +104,7 @@ CommandAnswers held (Editing file script) status lines =
 CommandAnswers held (Undoing file script) status lines =
     OnFile (OnScript UndoWork held script) held file status lines
 CommandAnswers held (Checking file tree) status lines =
-    OnFile (OnTree CheckWork held tree) held file status lines
+    OnFile (OnHeaded CheckWork held tree) held file status lines
 CommandAnswers held (RankChecking file rank) status lines =
     OnFile (OnRank held rank) held file status lines
 CommandAnswers held (Table file tree) status lines =
@@ -115,11 +115,11 @@ CommandAnswers held (Expanding file plan) status lines =
     OnFile (OnPlan ExpandWork held plan) held file status lines
 CommandAnswers held (Drawing file) status lines = OnFile PlantGraphWork held file status lines
 CommandAnswers held (DrawingNetwork file tree) status lines =
-    OnFile (OnTree (OnNetwork NetworkGraphWork) held tree) held file status lines
+    OnFile (OnEither (OnNetwork NetworkGraphWork) RankGraphWork held tree) held file status lines
 CommandAnswers held (Reporting file tree) status lines =
-    OnFile (OnEither ReportWork RankReportWork held tree) held file status lines
+    OnText (ReportsOn held tree) held file status lines
 CommandAnswers held (Json file tree) status lines =
-    OnFile (OnEither JsonWork RankJsonWork held tree) held file status lines
+    OnFile (OnAny held tree) held file status lines
 CommandAnswers held (Merging file tree parts) status lines =
     OnFile (OnTree (MergeWork held parts) held tree) held file status lines
 CommandAnswers held (Telling text) status lines = (status ≡ Done) × (text ≡ text_of lines)

@@ -10,9 +10,9 @@ use Rattle.pns_rules.specs.Structure.{IsStructure, IsAllowed}
 use Rattle.flow_rules.specs.Net.{net_of}
 use Rattle.flow_rules.specs.Flows.{IsFlows, cost}
 use Rattle.tree_rules.specs.Claim.{Network, size_in, Claim, network, infeasible, unknown}
-use Rattle.tree_rules.specs.Accepted.{Tree}
+use Rattle.tree_text_rules.specs.Read.{HeadedCertificate}
 use Rattle.studio_rules.specs.Reading.{AreHeld, GivesProblem, OnFile}
-use Rattle.studio_rules.specs.TreeFile.{GivesTree, OnTree}
+use Rattle.studio_rules.specs.HeadedFile.{GivesHeaded, OnHeaded}
 use Rattle.studio_rules.specs.Check.{CheckWork}
 use Rattle.studio_rules.specs.declared.status.Status.TheVariants.{Done}
 
@@ -51,13 +51,12 @@ pub record FilesClaimBest (held : List ℕ → Told) (file tree : List ℕ) : Ty
   pub valid : IsValid problem
   pub tree_text : List ℕ
   pub tree_held : AreHeld (held tree) tree_text
-  pub claim : Claim
-  pub nodes : Tree
-  pub gives_tree : GivesTree problem tree_text claim nodes
-  pub best : IsBest problem claim
+  pub certificate : HeadedCertificate
+  pub gives_tree : GivesHeaded problem tree_text certificate
+  pub best : IsBest problem certificate.claim
 
 -- if `check FILE TREE` answers with status 0, FILE and TREE claim what is best
 abbrev pub AcceptedIsBest : Type 0
 AcceptedIsBest =
     (held : List ℕ → Told) (file tree : List ℕ) (lines : List (List ℕ))
-    → OnFile (OnTree CheckWork held tree) held file Done lines → FilesClaimBest held file tree
+    → OnFile (OnHeaded CheckWork held tree) held file Done lines → FilesClaimBest held file tree

@@ -1,24 +1,33 @@
--- `check FILE TREE`: whether a branch tree proves its claim from the node at which nothing is
--- decided. Or else the first line of the claim, or the first node, that fails, with its cause.
+-- `check FILE TREE`: whether a branch tree and its head, which may have no lines, prove its claim
+-- from the node at which nothing is decided. Or else the first line of the claim, the first line of
+-- the head, or the first node, that fails, with its cause. The tail does not matter.
 use Rattle.std.specs.Prelude.{◌≡◌, ◌⊎◌, ℕ, false, List, [], ◌∷◌, codes}
 use Rattle.problem_rules.specs.Problem.{Problem}
 use Rattle.tree_rules.specs.declared.why.Why.{Why}
 use Rattle.tree_rules.specs.Claim.{Claim, ClaimPasses, ClaimFails}
-use Rattle.tree_rules.specs.Accepted.{Tree, first_node, IsAccepted, NodeIsFault}
-use Rattle.studio_rules.specs.RefusalWords.{claim_line, node_line}
+use Rattle.tree_rules.specs.Accepted.{Tree}
+use Rattle.head_rules.specs.declared.line_why.LineWhy.{LineWhy}
+use Rattle.head_rules.specs.Head.{HeadLine}
+use Rattle.head_rules.specs.Headed.{head_node, HeadPasses, IsAcceptedBy, LineIsFault, NodeIsFaultBy}
+use Rattle.tree_text_rules.specs.Read.{HeadedCertificate}
+use Rattle.studio_rules.specs.RefusalWords.{claim_line, head_line, node_line}
 use Rattle.studio_rules.specs.declared.status.Status.{Status}
 use Rattle.studio_rules.specs.declared.status.Status.TheVariants.{Done, Refused}
 
--- the claim is judged first, then the nodes in preorder
-abbrev pub IsRefused : Problem → Claim → Tree → List (List ℕ) → Type 0
-IsRefused p claim tree lines =
+-- the claim is judged first, then the lines of the head in order, then the nodes in preorder
+abbrev pub IsRefused : Problem → Claim → List HeadLine → Tree → List (List ℕ) → Type 0
+IsRefused p claim head tree lines =
     ((why : Why) × ClaimFails false p claim why × (lines ≡ claim_line why ∷ []))
     ⊎ (ClaimPasses false p claim
-    × ((node : ℕ) × (why : Why) × NodeIsFault false p first_node claim tree node why
-    × (lines ≡ node_line node why ∷ [])))
+    × (((number : ℕ) × (why : LineWhy) × LineIsFault p claim head number why
+    × (lines ≡ head_line number why ∷ []))
+    ⊎ (HeadPasses p claim head
+    × ((node : ℕ) × (why : Why)
+    × NodeIsFaultBy false p (head_node p head) claim head tree node why
+    × (lines ≡ node_line node why ∷ [])))))
 
-abbrev pub CheckWork : Problem → Claim → Tree → Status → List (List ℕ) → Type 0
-CheckWork p claim tree Done lines = IsAccepted p first_node claim tree
-    × (lines ≡ codes "accepted" ∷ [])
-CheckWork p claim tree Refused lines = IsRefused p claim tree lines
-CheckWork p claim tree status lines = ⊥
+abbrev pub CheckWork : Problem → HeadedCertificate → Status → List (List ℕ) → Type 0
+CheckWork p text Done lines =
+    IsAcceptedBy p text.claim text.head text.tree × (lines ≡ codes "accepted" ∷ [])
+CheckWork p text Refused lines = IsRefused p text.claim text.head text.tree lines
+CheckWork p text status lines = ⊥

@@ -37,9 +37,10 @@ check_page =
     codes "claimed." ∷
     codes "Ends with" ∷
     codes "  0   The whole text was printed." ∷
-    codes "  1   refused claim WHY, or refused node N WHY: the tree does not prove its" ∷
-    codes "      claim on this plant. A tree with status 4 or 5 has open leaves and is" ∷
-    codes "      refused (unknown or open): solve with a greater budget." ∷
+    codes "  1   refused claim WHY, refused head K WHY, or refused node N WHY: the tree" ∷
+    codes "      does not prove its claim on this plant. K counts lines of its head from" ∷
+    codes "      0. A tree with status 4 or 5 has open leaves and is refused (unknown or" ∷
+    codes "      open): solve with a greater budget." ∷
     codes "  10  tree line L KIND: line L of TREE has a fault; pns help KIND explains it." ∷
     codes "      Print the text again." ∷
     codes "  2, 3, 6, 7, 8, 12, 20: see pns help status" ∷

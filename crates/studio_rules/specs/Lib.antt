@@ -14,6 +14,7 @@ pub mod Expand
 pub mod FlowPages
 pub mod Flows
 pub mod Graph
+pub mod HeadedFile
 pub mod Json
 pub mod Keeps
 pub mod Lines
@@ -37,6 +38,8 @@ pub mod PlanPages
 pub mod Printed
 pub mod ProgramPages
 pub mod Rank
+pub mod RangesJson
+pub mod RankGraph
 pub mod RankJson
 pub mod RankPages
 pub mod RankReport

@@ -1,9 +1,11 @@
--- The words that say why a claim or a node of a tree is refused.
+-- The words that say why a claim, a line at the head of a tree, or a node is refused.
 use Rattle.std.specs.Prelude.{ℕ, List, ◌∷◌, ◌++◌, codes, decimal}
 use Rattle.tree_rules.specs.declared.why.Why.{Why}
 use Rattle.tree_rules.specs.declared.why.Why.TheVariants.{Unknown, Axiom, Exclusion, Flows, Cost}
 use Rattle.tree_rules.specs.declared.why.Why.TheVariants.{Step, Options, Open, Dead, Clash, Refuted}
 use Rattle.tree_rules.specs.declared.why.Why.TheVariants.{Bound, Cover, Sum}
+use Rattle.head_rules.specs.declared.line_why.LineWhy.{LineWhy}
+use Rattle.head_rules.specs.declared.line_why.LineWhy.TheVariants as lines
 
 -- the word for a cause
 abbrev pub why_word : Why → List ℕ
@@ -28,3 +30,16 @@ claim_line why = codes "refused claim " ++ why_word why
 -- nodes are counted from 0 in preorder
 abbrev pub node_line : ℕ → Why → List ℕ
 node_line node why = codes "refused node " ++ decimal node ++ 32 ∷ why_word why
+
+-- the word for the cause of a line at the head of a tree
+abbrev pub line_word : LineWhy → List ℕ
+line_word lines.Step = codes "step"
+line_word lines.Fact = codes "fact"
+line_word lines.Trim = codes "trim"
+line_word lines.Cover = codes "some"
+line_word lines.Bound = codes "bound"
+line_word lines.Sum = codes "sum"
+
+-- the lines of a head are counted from 0, without those of sets
+abbrev pub head_line : ℕ → LineWhy → List ℕ
+head_line number why = codes "refused head " ++ decimal number ++ 32 ∷ line_word why

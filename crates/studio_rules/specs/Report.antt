@@ -1,6 +1,7 @@
 -- `report FILE TREE`: what the tree proves of its claim, in a line, with the lower bound if it is
 -- not finished, and then the network of the claim in tables for people; or, if it proves that no
--- network meets the bounds, those that clash.
+-- network meets the bounds, those that clash. The headings show the units of measure that FILE
+-- names.
 use Rattle.std.specs.Prelude.{◌≡◌, ◌++◌, ℕ, true, List, [], ◌∷◌, Option, Some, None, codes, decimal}
 use Rattle.problem_rules.specs.Problem.{Problem}
 use Rattle.tree_rules.specs.declared.why.Why.{Why}
@@ -12,6 +13,7 @@ use Rattle.report_rules.specs.declared.lower_bound.LowerBound.{LowerBound}
 use Rattle.report_rules.specs.Verdict.{IsVerdict}
 use Rattle.report_rules.specs.Lower.{low_cell, gap_text}
 use Rattle.report_rules.specs.Marginal.{Marginals, AreClaimMarginals}
+use Rattle.report_rules.specs.Measures.{Measures}
 use Rattle.report_rules.specs.Report.{total_cell, report_lines}
 use Rattle.report_rules.specs.Clash.{clash_lines}
 use Rattle.studio_rules.specs.RefusalWords.{why_word, claim_line}
@@ -57,32 +59,33 @@ first_line p claim (Fails node why) = failing_line node why
 -- ---- all
 
 -- a network has tables; if it is proved that none meets the bounds, bounds clash
-abbrev pub tables_of : Problem → Marginals → Claim → Tree → Verdict → List (List ℕ)
-tables_of p m (network w) tree verdict = report_lines p w m
-tables_of p m infeasible tree Proved = clash_lines p tree
-tables_of p m infeasible tree (Unfinished low) = []
-tables_of p m infeasible tree (Fails node why) = []
-tables_of p m unknown tree verdict = []
+abbrev pub tables_of : Measures → Problem → Marginals → Claim → Tree → Verdict → List (List ℕ)
+tables_of ms p m (network w) tree verdict = report_lines ms p w m
+tables_of ms p m infeasible tree Proved = clash_lines p tree
+tables_of ms p m infeasible tree (Unfinished low) = []
+tables_of ms p m infeasible tree (Fails node why) = []
+tables_of ms p m unknown tree verdict = []
 
-abbrev pub verdict_lines : Problem → Marginals → Claim → Tree → Verdict → List (List ℕ)
-verdict_lines p m claim tree verdict =
-    first_line p claim verdict ∷ tables_of p m claim tree verdict
+abbrev pub verdict_lines : Measures → Problem → Marginals → Claim → Tree → Verdict → List (List ℕ)
+verdict_lines ms p m claim tree verdict =
+    first_line p claim verdict ∷ tables_of ms p m claim tree verdict
 
 -- the lines say the verdict, with marginals that are right for the network of the claim
-abbrev pub VerdictSays : Problem → Claim → Tree → Verdict → List (List ℕ) → Type 0
-VerdictSays p claim tree verdict lines =
+abbrev pub VerdictSays : Measures → Problem → Claim → Tree → Verdict → List (List ℕ) → Type 0
+VerdictSays ms p claim tree verdict lines =
     (m : Marginals) × AreClaimMarginals p claim m
-    × (lines ≡ verdict_lines p m claim tree verdict)
+    × (lines ≡ verdict_lines ms p m claim tree verdict)
 
 -- the lines say what the tree proves: `PROVED` exactly if `check` accepts it
-abbrev pub ReportSays : Problem → Claim → Tree → List (List ℕ) → Type 0
-ReportSays p claim tree lines =
-    (verdict : Verdict) × IsVerdict p claim tree verdict × VerdictSays p claim tree verdict lines
+abbrev pub ReportSays : Measures → Problem → Claim → Tree → List (List ℕ) → Type 0
+ReportSays ms p claim tree lines =
+    (verdict : Verdict) × IsVerdict p claim tree verdict
+    × VerdictSays ms p claim tree verdict lines
 
 -- A claim that fails, though nothing may be claimed, is refused for the first of its lines that
 -- does.
-abbrev pub ReportWork : Problem → Claim → Tree → Status → List (List ℕ) → Type 0
-ReportWork p claim tree Done lines = ReportSays p claim tree lines
-ReportWork p claim tree BadClaim lines =
+abbrev pub ReportWork : Measures → Problem → Claim → Tree → Status → List (List ℕ) → Type 0
+ReportWork ms p claim tree Done lines = ReportSays ms p claim tree lines
+ReportWork ms p claim tree BadClaim lines =
     (why : Why) × ClaimFails true p claim why × (lines ≡ claim_line why ∷ [])
-ReportWork p claim tree status lines = ⊥
+ReportWork ms p claim tree status lines = ⊥

@@ -16,7 +16,8 @@ pub fn copied_network(alloc: Global, network: &Network) -> Result<Network, Alloc
     Ok(Network::of(network.units(), sizes, network.d(), network.cost()))
 }
 
-fn copied_end(alloc: Global, end: &End) -> Result<End, AllocError>
+/// A copy of an end.
+pub fn copied_end(alloc: Global, end: &End) -> Result<End, AllocError>
     ensures { IfOk result (λ e. end_of e ≡ end_of end.now) }
 {
     match end {
@@ -42,7 +43,8 @@ fn copied_refutation(alloc: Global, ys: &Multipliers) -> Result<End, AllocError>
     Ok(End::Refuted(Multipliers::from_vec(numbers)))
 }
 
-fn copied_scaled(alloc: Global, scaled: &Scaled) -> Result<Scaled, AllocError>
+/// A copy of the multipliers of a bound.
+pub fn copied_scaled(alloc: Global, scaled: &Scaled) -> Result<Scaled, AllocError>
     ensures { IfOk result (λ s. s ≡ scaled.now) }
 {
     let numbers = scaled.numbers().to_vec(alloc)?;

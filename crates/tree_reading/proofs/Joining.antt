@@ -7,7 +7,7 @@ use Rattle.tree_text_rules.specs.Token.{lesser, both, mapped, each}
 use Rattle.tree_text_rules.specs.declared.TreeKind.{TreeKind}
 use Rattle.tree_reading.specs.Joined.{joined}
 
-lesser_assoc : (a b c : TreeKind) → lesser (lesser a b) c ≡ lesser a (lesser b c)
+pub lesser_assoc : (a b c : TreeKind) → lesser (lesser a b) c ≡ lesser a (lesser b c)
 lesser_assoc a b c = grind (arith, nat_tests)
 
 pub one_more : {A : Type 0} (front : Result (List A) TreeKind) (here : Result A TreeKind)

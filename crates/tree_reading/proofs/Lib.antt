@@ -3,6 +3,7 @@ pub mod Cutting
 pub mod Entries
 pub mod Failing
 pub mod FirstLines
+pub mod FrontLines
 pub mod Joining
 pub mod Naming
 pub mod NamedSets

@@ -1,7 +1,9 @@
 pub mod Apart
+pub mod Front
 pub mod Gives
 pub mod Joined
 pub mod Place
+pub mod Said
 pub mod Taken
 pub mod Tells
 pub mod View

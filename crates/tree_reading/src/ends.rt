@@ -53,8 +53,8 @@ fn short_end(problem: &Problem, word: Option<Word>, fields: Option<&[u8]>) -> Re
     }
 }
 
-// A scale and multipliers.
-fn scaled_in(alloc: Global, fields: Option<&[u8]>) -> Result<Scaled, LineFault>
+/// A scale and multipliers.
+pub(crate) fn scaled_in(alloc: Global, fields: Option<&[u8]>) -> Result<Scaled, LineFault>
     ensures ok { IfOk result
         (λ s. reads.one_and_more rules.number_of rules.number_of (tokens_in fields.entry)
         ≡ Ok (s.d, s.ys)) }

@@ -28,7 +28,7 @@ const MOST_SETS: usize = 1_000_000;
 
 /// The sets from this place on, and the place before the first line that is no set. At most a
 /// million are taken.
-fn read_sets(
+pub(crate) fn read_sets(
     alloc: Global,
     problem: &Problem,
     bytes: &[u8],

@@ -5,7 +5,7 @@ ghost use Rattle.tree_text_rules.specs.Line.{word_named};
 use text_lines::words::looked_up;
 use tree_text_rules::Word;
 
-const WORDS: [(&[u8], Word); 26] = [
+const WORDS: [(&[u8], Word); 29] = [
     (b"network", Word::Network),
     (b"sizes", Word::Sizes),
     (b"cost", Word::Cost),
@@ -27,6 +27,9 @@ const WORDS: [(&[u8], Word); 26] = [
     (b"branch", Word::Branch),
     (b"either", Word::Either),
     (b"open", Word::Open),
+    (b"cap", Word::Cap),
+    (b"out", Word::Out),
+    (b"trim", Word::Trim),
     (b"spent", Word::Spent),
     (b"past", Word::Past),
     (b"nonbasic", Word::Nonbasic),

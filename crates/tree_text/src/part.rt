@@ -22,7 +22,7 @@ use pns_io::Sink;
 use pns_problem::Problem;
 use unit_sets::{Step, UnitSet};
 
-fn put_step<K: Sink>(
+pub(crate) fn put_step<K: Sink>(
     line: &mut String,
     problem: &Problem,
     step: Step,
@@ -90,7 +90,7 @@ fn put_cover<K: Sink>(
     }
 }
 
-fn put_covers<K: Sink>(
+pub(crate) fn put_covers<K: Sink>(
     line: &mut String,
     problem: &Problem,
     covers: &[Cover],
@@ -174,7 +174,7 @@ fn put_node<K: Sink>(
     put_end(line, problem, &node.end, out)
 }
 
-fn put_nodes<K: Sink>(
+pub(crate) fn put_nodes<K: Sink>(
     line: &mut String,
     problem: &Problem,
     nodes: &[TreeNode],
@@ -208,7 +208,7 @@ pub(crate) fn put_network<'a, K: Sink>(
     put(line, problem, "cost", &cost, out)
 }
 
-fn put_claim<K: Sink>(
+pub(crate) fn put_claim<K: Sink>(
     line: &mut String,
     problem: &Problem,
     claim: &Claim,

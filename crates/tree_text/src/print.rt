@@ -4,13 +4,15 @@ ghost use Rattle.problem_rules.specs.Each.{Each};
 ghost use Rattle.pgraph.specs.View.{step_of};
 ghost use Rattle.tree_rules.specs.Known.{AreUnits, KnowsStep, KnowsEnd, KnowsTree, KnowsClaim};
 ghost use Rattle.tree_rules.specs.Known.{KnowsColumn, KnowsPlace, KnowsTail};
+ghost use Rattle.head_rules.specs.Known.{KnowsHead};
 ghost use Rattle.branch_tree.specs.View.{end_of, claim_of, tail_of};
 ghost use Rattle.tree_text_rules.specs.Spelling.{end_with_sets, head_lines, network_lines};
 ghost use Rattle.tree_text_rules.specs.Spelling.{place_lines, tail_lines, rest_lines};
-ghost use Rattle.tree_text_rules.specs.Spelling.{tree_text_lines};
+ghost use Rattle.tree_text_rules.specs.Spelling.{tree_text_lines, headed_text_lines};
 ghost use Rattle.tree_text.specs.Prints.{Prints};
 
 use crate::fault::PrintFault;
+use crate::front::{Headed, put_headed};
 use crate::line::put;
 use crate::part::{put_end, put_head, put_network, put_place, put_rest, put_tail};
 use branch_tree::{Claim, End, Network, Tail, Tree};
@@ -42,6 +44,28 @@ pub fn print_tree<K: Sink>(
     let mut line = String::new(alloc);
     put(&mut line, problem, "file_type=PNS_tree_v1", &[], out)?;
     put_rest(&mut line, problem, claim, tree, tail, out)
+}
+
+/// Prints a claim, a head, a tree and a tail, whole, as [`print_tree`] does without a head.
+pub fn print_headed<K: Sink>(
+    alloc: Global,
+    problem: &Problem,
+    headed: &Headed<'_>,
+    out: &mut K,
+) -> Result<(), PrintFault>
+    requires claim { KnowsClaim problem.now (claim_of headed.now.claim.now) }
+    requires head { KnowsHead problem.now headed.now.head.now }
+    requires tree { KnowsTree problem.now headed.now.tree.now }
+    requires tail { KnowsTail problem.now (tail_of headed.now.tail.now) }
+    ensures prints { Prints
+        (headed_text_lines problem.now (claim_of headed.now.claim.now) headed.now.head.now
+        headed.now.tree.now (tail_of headed.now.tail.now)) (K.state out.old) (K.state out.new)
+        result }
+    ensures later { (K.state out.old).faults ≤ (K.state out.new).faults }
+{
+    let mut line = String::new(alloc);
+    put(&mut line, problem, "file_type=PNS_tree_v1", &[], out)?;
+    put_headed(&mut line, problem, headed, out)
 }
 
 /// Prints the whole text without its first line.

@@ -1,5 +1,7 @@
 pub mod Claims
 mod Ends
+mod Fronts
+mod HeadedText
 mod Heads
 pub mod Nodes
 pub mod Parts

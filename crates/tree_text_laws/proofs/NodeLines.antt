@@ -14,20 +14,28 @@ use Rattle.tree_rules.specs.Ways as ways
 use Rattle.tree_rules.specs.Tree as trees
 use Rattle.tree_rules.specs.Leaf as leaves
 use Rattle.tree_rules.specs.Known.{IsUnit, IsMaterial, IsExclusion, AreUnits, KnowsStep, KnowsCover}
+use Rattle.tree_rules.specs.Known.{KnowsCharge}
+use Rattle.head_rules.specs.Charged.{handed}
+use Rattle.head_rules.specs.Head as heads
+use Rattle.head_rules.specs.Head.{HeadLine}
+use Rattle.head_rules.specs.Known.{KnowsLine}
 use Rattle.tree_text_rules.specs.Line.{Token, Line, is_formed, word_text, word_of, fields_of}
 use Rattle.tree_text_rules.specs.LineRead.{formed, one, two, one_and_more, step_by, formed_step}
 use Rattle.tree_text_rules.specs.LineRead.{step_read, open_of, end_by, end_line_read, some_units}
 use Rattle.tree_text_rules.specs.LineRead.{set_of, set_beside, cover_by, formed_cover, cover_read}
-use Rattle.tree_text_rules.specs.LineRead.{option_by, option_read, root_by, root_read}
+use Rattle.tree_text_rules.specs.LineRead.{cap_of, out_of, head_step, head_by, formed_head}
+use Rattle.tree_text_rules.specs.LineRead.{head_read, option_by, option_read, root_by, root_read}
 use Rattle.tree_text_rules.specs.Read.{with_covers, charge_end}
 use Rattle.tree_text_rules.specs.Spelling.{unit_name, material_name, exclusion_name, step_line}
-use Rattle.tree_text_rules.specs.Spelling.{end_line, set_line, cover_line, option_line}
+use Rattle.tree_text_rules.specs.Spelling.{end_line, set_line, cover_line, front_line}
+use Rattle.tree_text_rules.specs.Spelling.{option_line}
 use Rattle.tree_text_rules.specs.Token.{both, mapped, each, weight_of, unit_of, material_of}
 use Rattle.tree_text_rules.specs.Token.{exclusion_of, units_of, number_of, children_of}
 use Rattle.tree_text_rules.specs.declared.TreeKind.{TreeKind}
 use Rattle.tree_text_rules.specs.declared.Word.{Word}
 use Rattle.tree_text_rules.specs.declared.Word.TheVariants as words
 use Rattle.tree_text_laws.specs.LineFits.{IsSomeCount, IsWeight, FitsEnd, FitsEndLine}
+use Rattle.tree_text_laws.specs.LineFits.{FitsFrontLine}
 use Rattle.tree_text_laws.proofs.Codes.{done, done_is, mapped_ok, both_ok, formed_ok, formed_again}
 use Rattle.tree_text_laws.proofs.Codes.{alone_ok, AreFields, one_fields, two_fields, each_fields}
 use Rattle.tree_text_laws.proofs.Codes.{more_fields, line_by, line_is}
@@ -614,6 +622,205 @@ module _ (p : Problem) (good : IsWellFormed p) where
   option_no_set us set =
       no_set words.Node (map (unit_name p) us) ((units_fields p good).tokens us set)
       (λ tokens. refl)
+
+  -- ---- lines of the head of a tree
+
+  abbrev front_word : HeadLine → Word
+  front_word (heads.step s) = step_word s
+  front_word (heads.cap u v d ys covers) = words.Cap
+  front_word (heads.out u d ys covers) = words.Out
+  front_word (heads.trim u) = words.Trim
+
+  abbrev front_fields : HeadLine → List Token
+  front_fields (heads.step s) = step_fields s
+  front_fields (heads.cap u v d ys covers) =
+      unit_name p u ∷ signed_decimal v ∷ signed_decimal d ∷ map signed_decimal ys
+  front_fields (heads.out u d ys covers) =
+      unit_name p u ∷ signed_decimal d ∷ map signed_decimal ys
+  front_fields (heads.trim u) = unit_name p u ∷ []
+
+  front_is : (l : HeadLine) → word_text (front_word l) ∷ front_fields l ≡ front_line p l
+  front_is (heads.step s) = step_is s
+  front_is (heads.cap u v d ys covers) = refl
+  front_is (heads.out u d ys covers) = refl
+  front_is (heads.trim u) = refl
+
+  front_tokens : (l : HeadLine) → KnowsLine p l → Each IsToken (front_fields l)
+  front_tokens (heads.step s) known = step_tokens s known
+  front_tokens (heads.cap u v d ys covers) known = (
+    (unit_code p good).token u known.0,
+    (
+      weight_code.token v known.1,
+      bounding.tokens (d, ys) (known.2.scale, all_each ys known.2.multipliers),
+    ),
+  )
+  front_tokens (heads.out u d ys covers) known = (
+    (unit_code p good).token u known.0,
+    bounding.tokens (d, ys) (known.1.scale, all_each ys known.1.multipliers),
+  )
+  front_tokens (heads.trim u) known = one_unit.tokens u known
+
+  pub front_line_tokens : (l : HeadLine) → KnowsLine p l → Each IsToken (front_line p l)
+  front_line_tokens l known =
+      subst (λ (ts : List Token). Each IsToken ts) (front_is l)
+      (word_is_token (front_word l), front_tokens l known)
+
+  -- the word and the tokens after it are those of the line
+  abbrev SpellsFront : Option Word → List Token → HeadLine → Type 0
+  SpellsFront word tokens l = (word ≡ Some (front_word l)) × (tokens ≡ front_fields l)
+      × FitsFrontLine p l
+
+  bare_charge : (d : ℤ) (ys : List ℤ) → InRange d → Each InRange ys
+      → KnowsCharge p (handed d ys [])
+  bare_charge d ys r each =
+      record { scale = r; multipliers = each_all ys each; few = omega arith; covers = tt }
+
+  cap_back : (tokens : List Token) (l : HeadLine) → cap_of p tokens ≡ Ok l
+      → SpellsFront (Some words.Cap) tokens l
+  cap_back [] l e = absurd cc
+  cap_back (token ∷ []) l e = absurd cc
+  cap_back (token ∷ size ∷ tokens) l e =
+      let behind : Result (ℤ × List ℤ) TreeKind = one_and_more number_of number_of tokens in
+      let sized : Result (ℤ × (ℤ × List ℤ)) TreeKind = both (weight_of size) behind in
+      let m =
+      mapped_ok (λ (found : ℕ × (ℤ × (ℤ × List ℤ))). heads.cap found.0 found.1.0 found.1.1.0
+      found.1.1.1 []) (both (unit_of p token) sized) l e in
+      let b = both_ok (unit_of p token) sized m.0 m.1 in
+      let n = both_ok (weight_of size) behind m.0.1 b.1 in
+      let u = (unit_code p good).back token m.0.0 b.0 in
+      let w = weight_code.back size m.0.1.0 n.0 in
+      let r = bounding.back tokens m.0.1.1 n.1 in
+      subst (λ (x : HeadLine). SpellsFront (Some words.Cap) (token ∷ size ∷ tokens) x) m.2 (
+        refl,
+        ap₂ (λ (t : Token) (ts : List Token). t ∷ ts) u.0
+            (ap₂ (λ (t : Token) (ts : List Token). t ∷ ts) w.0 r.0),
+        record {
+          known = (u.1, w.1, bare_charge m.0.1.1.0 m.0.1.1.1 r.1.0 r.1.1);
+          bare = refl;
+        },
+      )
+
+  out_back : (tokens : List Token) (l : HeadLine) → out_of p tokens ≡ Ok l
+      → SpellsFront (Some words.Out) tokens l
+  out_back [] l e = absurd cc
+  out_back (token ∷ tokens) l e =
+      let behind : Result (ℤ × List ℤ) TreeKind = one_and_more number_of number_of tokens in
+      let m =
+      mapped_ok (λ (found : ℕ × (ℤ × List ℤ)). heads.out found.0 found.1.0 found.1.1 [])
+      (both (unit_of p token) behind) l e in
+      let b = both_ok (unit_of p token) behind m.0 m.1 in
+      let u = (unit_code p good).back token m.0.0 b.0 in
+      let r = bounding.back tokens m.0.1 b.1 in
+      subst (λ (x : HeadLine). SpellsFront (Some words.Out) (token ∷ tokens) x) m.2 (
+        refl,
+        ap₂ (λ (t : Token) (ts : List Token). t ∷ ts) u.0 r.0,
+        record { known = (u.1, bare_charge m.0.1.0 m.0.1.1 r.1.0 r.1.1); bare = refl },
+      )
+
+  step_front : (word : Option Word) (tokens : List Token) (o : Option (Result nodes.Step TreeKind))
+      → step_by p word tokens ≡ o → (r : Result HeadLine TreeKind) → head_step o ≡ Some r
+      → (l : HeadLine) → r ≡ Ok l → SpellsFront word tokens l
+  step_front word tokens None is r e l f = absurd cc
+  step_front word tokens (Some read) is r e l f =
+      let m = mapped_ok heads.step read l (some_is (mapped heads.step read) r e ∙ f) in
+      let b = by_back word tokens read is m.0 m.1 in
+      subst (λ (x : HeadLine). SpellsFront word tokens x) m.2
+      (b.0, b.1, record { known = b.2; bare = refl })
+
+  front_by_back : (word : Option Word) (tokens : List Token) (r : Result HeadLine TreeKind)
+      → head_by p word tokens ≡ Some r → (l : HeadLine) → r ≡ Ok l → SpellsFront word tokens l
+  front_by_back (Some words.Cap) tokens r e l f =
+      cap_back tokens l (some_is (cap_of p tokens) r e ∙ f)
+  front_by_back (Some words.Out) tokens r e l f =
+      out_back tokens l (some_is (out_of p tokens) r e ∙ f)
+  front_by_back (Some words.Trim) tokens r e l f =
+      mapped_back heads.trim (one (unit_of p)) (λ u. unit_name p u ∷ []) (IsUnit p) one_unit
+      (SpellsFront (Some words.Trim) tokens) tokens
+      (λ u is known. (refl, is, record { known = known; bare = refl })) l
+      (some_is (mapped heads.trim (one (unit_of p) tokens)) r e ∙ f)
+  front_by_back word tokens r e l f =
+      step_front word tokens (step_by p word tokens) refl r e l f
+
+  at_front : (line : Line) (o : Option (Result HeadLine TreeKind)) (l : HeadLine)
+      → head_by p (word_of line) (fields_of line) ≡ o → formed_head line o ≡ Some (Ok l)
+      → (line ≡ line_of (front_line p l)) × FitsFrontLine p l
+  at_front line None l e f = absurd cc
+  at_front line (Some r) l e f =
+      let g = formed_ok line r l (some_is (formed line r) (done l) f) in
+      let b = front_by_back (word_of line) (fields_of line) r e l g.1 in
+      (line_is line (front_word l) (front_fields l) g.0 b.0 b.1 ∙ ap line_of (front_is l), b.2)
+
+  pub front_back : (line : Line) (l : HeadLine) → head_read p line ≡ Some (Ok l)
+      → (line ≡ line_of (front_line p l)) × FitsFrontLine p l
+  front_back line l e = at_front line (head_by p (word_of line) (fields_of line)) l refl e
+
+  step_by_again : (s : nodes.Step) → KnowsStep p s
+      → head_by p (Some (step_word s)) (step_fields s) ≡ Some (Ok (heads.step s))
+  step_by_again (nodes.raw u) known = ap head_step (by_again (nodes.raw u) known)
+  step_by_again (nodes.rival u) known = ap head_step (by_again (nodes.rival u) known)
+  step_by_again (nodes.starve x) known = ap head_step (by_again (nodes.starve x) known)
+  step_by_again (nodes.loose us) known = ap head_step (by_again (nodes.loose us) known)
+  step_by_again (nodes.sole x u) known = ap head_step (by_again (nodes.sole x u) known)
+
+  front_by_again : (l : HeadLine) → FitsFrontLine p l
+      → head_by p (Some (front_word l)) (front_fields l) ≡ Some (Ok l)
+  front_by_again (heads.step s) f = step_by_again s f.known
+  front_by_again (heads.cap u v d ys covers) f =
+      ap₂ (λ (r : Result ℕ TreeKind) (s : Result (ℤ × (ℤ × List ℤ)) TreeKind). Some
+      (mapped (λ (found : ℕ × (ℤ × (ℤ × List ℤ))). heads.cap found.0 found.1.0 found.1.1.0
+      found.1.1.1 []) (both r s)))
+      ((unit_code p good).again u f.known.0)
+      (ap₂ (λ (r : Result ℤ TreeKind) (s : Result (ℤ × List ℤ) TreeKind). both r s)
+      (weight_code.again v f.known.1)
+      (bounding.again (d, ys) (f.known.2.scale, all_each ys f.known.2.multipliers)))
+      ∙ ap (λ (cs : List Cover). Some (done (heads.cap u v d ys cs))) (sym f.bare)
+  front_by_again (heads.out u d ys covers) f =
+      ap₂ (λ (r : Result ℕ TreeKind) (s : Result (ℤ × List ℤ) TreeKind). Some
+      (mapped (λ (found : ℕ × (ℤ × List ℤ)). heads.out found.0 found.1.0 found.1.1 [])
+      (both r s)))
+      ((unit_code p good).again u f.known.0)
+      (bounding.again (d, ys) (f.known.1.scale, all_each ys f.known.1.multipliers))
+      ∙ ap (λ (cs : List Cover). Some (done (heads.out u d ys cs))) (sym f.bare)
+  front_by_again (heads.trim u) f =
+      ap (λ (r : Result ℕ TreeKind). Some (mapped heads.trim r)) (one_unit.again u f.known)
+
+  pub front_again : (l : HeadLine) → FitsFrontLine p l
+      → head_read p (line_of (front_line p l)) ≡ Some (Ok l)
+  front_again l f =
+      let line : Line = line_of (word_text (front_word l) ∷ front_fields l) in
+      let says = says_word (front_word l) (front_fields l) (front_tokens l f.known) in
+      ap (λ (ts : List Token). head_read p (line_of ts)) (sym (front_is l))
+      ∙ ap₂ (λ (w : Option Word) (ts : List Token). formed_head line (head_by p w ts)) says.word_is
+      says.fields_are
+      ∙ ap (formed_head line) (front_by_again l f)
+      ∙ ap (λ (r : Result HeadLine TreeKind). Some r) (formed_again line (done l) says.formed)
+
+  front_by_none : (l : HeadLine) (tokens : List Token)
+      → cover_by p (Some (front_word l)) tokens ≡ None
+  front_by_none (heads.step (nodes.raw u)) tokens = refl
+  front_by_none (heads.step (nodes.rival u)) tokens = refl
+  front_by_none (heads.step (nodes.starve x)) tokens = refl
+  front_by_none (heads.step (nodes.loose us)) tokens = refl
+  front_by_none (heads.step (nodes.sole x u)) tokens = refl
+  front_by_none (heads.cap u v d ys covers) tokens = refl
+  front_by_none (heads.out u d ys covers) tokens = refl
+  front_by_none (heads.trim u) tokens = refl
+
+  -- a line of a head is no set
+  pub front_no_set : (l : HeadLine) → KnowsLine p l
+      → cover_read p (line_of (front_line p l)) ≡ None
+  front_no_set l known =
+      ap (λ (ts : List Token). cover_read p (line_of ts)) (sym (front_is l))
+      ∙ no_set (front_word l) (front_fields l) (front_tokens l known) (front_by_none l)
+
+  -- a node's line is no line of a head
+  pub option_no_front : (us : List ℕ) → AreUnits p us
+      → head_read p (line_of (option_line p us)) ≡ None
+  option_no_front us set =
+      let line : Line = line_of (option_line p us) in
+      let says =
+      says_word words.Node (map (unit_name p) us) ((units_fields p good).tokens us set) in
+      ap (λ (w : Option Word). formed_head line (head_by p w (fields_of line))) says.word_is
 
   -- ---- options and the root
 

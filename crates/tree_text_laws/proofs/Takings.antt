@@ -1,6 +1,6 @@
 -- What is taken of a text, with the number of the line after it.
-use Rattle.std.proofs.Common.{◌≡◌, ◌+◌, ℕ, suc, List, [], ◌∷◌, ◌++◌, length, map, Result, Ok, sym}
-use Rattle.std.proofs.Common.{◌∙◌, ap, arith, length-append}
+use Rattle.std.proofs.Common.{◌≡◌, ◌+◌, ℕ, suc, List, [], ◌∷◌, ◌++◌, length, map, None, Result, Ok}
+use Rattle.std.proofs.Common.{sym, ◌∙◌, ap, arith, length-append}
 use Rattle.std.proofs.lemmas.List.{length-map}
 use Rattle.problem_rules.specs.Problem.{Problem}
 use Rattle.problem_rules.specs.WellFormed.{IsWellFormed}
@@ -10,16 +10,23 @@ use Rattle.tree_rules.specs.Claim as claims
 use Rattle.tree_rules.specs.Accepted.{Tree}
 use Rattle.tree_text_rules.specs.Line.{Token, Line}
 use Rattle.tree_text_rules.specs.Read.{Fault, Taken, network_taken, claim_taken, end_taken}
-use Rattle.tree_text_rules.specs.Read.{tree_taken, tail_taken, rest_taken}
+use Rattle.tree_text_rules.specs.Read.{front_taken, tree_taken, tail_taken, rest_taken}
+use Rattle.tree_text_rules.specs.Read.{headed_rest_taken}
 use Rattle.tree_text_rules.specs.Spelling.{step_line, cover_line, covers_in, end_with_sets}
 use Rattle.tree_text_rules.specs.Spelling.{node_lines, network_lines, claim_lines, tree_lines}
-use Rattle.tree_text_rules.specs.Spelling.{tail_lines, rest_lines}
+use Rattle.tree_text_rules.specs.Spelling.{front_lines, tail_lines, rest_lines}
+use Rattle.tree_text_rules.specs.Spelling.{headed_rest_lines}
+use Rattle.head_rules.specs.Known.{KnowsHead}
 use Rattle.tree_text_laws.specs.LineFits.{FitsEnd}
 use Rattle.tree_text_laws.specs.Fits.{FitsNetwork, FitsClaim, FitsTree, FitsTail, Fits}
+use Rattle.tree_text_laws.specs.Fits.{FitsHeaded}
 use Rattle.tree_text_laws.specs.Lines.{lines_said, TakesJust, TakesBefore, ReadsJust, BeginsNoSet}
+use Rattle.tree_text_laws.specs.Lines.{BeginsNoFront}
 use Rattle.tree_text_laws.proofs.Claims.{network_back, network_again, claim_back, claim_again}
 use Rattle.tree_text_laws.proofs.Claims.{behind_claim}
 use Rattle.tree_text_laws.proofs.Ends.{end_back, end_again}
+use Rattle.tree_text_laws.proofs.Fronts.{front_took, front_takes}
+use Rattle.tree_text_laws.proofs.HeadedText.{headed_back, headed_again}
 use Rattle.tree_text_laws.proofs.Nodes.{counted_so, tree_back, tree_again, behind_tree}
 use Rattle.tree_text_laws.proofs.Nodes.{behind_nodes, behind_steps, behind_sets}
 use Rattle.tree_text_laws.proofs.Parts.{good, good_is}
@@ -144,6 +151,14 @@ module _ (p : Problem) (formed : IsWellFormed p) where
     fits = λ number lines taken e. (tree_back p formed number lines taken e).fits;
   }
 
+  pub heads_taken : TakesBefore (BeginsNoFront p) (front_taken p None) (front_lines p) (KnowsHead p)
+  heads_taken = record {
+    takes = λ head number behind fits stops. front_takes p formed head number behind fits stops;
+    lines_are = λ number lines taken e. (front_took p formed number lines taken e).lines_are;
+    number_is = λ number lines taken e. (front_took p formed number lines taken e).number_is;
+    fits = λ number lines taken e. (front_took p formed number lines taken e).known;
+  }
+
   pub tails_read : ReadsJust (tail_taken p) (tail_lines p) (FitsTail p)
   tails_read = record {
     reads = λ tail number fits. tail_again p formed tail number fits;
@@ -156,4 +171,12 @@ module _ (p : Problem) (formed : IsWellFormed p) where
     reads = λ c number fits. rest_again p formed number c fits;
     lines_are = λ number lines c e. (rest_back p formed number lines c e).0;
     fits = λ number lines c e. (rest_back p formed number lines c e).1;
+  }
+
+  pub headed_rests_read : ReadsJust (headed_rest_taken p)
+      (λ c. headed_rest_lines p c.claim c.head c.tree c.tail) (FitsHeaded p)
+  headed_rests_read = record {
+    reads = λ c number fits. headed_again p formed number c fits;
+    lines_are = λ number lines c e. (headed_back p formed number lines c e).0;
+    fits = λ number lines c e. (headed_back p formed number lines c e).1;
   }

@@ -33,7 +33,7 @@ use Rattle.tree_text_laws.proofs.Tails.{tail_back, tail_again, tail_no_set, tail
 abbrev type_done : Unit {0} → Result (Unit {0}) TreeKind
 type_done u = Ok u
 
-type_ok : (line : Line) (u : Unit {0}) → file_type_read line ≡ Ok u
+pub type_ok : (line : Line) (u : Unit {0}) → file_type_read line ≡ Ok u
     → line ≡ line_of (file_type ∷ [])
 type_ok line u e = at line.ended (bytes_eq line.text file_type) refl refl e where
   at : (a b : Bool) → line.ended ≡ a → bytes_eq line.text file_type ≡ b

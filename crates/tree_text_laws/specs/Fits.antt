@@ -8,7 +8,8 @@ use Rattle.tree_rules.specs.Claim as claims
 use Rattle.tree_rules.specs.Known.{AreUnits, KnowsClaim, KnowsStep, KnowsTree, KnowsTail}
 use Rattle.branch_tree.specs.Sized.{IsKept}
 use Rattle.tree_rules.specs.Tail as tails
-use Rattle.tree_text_rules.specs.Read.{Certificate, Head}
+use Rattle.head_rules.specs.Known.{KnowsHead}
+use Rattle.tree_text_rules.specs.Read.{Certificate, HeadedCertificate, Head}
 use Rattle.tree_text_laws.specs.LineFits.{IsCount, IsOptionCount, CountsEnd, CountsPlace}
 
 abbrev pub CountsTree : Tree → Type 0
@@ -49,5 +50,11 @@ pub record FitsTail (p : Problem) (tail : tails.Tail) : Type 0 where
 
 pub record Fits (p : Problem) (c : Certificate) : Type 0 where
   pub claim : FitsClaim p c.claim
+  pub tree : FitsTree p c.tree
+  pub tail : FitsTail p c.tail
+
+pub record FitsHeaded (p : Problem) (c : HeadedCertificate) : Type 0 where
+  pub claim : FitsClaim p c.claim
+  pub head : KnowsHead p c.head
   pub tree : FitsTree p c.tree
   pub tail : FitsTail p c.tail

@@ -10,7 +10,9 @@ use Rattle.tree_rules.specs.Ways as ways
 use Rattle.tree_rules.specs.Tree as trees
 use Rattle.tree_rules.specs.Leaf as leaves
 use Rattle.tree_rules.specs.Known.{KnowsEnd, KnowsPlace}
-use Rattle.tree_text_rules.specs.Spelling.{covers_in}
+use Rattle.head_rules.specs.Head.{HeadLine}
+use Rattle.head_rules.specs.Known.{KnowsLine}
+use Rattle.tree_text_rules.specs.Spelling.{covers_in, sets_in}
 
 -- the number of a node or of a step, or how many children a branch has
 abbrev pub IsCount : ℕ → Type 0
@@ -49,6 +51,11 @@ pub record FitsEnd (p : Problem) (end : trees.End leaves.Leaf) : Type 0 where
 pub record FitsEndLine (p : Problem) (end : trees.End leaves.Leaf) : Type 0 where
   pub fits : FitsEnd p end
   pub bare : covers_in end ≡ []
+
+-- a line of a head that its first line says whole
+pub record FitsFrontLine (p : Problem) (line : HeadLine) : Type 0 where
+  pub known : KnowsLine p line
+  pub bare : sets_in line ≡ []
 
 abbrev pub CountsPlace : Place → Type 0
 CountsPlace (places.Entry leave enter row column which) = Unit {0}

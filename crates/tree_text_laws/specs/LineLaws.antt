@@ -9,20 +9,22 @@ use Rattle.pns_rules.specs.Nodes.{Step}
 use Rattle.charge_rules.specs.Cover.{Cover}
 use Rattle.tree_rules.specs.Known.{IsUnit, IsMaterial, IsExclusion, AreUnits, KnowsStep, KnowsCover}
 use Rattle.tree_rules.specs.Known.{KnowsColumn, KnowsRow}
+use Rattle.head_rules.specs.Head.{HeadLine}
 use Rattle.tree_text_rules.specs.Line.{Token, Line, lines_of, word_text}
-use Rattle.tree_text_rules.specs.LineRead.{step_read, end_line_read, cover_read, option_read}
-use Rattle.tree_text_rules.specs.LineRead.{root_read, network_line_read, sizes_read, cost_read}
-use Rattle.tree_text_rules.specs.LineRead.{nonbasic_read, place_read, close_read}
+use Rattle.tree_text_rules.specs.LineRead.{step_read, end_line_read, cover_read, head_read}
+use Rattle.tree_text_rules.specs.LineRead.{option_read, root_read, network_line_read, sizes_read}
+use Rattle.tree_text_rules.specs.LineRead.{cost_read, nonbasic_read, place_read, close_read}
 use Rattle.tree_text_rules.specs.Spelling.{unit_name, material_name, exclusion_name, step_line}
-use Rattle.tree_text_rules.specs.Spelling.{end_line, cover_line, option_line, column_text, row_text}
-use Rattle.tree_text_rules.specs.Spelling.{which_text, flow_text, place_fields, text_of}
+use Rattle.tree_text_rules.specs.Spelling.{end_line, cover_line, front_line, option_line}
+use Rattle.tree_text_rules.specs.Spelling.{column_text, row_text, which_text, flow_text}
+use Rattle.tree_text_rules.specs.Spelling.{place_fields, text_of}
 use Rattle.tree_text_rules.specs.Token.{unit_of, material_of, exclusion_of, number_of}
 use Rattle.tree_text_rules.specs.Token.{denominator_of, count_of, children_of, options_of}
 use Rattle.tree_text_rules.specs.Token.{column_of, row_of, which_of, flow_of}
 use Rattle.tree_text_rules.specs.declared.Word.TheVariants as words
 use Rattle.tree_text_laws.specs.Codes.{IsToken, line_of, IsCode, IsLineCode}
 use Rattle.tree_text_laws.specs.LineFits.{IsCount, IsSomeCount, IsOptionCount, IsDenominator}
-use Rattle.tree_text_laws.specs.LineFits.{FitsSizes, FitsEndLine, FitsPlace}
+use Rattle.tree_text_laws.specs.LineFits.{FitsSizes, FitsEndLine, FitsFrontLine, FitsPlace}
 
 -- any value fits
 abbrev pub Any : {A : Type 0} → A → Type 0
@@ -81,6 +83,10 @@ pub record ReadsNodeLines (p : Problem) : Type 0 where
       → (line ≡ line_of (cover_line p c)) × KnowsCover p c
   pub set_again : (c : Cover) → KnowsCover p c
       → cover_read p (line_of (cover_line p c)) ≡ Some (Ok c)
+  pub front_back : (line : Line) (l : HeadLine) → head_read p line ≡ Some (Ok l)
+      → (line ≡ line_of (front_line p l)) × FitsFrontLine p l
+  pub front_again : (l : HeadLine) → FitsFrontLine p l
+      → head_read p (line_of (front_line p l)) ≡ Some (Ok l)
 
 abbrev pub NodeLinesAreRead : Type 0
 NodeLinesAreRead = (p : Problem) → IsValid p → ReadsNodeLines p

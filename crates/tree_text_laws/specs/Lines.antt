@@ -2,7 +2,7 @@
 use Rattle.std.specs.Prelude.{◌≡◌, ◌+◌, ℕ, List, [], ◌∷◌, ◌++◌, length, map, None, Result, Ok}
 use Rattle.problem_rules.specs.Problem.{Problem}
 use Rattle.tree_text_rules.specs.Line.{Token, Line}
-use Rattle.tree_text_rules.specs.LineRead.{step_read, cover_read}
+use Rattle.tree_text_rules.specs.LineRead.{step_read, cover_read, head_read}
 use Rattle.tree_text_rules.specs.Read.{Fault, Taken}
 use Rattle.tree_text_laws.specs.Codes.{line_of}
 
@@ -48,6 +48,11 @@ pub record ReadsJust {A : Type 0} (read : ℕ → List Line → Result A Fault)
 abbrev pub BeginsNoSet : Problem → List Line → Type 0
 BeginsNoSet p [] = Unit {0}
 BeginsNoSet p (line ∷ lines) = cover_read p line ≡ None
+
+-- the first line, where there is one, is no line of a head, and no set of one
+abbrev pub BeginsNoFront : Problem → List Line → Type 0
+BeginsNoFront p [] = Unit {0}
+BeginsNoFront p (line ∷ lines) = (head_read p line ≡ None) × (cover_read p line ≡ None)
 
 -- the first line, where there is one, is no step
 abbrev pub BeginsNoStep : Problem → List Line → Type 0

@@ -2,12 +2,12 @@
 -- least number.
 use Rattle.std.proofs.Common.{List, [], ◌∷◌, codes, refl, ℕ}
 use Rattle.tree_text_rules.specs.Line.{word_named}
-use Rattle.tree_text_rules.specs.Read.{nodes_taken}
+use Rattle.tree_text_rules.specs.Read.{front_taken, nodes_taken}
 use Rattle.tree_text_rules.specs.declared.TreeKind.{TreeKind}
 use Rattle.tree_text_rules.specs.declared.TreeKind.TheVariants.{BadLine, UnknownName, BadNumber}
 use Rattle.tree_text_rules.specs.declared.TreeKind.TheVariants.{Order, WrongCount, MoreNodes}
 use Rattle.tree_text_rules.specs.declared.TreeKind.TheVariants.{FewerNodes}
-use Rattle.tree_text_rules.proofs.Plant.{Told}
+use Rattle.tree_text_rules.proofs.Plant.{Told, ToldHeaded}
 
 -- at the place of a step or an end
 parts : List (List ℕ × TreeKind)
@@ -61,6 +61,9 @@ parts =
     (codes "charge 1 -0", BadNumber) ∷
     (codes "some 1 U1", BadLine) ∷
     (codes "with 1 U1 U2", BadLine) ∷
+    (codes "cap U1 1 0", BadLine) ∷
+    (codes "out U1 0", BadLine) ∷
+    (codes "trim U1", BadLine) ∷
     (codes "refuted 1.5", BadNumber) ∷
     (codes "refuted -", BadNumber) ∷
     []
@@ -165,11 +168,77 @@ thirds_told = refl
 -- at the place of the root's line
 roots : List (List ℕ × TreeKind)
 roots = (codes "node U1", BadLine) ∷ (codes "node Q", BadLine) ∷ (codes "end", FewerNodes)
-    ∷ (codes "open", BadLine) ∷ []
+    ∷ (codes "open", BadLine) ∷ (codes "trim U1", BadLine) ∷ (codes "raw U1", BadLine) ∷ []
 
 roots_told : Told (codes "unknown" ∷ []) (codes "open" ∷ codes "end" ∷ []) 3 roots
 unfolding roots word_named nodes_taken
 roots_told = refl
+
+-- before the root's line in a text with a head: a line of the head, or the root's line
+fronts : List (List ℕ × TreeKind)
+fronts =
+    (codes "cap", BadLine) ∷
+    (codes "cap U1 5", BadLine) ∷
+    (codes "cap Q 1", BadLine) ∷
+    (codes "cap  U1 1 1", BadLine) ∷
+    (codes "cap Q -1 1", UnknownName) ∷
+    (codes "cap A 1 1", UnknownName) ∷
+    (codes "cap U1 -1 1", BadNumber) ∷
+    (codes "cap U1 01 1", BadNumber) ∷
+    (codes "cap U1 1 x", BadNumber) ∷
+    (codes "cap U1 1 1 -0", BadNumber) ∷
+    (codes "out", BadLine) ∷
+    (codes "out U1", BadLine) ∷
+    (codes "out Q 1", UnknownName) ∷
+    (codes "out U1 x", BadNumber) ∷
+    (codes "trim", BadLine) ∷
+    (codes "trim U1 U2", BadLine) ∷
+    (codes "trim Q", UnknownName) ∷
+    (codes "raw Q", UnknownName) ∷
+    (codes "loose U2 U1", Order) ∷
+    (codes "some 1 U1", BadLine) ∷
+    (codes "with 1 U1 U2", BadLine) ∷
+    (codes "node U1", BadLine) ∷
+    (codes "open", BadLine) ∷
+    (codes "spent 0 1", FewerNodes) ∷
+    []
+
+fronts_told : ToldHeaded (codes "unknown" ∷ []) (codes "node" ∷ codes "open" ∷ codes "end" ∷ []) 3
+    fronts
+unfolding fronts word_named front_taken nodes_taken
+fronts_told = refl
+
+-- after a cap a set may come too
+front_sets : List (List ℕ × TreeKind)
+front_sets =
+    (codes "some", BadLine) ∷
+    (codes "some 1 Q", UnknownName) ∷
+    (codes "some -1 U1", BadNumber) ∷
+    (codes "some 1 U2 U1", Order) ∷
+    (codes "with 1 U1", BadLine) ∷
+    (codes "cap Q 1 1", UnknownName) ∷
+    (codes "rival Q", UnknownName) ∷
+    (codes "open", BadLine) ∷
+    (codes "node U1", BadLine) ∷
+    (codes "end", FewerNodes) ∷
+    []
+
+front_sets_told : ToldHeaded (codes "unknown" ∷ codes "cap U1 1 0" ∷ codes "some 1 U1" ∷ [])
+    (codes "node" ∷ codes "open" ∷ codes "end" ∷ []) 5 front_sets
+unfolding front_sets word_named front_taken nodes_taken
+front_sets_told = refl
+
+-- but not after a trim
+no_sets : List (List ℕ × TreeKind)
+no_sets =
+    (codes "some 1 U1", BadLine) ∷
+    (codes "with 1 U1 U2", BadLine) ∷
+    []
+
+no_sets_told : ToldHeaded (codes "unknown" ∷ codes "trim U1" ∷ [])
+    (codes "node" ∷ codes "open" ∷ codes "end" ∷ []) 4 no_sets
+unfolding no_sets word_named front_taken nodes_taken
+no_sets_told = refl
 
 -- at the place of the sizes
 sizes : List (List ℕ × TreeKind)

@@ -2,7 +2,7 @@
 use Rattle.std.proofs.Common.{◌≡◌, ◌++◌, ℕ, pos, List, [], ◌∷◌, map, flat_map, codes, Err}
 use Rattle.problem_rules.specs.Problem.{Problem, Material, OperatingUnit, intermediate}
 use Rattle.tree_text_rules.specs.declared.TreeKind.{TreeKind}
-use Rattle.tree_text_rules.specs.Read.{Fault, read_text}
+use Rattle.tree_text_rules.specs.Read.{Fault, read_text, read_headed_text}
 
 abbrev material : List ℕ → Material
 material name =
@@ -46,4 +46,10 @@ First rows = map (λ row. read_text plant (row.0)) rows ≡ map (λ row. Err (ro
 abbrev pub Told : List (List ℕ) → List (List ℕ) → ℕ → List (List ℕ × TreeKind) → Type 0
 Told front back number rows =
     map (λ row. read_text plant (body (front ++ row.0 ∷ back))) rows
+    ≡ map (λ row. Err (number, row.1)) rows
+
+-- the same of texts in which a head may come
+abbrev pub ToldHeaded : List (List ℕ) → List (List ℕ) → ℕ → List (List ℕ × TreeKind) → Type 0
+ToldHeaded front back number rows =
+    map (λ row. read_headed_text plant (body (front ++ row.0 ∷ back))) rows
     ≡ map (λ row. Err (number, row.1)) rows

@@ -16,9 +16,11 @@ use Rattle.tree_rules.specs.Leaf.{Leaf, dead, clash, refuted, bounded, charged, 
 use Rattle.tree_rules.specs.Claim.{Claim, network, infeasible, unknown}
 use Rattle.tree_rules.specs.Accepted.{Tree}
 use Rattle.tree_rules.specs.Tail.{whole, spent, past}
-use Rattle.tree_text_rules.specs.Spelling.{tree_text}
+use Rattle.head_rules.specs.Head.{HeadLine, step, cap, out, trim}
+use Rattle.tree_text_rules.specs.Spelling.{tree_text, headed_text}
 use Rattle.tree_text_rules.specs.Line.{word_named}
-use Rattle.tree_text_rules.specs.Read.{Certificate, read_text, nodes_taken}
+use Rattle.tree_text_rules.specs.Read.{Certificate, read_text, nodes_taken, front_taken}
+use Rattle.tree_text_rules.specs.Read.{HeadedCertificate, read_headed_text}
 use Rattle.tree_text_rules.proofs.Plant.{plant, body}
 
 -- a text stands for this, and this has that text
@@ -191,6 +193,73 @@ charges_text = body (
 charges_are : IsTextOf charges_text (record { claim = halves_claim; tree = charges; tail = whole })
 unfolding digits nodes_taken word_named
 charges_are = (refl, refl)
+
+-- a text with a head stands for this, and this has that text
+abbrev IsHeadedTextOf : List ℕ → HeadedCertificate → Type 0
+IsHeadedTextOf text c =
+    (read_headed_text plant text ≡ Ok c)
+    × (headed_text plant c.claim c.head c.tree c.tail ≡ text)
+
+-- the trees above have no head
+no_head : IsHeadedTextOf charges_text
+    (record { claim = halves_claim; head = []; tree = charges; tail = whole })
+unfolding digits front_taken nodes_taken word_named
+no_head = (refl, refl)
+
+-- the same tree as one node after a head: with trims alone, as `head_rules` has it worked out,
+-- and with each form of a line
+abbrev trims : List HeadLine
+trims = step (sole 5 3) ∷ trim 3 ∷ trim 0 ∷ trim 1 ∷ trim 2 ∷ []
+
+abbrev charged_root : Tree
+charged_root = charge_leaf []
+    (record {
+      d = pos 1;
+      ys = pos 0 ∷ pos 0 ∷ pos 3000000 ∷ pos 3000000 ∷ [];
+      covers = [];
+    })
+    ∷ []
+
+abbrev one_node : List (List ℕ) → List ℕ
+one_node head = body (
+    codes "network U3 U4"
+    ∷ codes "sizes 1 20000000 20000000"
+    ∷ codes "cost 65000000000000000000"
+    ∷ (head ++ codes "node" ∷ codes "charge 1 0 0 3000000 3000000" ∷ codes "end" ∷ [])
+    )
+
+abbrev headed : List HeadLine → HeadedCertificate
+headed head = record { claim = halves_claim; head = head; tree = charged_root; tail = whole }
+
+trims_are : IsHeadedTextOf
+    (one_node (codes "sole P U4" ∷ codes "trim U4" ∷ codes "trim U1" ∷ codes "trim U2"
+    ∷ codes "trim U3" ∷ []))
+    (headed trims)
+unfolding digits front_taken nodes_taken word_named
+trims_are = (refl, refl)
+
+lines_are : IsHeadedTextOf
+    (one_node (codes "cap U2 1000000 1 0 -1"
+    ∷ codes "some 1000000000000000000 U1 U2"
+    ∷ codes "with 0 U4 U3"
+    ∷ codes "cap U1 0 0"
+    ∷ codes "out U1 1 0 2"
+    ∷ codes "some 1000000000000000000 U1 U2"
+    ∷ codes "loose U1"
+    ∷ codes "out U5 -1"
+    ∷ codes "trim U4"
+    ∷ codes "starve E"
+    ∷ []))
+    (headed (cap 1 (pos 1000000) (pos 1) (pos 0 ∷ negsuc 0 ∷ []) (one_set ∷ set_beside ∷ [])
+    ∷ cap 0 (pos 0) (pos 0) [] []
+    ∷ out 0 (pos 1) (pos 0 ∷ pos 2 ∷ []) (one_set ∷ [])
+    ∷ step (loose (0 ∷ []))
+    ∷ out 4 (negsuc 0) [] []
+    ∷ trim 3
+    ∷ step (starve 3)
+    ∷ []))
+unfolding digits front_taken nodes_taken word_named
+lines_are = (refl, refl)
 
 -- each form of a step, an end and a claim
 abbrev forms : Tree

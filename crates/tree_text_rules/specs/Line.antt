@@ -11,8 +11,8 @@ use Rattle.tree_text_rules.specs.declared.Word.TheVariants.{Network, Sizes, Cost
 use Rattle.tree_text_rules.specs.declared.Word.TheVariants.{Unknown, Node, Raw, Rival, Starve}
 use Rattle.tree_text_rules.specs.declared.Word.TheVariants.{Loose, Sole, Dead, Clash, Refuted}
 use Rattle.tree_text_rules.specs.declared.Word.TheVariants.{Bound, Charge, SomeOf, With, Branch}
-use Rattle.tree_text_rules.specs.declared.Word.TheVariants.{Either, Open, Spent, Past, Nonbasic}
-use Rattle.tree_text_rules.specs.declared.Word.TheVariants.{Place, End}
+use Rattle.tree_text_rules.specs.declared.Word.TheVariants.{Either, Open, Cap, Out, Trim, Spent}
+use Rattle.tree_text_rules.specs.declared.Word.TheVariants.{Past, Nonbasic, Place, End}
 
 abbrev pub Token : Type 0
 Token = List ℕ
@@ -79,6 +79,9 @@ word_text With = codes "with"
 word_text Branch = codes "branch"
 word_text Either = codes "either"
 word_text Open = codes "open"
+word_text Cap = codes "cap"
+word_text Out = codes "out"
+word_text Trim = codes "trim"
 word_text Spent = codes "spent"
 word_text Past = codes "past"
 word_text Nonbasic = codes "nonbasic"
@@ -94,6 +97,14 @@ tail_word_named token =
     else if bytes_eq token (word_text Place) then Some Place
     else if bytes_eq token (word_text End) then Some End
     else None
+
+-- and that of the head of a tree
+abbrev pub head_word_named : Token → Option Word
+head_word_named token =
+    if bytes_eq token (word_text Cap) then Some Cap
+    else if bytes_eq token (word_text Out) then Some Out
+    else if bytes_eq token (word_text Trim) then Some Trim
+    else tail_word_named token
 
 -- the first word that a token is
 unfoldable pub word_named : Token → Option Word
@@ -119,7 +130,7 @@ word_named token =
     else if bytes_eq token (word_text Branch) then Some Branch
     else if bytes_eq token (word_text Either) then Some Either
     else if bytes_eq token (word_text Open) then Some Open
-    else tail_word_named token
+    else head_word_named token
 
 abbrev pub first_word : List Token → Option Word
 first_word [] = None

@@ -15,6 +15,7 @@ use Rattle.charge_rules.specs.Cover.{Cover}
 use Rattle.tree_rules.specs.Ways as ways
 use Rattle.tree_rules.specs.Tree as trees
 use Rattle.tree_rules.specs.Leaf as leaves
+use Rattle.head_rules.specs.Head as heads
 use Rattle.tree_text_rules.specs.Line.{Token, Line, word_of, fields_of, is_formed}
 use Rattle.tree_text_rules.specs.Line.{file_type}
 use Rattle.tree_text_rules.specs.Token.{both, mapped, each, judged, unit_of, material_of}
@@ -155,6 +156,54 @@ cover_read p line = formed_cover line (cover_by p (word_of line) (fields_of line
 abbrev pub next_cover : Problem → List Cover → Line → Option (Result Cover TreeKind)
 next_cover p covers line =
     if nat_lt (length covers) 1000000 then cover_read p line else None
+
+-- ---- the lines of the head of a tree
+
+-- a unit, the size that it may have at most, and a charge
+abbrev pub cap_of : Problem → List Token → Result heads.HeadLine TreeKind
+cap_of p (unit ∷ size ∷ fields) =
+    mapped (λ found. heads.cap found.0 found.1.0 found.1.1.0 found.1.1.1 [])
+    (both (unit_of p unit) (both (weight_of size) (one_and_more number_of number_of fields)))
+cap_of p fields = Err BadLine
+
+-- a unit that is left out, and a charge
+abbrev pub out_of : Problem → List Token → Result heads.HeadLine TreeKind
+out_of p (unit ∷ fields) =
+    mapped (λ found. heads.out found.0 found.1.0 found.1.1 [])
+    (both (unit_of p unit) (one_and_more number_of number_of fields))
+out_of p [] = Err BadLine
+
+abbrev pub head_step : Option (Result nodes.Step TreeKind)
+    → Option (Result heads.HeadLine TreeKind)
+head_step None = None
+head_step (Some read) = Some (mapped heads.step read)
+
+-- before the first node: a line of the head without its sets, or none if the line is another
+abbrev pub head_by : Problem → Option Word → List Token
+    → Option (Result heads.HeadLine TreeKind)
+head_by p (Some words.Cap) fields = Some (cap_of p fields)
+head_by p (Some words.Out) fields = Some (out_of p fields)
+head_by p (Some words.Trim) fields = Some (mapped heads.trim (one (unit_of p) fields))
+head_by p word fields = head_step (step_by p word fields)
+
+abbrev pub formed_head : Line → Option (Result heads.HeadLine TreeKind)
+    → Option (Result heads.HeadLine TreeKind)
+formed_head line None = None
+formed_head line (Some read) = Some (formed line read)
+
+abbrev pub head_read : Problem → Line → Option (Result heads.HeadLine TreeKind)
+head_read p line = formed_head line (head_by p (word_of line) (fields_of line))
+
+-- the sets of a line, if it may have some
+abbrev pub sets_of : heads.HeadLine → Option (List Cover)
+sets_of (heads.step s) = None
+sets_of (heads.cap u v d ys covers) = Some covers
+sets_of (heads.out u d ys covers) = Some covers
+sets_of (heads.trim u) = None
+
+abbrev pub next_among : Problem → Option (List Cover) → Line → Option (Result Cover TreeKind)
+next_among p None line = None
+next_among p (Some covers) line = next_cover p covers line
 
 -- ---- the lines that begin nodes
 

@@ -12,6 +12,8 @@ use Rattle.tree_rules.specs.Leaf as leaves
 use Rattle.tree_rules.specs.Claim as claims
 use Rattle.tree_rules.specs.Accepted.{Tree}
 use Rattle.tree_rules.specs.Tail as tails
+use Rattle.head_rules.specs.Head as heads
+use Rattle.head_rules.specs.Head.{HeadLine}
 use Rattle.tree_text_rules.specs.Line.{Line, lines_of}
 use Rattle.tree_text_rules.specs.LineRead as reads
 use Rattle.tree_text_rules.specs.declared.TreeKind.{TreeKind}
@@ -146,6 +148,44 @@ end_taken p number lines =
     first_line (reads.end_line_read p) number lines
     (λ end lines. end_behind p end (charge_of end) (suc number) lines)
 
+-- ---- heads of trees
+
+abbrev pub with_set : HeadLine → Cover → HeadLine
+with_set (heads.step s) cover = heads.step s
+with_set (heads.cap u v d ys covers) cover = heads.cap u v d ys (covers ++ cover ∷ [])
+with_set (heads.out u d ys covers) cover = heads.out u d ys (covers ++ cover ∷ [])
+with_set (heads.trim u) cover = heads.trim u
+
+abbrev pub with_line : HeadLine → Result (Taken (List HeadLine)) Fault
+    → Result (Taken (List HeadLine)) Fault
+with_line line (Ok taken) =
+    Ok (record { what = line ∷ taken.what; number = taken.number; behind = taken.behind })
+with_line line (Err fault) = Err fault
+
+-- the lines of a head, after one that was begun if there is one, whose sets may come first; they
+-- end before the first line that is none
+unfoldable pub front_taken : Problem → Option HeadLine → ℕ → List Line
+    → Result (Taken (List HeadLine)) Fault
+front_taken p None number [] = Ok (record { what = []; number = number; behind = [] })
+front_taken p None number (line ∷ lines) = elim (reads.head_read p line) [
+  | Some read
+      ↦ on_line number read (λ next. front_taken p (Some next) (suc number) lines)
+  | None ↦ Ok (record { what = []; number = number; behind = line ∷ lines })
+]
+front_taken p (Some begun) number [] =
+    with_line begun (Ok (record { what = []; number = number; behind = [] }))
+front_taken p (Some begun) number (line ∷ lines) =
+    elim (reads.next_among p (reads.sets_of begun) line) [
+      | Some read
+          ↦ on_line number read
+          (λ cover. front_taken p (Some (with_set begun cover)) (suc number) lines)
+      | None ↦ with_line begun (elim (reads.head_read p line) [
+        | Some read
+            ↦ on_line number read (λ next. front_taken p (Some next) (suc number) lines)
+        | None ↦ Ok (record { what = []; number = number; behind = line ∷ lines })
+      ])
+    ]
+
 -- ---- trees
 
 abbrev pub with_node : trees.TreeNode leaves.Leaf → Result (Taken Tree) Fault
@@ -271,3 +311,34 @@ lines_taken p (line ∷ lines) =
 -- tree texts
 abbrev pub read_text : Problem → List ℕ → Result Certificate Fault
 read_text p bytes = lines_taken p (lines_of bytes)
+
+-- ---- the text of a tree with a head, which may have no lines
+
+pub record HeadedCertificate : Type 0 where
+  pub claim : claims.Claim
+  pub head : List HeadLine
+  pub tree : Tree
+  pub tail : tails.Tail
+
+abbrev pub with_parts : claims.Claim → List HeadLine → Tree → Result tails.Tail Fault
+    → Result HeadedCertificate Fault
+with_parts claim head tree (Ok tail) =
+    Ok (record { claim = claim; head = head; tree = tree; tail = tail })
+with_parts claim head tree (Err fault) = Err fault
+
+-- all lines but the first
+abbrev pub headed_rest_taken : Problem → ℕ → List Line → Result HeadedCertificate Fault
+headed_rest_taken p number lines =
+    then_read (claim_taken p number lines) (λ claim number lines.
+    then_read (front_taken p None number lines) (λ head number lines.
+    then_read (tree_taken p number lines) (λ tree number lines.
+    with_parts claim head tree (tail_taken p number lines))))
+
+abbrev pub headed_lines_taken : Problem → List Line → Result HeadedCertificate Fault
+headed_lines_taken p [] = Err (1, FileType)
+headed_lines_taken p (line ∷ lines) =
+    on_line 1 (reads.file_type_read line) (λ read. headed_rest_taken p 2 lines)
+
+-- the claim, head, tree and tail that a text stands for, or its first fault
+abbrev pub read_headed_text : Problem → List ℕ → Result HeadedCertificate Fault
+read_headed_text p bytes = headed_lines_taken p (lines_of bytes)

@@ -21,6 +21,7 @@ use Rattle.tree_rules.specs.Leaf as leaves
 use Rattle.tree_rules.specs.Claim as claims
 use Rattle.tree_rules.specs.Accepted.{Tree}
 use Rattle.tree_rules.specs.Tail as tails
+use Rattle.head_rules.specs.Head as heads
 use Rattle.tree_text_rules.specs.Line.{Token, file_type, word_text}
 use Rattle.tree_text_rules.specs.declared.Word.TheVariants as words
 
@@ -93,6 +94,30 @@ node_lines p t = head_lines p t.option t.steps ++ end_with_sets p t.end
 
 abbrev pub tree_lines : Problem → Tree → List (List Token)
 tree_lines p tree = flat_map (node_lines p) tree
+
+-- ---- heads of trees
+
+-- of a line with sets its first line
+abbrev pub front_line : Problem → heads.HeadLine → List Token
+front_line p (heads.step s) = step_line p s
+front_line p (heads.cap u v d ys covers) =
+    word_text words.Cap ∷ unit_name p u ∷ signed_decimal v ∷ signed_decimal d
+    ∷ map signed_decimal ys
+front_line p (heads.out u d ys covers) =
+    word_text words.Out ∷ unit_name p u ∷ signed_decimal d ∷ map signed_decimal ys
+front_line p (heads.trim u) = word_text words.Trim ∷ unit_name p u ∷ []
+
+abbrev pub sets_in : heads.HeadLine → List Cover
+sets_in (heads.step s) = []
+sets_in (heads.cap u v d ys covers) = covers
+sets_in (heads.out u d ys covers) = covers
+sets_in (heads.trim u) = []
+
+abbrev pub front_with_sets : Problem → heads.HeadLine → List (List Token)
+front_with_sets p line = front_line p line ∷ map (cover_line p) (sets_in line)
+
+abbrev pub front_lines : Problem → List heads.HeadLine → List (List Token)
+front_lines p head = flat_map (front_with_sets p) head
 
 -- ---- claims
 
@@ -189,3 +214,20 @@ text_of lines = flat_map line_text lines
 -- the one text of a claim, a tree and a tail
 abbrev pub tree_text : Problem → claims.Claim → Tree → tails.Tail → List ℕ
 tree_text p claim tree tail = text_of (tree_text_lines p claim tree tail)
+
+-- ---- the text of a tree with a head
+
+abbrev pub headed_rest_lines
+    : Problem → claims.Claim → List heads.HeadLine → Tree → tails.Tail → List (List Token)
+headed_rest_lines p claim head tree tail =
+    claim_lines p claim ++ (front_lines p head ++ (tree_lines p tree ++ tail_lines p tail))
+
+abbrev pub headed_text_lines
+    : Problem → claims.Claim → List heads.HeadLine → Tree → tails.Tail → List (List Token)
+headed_text_lines p claim head tree tail =
+    (file_type ∷ []) ∷ headed_rest_lines p claim head tree tail
+
+-- the one text of a claim, a head, a tree and a tail; if the head has no lines, that of the others
+abbrev pub headed_text
+    : Problem → claims.Claim → List heads.HeadLine → Tree → tails.Tail → List ℕ
+headed_text p claim head tree tail = text_of (headed_text_lines p claim head tree tail)

@@ -4,8 +4,9 @@
 //! `specs/`: `Line` (lines, tokens, first words); `Spelling` (the lines of each value, and the
 //! whole text); `Token` (what a token stands for at its place); `LineRead` (what a line stands
 //! for); and `Read`. There `read_text` gives what a text stands for, or its first fault with its
-//! line, and other definitions do the same for parts of a text. `proofs/` reads and spells small
-//! texts by computation.
+//! line, and other definitions do the same for parts of a text. `read_headed_text` reads a text in
+//! which the lines of a head may come before the first node; it is not used yet. `proofs/` reads
+//! and spells small texts by computation.
 #![tactic(auto)]
 
 /// A fault of a tree's text. The variants are in the order of their numbers, 1 to 9. The least line
@@ -16,7 +17,7 @@ pub enum TreeKind {
     /// The first line is another text than `file_type=PNS_tree_v1`, or is missing.
     FileType,
     /// A line that is none of the forms that may come there, or a missing line. After the line of a
-    /// charge a million sets may come.
+    /// charge, a cap or a unit that is left out a million sets may come.
     BadLine,
     /// A name that the problem does not have.
     UnknownName,
@@ -58,6 +59,9 @@ pub enum Word {
     Branch,
     Either,
     Open,
+    Cap,
+    Out,
+    Trim,
     Spent,
     Past,
     Nonbasic,

@@ -1,4 +1,8 @@
-use Rattle.std.proofs.Common.{[], ◌∷◌, OnOk, IfErr, subst}
+use Rattle.std.proofs.Common.{◌≡◌, ◌∙◌, [], ◌∷◌, OnOk, IfErr, ap, subst}
+use Rattle.problem_rules.specs.Problem.{Problem}
+use Rattle.flow_rules.specs.Net.{net_of}
+use Rattle.charge_rules.specs.Facts.{own_facts}
+use Rattle.charges.specs.Known.{facts_of}
 use Rattle.pns_rules.specs.Shape.{shape_of}
 use Rattle.pgraph.specs.View.{node_of}
 use Rattle.tree_rules.specs.Tree.{Pass}
@@ -8,6 +12,7 @@ use Rattle.tree_rules.specs.Refusals.{Refuses}
 use Rattle.branch_tree.specs.View.{claim_of}
 use Rattle.cert_parts.specs.Shown.{cost_over}
 use Rattle.cert_check.specs.Refusals.{NamesFault}
+use Rattle.cert_check.proofs.OwnLemmas.{own_passes, own_fails}
 use Rattle.cert_check.proofs.RefusalLemmas.{walk_proves, walk_refuses, accepts, names_node}
 use Rattle.cert_check.proofs.check.check_from.Goals as goal
 
@@ -18,12 +23,16 @@ returns-in-Ok-clause-proves c =
     let claim = claim_of c.args.claim.now in
     let tree = c.args.tree.now in
     let cost = cost_over c.cost_of_claim.result in
+    let own : facts_of c.own-facts.result ≡ own_facts (net_of p) =
+    c.own-facts.ensures ∙ ap (λ (q : Problem). own_facts (net_of q)) c.problem.ensures.same in
+    let nodes = c.nodes.result.now in
     walk_proves c.args.partial p n claim tree c.in-Ok.ensures.passes cost c.cost_of_claim.ensures
     c.walk.result
     (subst
     (λ (ts : Tree). OnOk c.walk.result
     (Pass (shape_of p) (LeafPasses c.args.partial p cost) (n ∷ []) ts)) c.nodes.ensures
-    c.walk.ensures.passes)
+    (own_passes p (facts_of c.own-facts.result) own c.args.partial cost (λ l. l) (n ∷ []) nodes
+    c.walk.result c.walk.ensures.passes))
 
 pub returns-in-Ok-clause-refuses : goal.returns-in-Ok-clause-refuses
 returns-in-Ok-clause-refuses c =
@@ -32,12 +41,17 @@ returns-in-Ok-clause-refuses c =
     let claim = claim_of c.args.claim.now in
     let tree = c.args.tree.now in
     let cost = cost_over c.cost_of_claim.result in
+    let own : facts_of c.own-facts.result ≡ own_facts (net_of p) =
+    c.own-facts.ensures ∙ ap (λ (q : Problem). own_facts (net_of q)) c.problem.ensures.same in
+    let nodes = c.nodes.result.now in
     walk_refuses c.args.partial p n claim tree c.in-Ok.ensures.passes cost c.cost_of_claim.ensures
     c.walk.result
     (subst
     (λ (ts : Tree). IfErr c.walk.result
     (NamesFault (shape_of p) (LeafPasses c.args.partial p cost) (LeafFails c.args.partial p cost)
-    (n ∷ []) ts)) c.nodes.ensures c.walk.ensures.fault)
+    (n ∷ []) ts)) c.nodes.ensures
+    (own_fails p (facts_of c.own-facts.result) own c.args.partial cost (λ l. l) (n ∷ []) nodes
+    c.walk.result c.walk.ensures.fault))
 
 pub returns-in-Ok-clause-accepts : goal.returns-in-Ok-clause-accepts
 returns-in-Ok-clause-accepts c =
@@ -46,13 +60,18 @@ returns-in-Ok-clause-accepts c =
     let claim = claim_of c.args.claim.now in
     let tree = c.args.tree.now in
     let cost = cost_over c.cost_of_claim.result in
+    let own : facts_of c.own-facts.result ≡ own_facts (net_of p) =
+    c.own-facts.ensures ∙ ap (λ (q : Problem). own_facts (net_of q)) c.problem.ensures.same in
+    let nodes = c.nodes.result.now in
     let refuses : IfErr c.walk.result (Refuses c.args.partial p n claim tree) =
     walk_refuses c.args.partial p n claim tree c.in-Ok.ensures.passes cost c.cost_of_claim.ensures
     c.walk.result
     (subst
     (λ (ts : Tree). IfErr c.walk.result
     (NamesFault (shape_of p) (LeafPasses c.args.partial p cost) (LeafFails c.args.partial p cost)
-    (n ∷ []) ts)) c.nodes.ensures c.walk.ensures.fault) in
+    (n ∷ []) ts)) c.nodes.ensures
+    (own_fails p (facts_of c.own-facts.result) own c.args.partial cost (λ l. l) (n ∷ []) nodes
+    c.walk.result c.walk.ensures.fault)) in
     accepts c.args.partial p n claim tree c.claim_has_one_fault.ensures.passes
     c.tree_has_one_fault.ensures.passes c.walk.result refuses
 
@@ -63,20 +82,26 @@ returns-in-Ok-clause-names_node c =
     let claim = claim_of c.args.claim.now in
     let tree = c.args.tree.now in
     let cost = cost_over c.cost_of_claim.result in
+    let own : facts_of c.own-facts.result ≡ own_facts (net_of p) =
+    c.own-facts.ensures ∙ ap (λ (q : Problem). own_facts (net_of q)) c.problem.ensures.same in
+    let nodes = c.nodes.result.now in
     let proves : OnOk c.walk.result (Proves c.args.partial p n claim tree) =
     walk_proves c.args.partial p n claim tree c.in-Ok.ensures.passes cost c.cost_of_claim.ensures
     c.walk.result
     (subst
     (λ (ts : Tree). OnOk c.walk.result
     (Pass (shape_of p) (LeafPasses c.args.partial p cost) (n ∷ []) ts)) c.nodes.ensures
-    c.walk.ensures.passes) in
+    (own_passes p (facts_of c.own-facts.result) own c.args.partial cost (λ l. l) (n ∷ []) nodes
+    c.walk.result c.walk.ensures.passes)) in
     let refuses : IfErr c.walk.result (Refuses c.args.partial p n claim tree) =
     walk_refuses c.args.partial p n claim tree c.in-Ok.ensures.passes cost c.cost_of_claim.ensures
     c.walk.result
     (subst
     (λ (ts : Tree). IfErr c.walk.result
     (NamesFault (shape_of p) (LeafPasses c.args.partial p cost) (LeafFails c.args.partial p cost)
-    (n ∷ []) ts)) c.nodes.ensures c.walk.ensures.fault) in
+    (n ∷ []) ts)) c.nodes.ensures
+    (own_fails p (facts_of c.own-facts.result) own c.args.partial cost (λ l. l) (n ∷ []) nodes
+    c.walk.result c.walk.ensures.fault)) in
     names_node c.args.partial p n claim tree c.claim_has_one_fault.ensures.passes
     c.tree_has_one_fault.ensures.passes c.tree_has_one_fault.ensures.one c.walk.result proves
     refuses

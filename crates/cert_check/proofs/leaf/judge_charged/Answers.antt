@@ -1,12 +1,13 @@
-use Rattle.std.proofs.Common.{◌∙◌, Bool, List, SFits, OnOk, IfErr, rules, sym, subst}
+use Rattle.std.proofs.Common.{◌∙◌, List, SFits, refl, rules, sym, subst}
 use Rattle.std.specs.Int.{w128}
 use Rattle.std.proofs.lemmas.Int.{to_z-of_z}
 use Rattle.pgraph.specs.View.{node_of}
 use Rattle.charge_rules.specs.Cover.{Cover}
-use Rattle.charge_rules.specs.Leaf.{Handed}
+use Rattle.charge_rules.specs.Leaf.{Handed, ChargePasses, ChargeFails}
+use Rattle.charges.specs.Known.{facts_of}
 use Rattle.covers.specs.Kept.{AreKept}
-use Rattle.tree_rules.specs.declared.why.Why.{Why}
-use Rattle.tree_rules.specs.Leaf.{charged, LeafPasses, LeafFails}
+use Rattle.tree_rules.specs.Claim.{IsAtLeast}
+use Rattle.tree_rules.specs.Leaf.{IsClaimed}
 use Rattle.cert_parts.specs.Shown.{cost_over}
 use Rattle.cert_check.proofs.LeafLemmas.{handed_is}
 use Rattle.cert_check.proofs.leaf.judge_charged.Goals as goal
@@ -15,26 +16,30 @@ pub judge_charge-requires-clause-covers : goal.judge_charge-requires-clause-cove
 judge_charge-requires-clause-covers c =
     subst (λ (cs : List Cover). AreKept cs) (sym c.covers.ensures) c.are_kept.ensures
 
-pub returns-clause-passes : goal.returns-clause-passes
-returns-clause-passes c =
+pub returns-in-Ok-clause-passes : goal.returns-in-Ok-clause-passes
+returns-in-Ok-clause-passes c =
     let fits : SFits w128 c.d.result = search rules in
+    let j = c.args.judge.now in
+    let k = cost_over j.claimed in
     subst
-    (λ (h : Handed). OnOk c.judge_charge.result
-    ((partial : Bool)
-    → LeafPasses partial c.args.site.now (cost_over c.args.claimed) (node_of c.args.node.now)
-    (charged h)))
+    (λ (h : Handed). ChargePasses j.site.now (IsClaimed k) (IsAtLeast k) (node_of c.args.node.now)
+    (facts_of j.facts.now) h)
     (handed_is _ c.args.scaled.now.d _ c.args.scaled.now.ys _ c.args.covers.now
     (to_z-of_z w128 c.d.result fits ∙ c.d.ensures) c.ys.ensures c.covers.ensures)
-    c.judge_charge.ensures.passes
+    c.in-Ok.ensures.passes
 
-pub returns-clause-fails : goal.returns-clause-fails
-returns-clause-fails c =
+pub returns-in-Err-clause-fails : goal.returns-in-Err-clause-fails
+returns-in-Err-clause-fails c =
     let fits : SFits w128 c.d.result = search rules in
-    subst
-    (λ (h : Handed). IfErr c.judge_charge.result
-    (λ (why : Why). (partial : Bool)
-    → LeafFails partial c.args.site.now (cost_over c.args.claimed) (node_of c.args.node.now)
-    (charged h) why))
-    (handed_is _ c.args.scaled.now.d _ c.args.scaled.now.ys _ c.args.covers.now
-    (to_z-of_z w128 c.d.result fits ∙ c.d.ensures) c.ys.ensures c.covers.ensures)
-    c.judge_charge.ensures.fails
+    let j = c.args.judge.now in
+    let k = cost_over j.claimed in (
+      c.in-Err.why,
+      c.why_of.ensures,
+      subst
+          (λ (h : Handed). ChargeFails j.site.now (IsClaimed k) (IsAtLeast k)
+          (node_of c.args.node.now)
+          (facts_of j.facts.now) h c.in-Err.why)
+          (handed_is _ c.args.scaled.now.d _ c.args.scaled.now.ys _ c.args.covers.now
+          (to_z-of_z w128 c.d.result fits ∙ c.d.ensures) c.ys.ensures c.covers.ensures)
+          c.in-Err.ensures.fails,
+    )

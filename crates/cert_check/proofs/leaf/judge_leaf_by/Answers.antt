@@ -4,6 +4,8 @@ use Rattle.tree_rules.specs.declared.why.Why.{Why}
 use Rattle.tree_rules.specs.Claim.{CostOver}
 use Rattle.tree_rules.specs.Leaf.{Leaf, untried, LeafPasses, LeafFails}
 use Rattle.branch_tree.specs.View.{end_of}
+use Rattle.charges.specs.Known.{facts_of}
+use Rattle.head_rules.specs.Headed.{LeafPassesBy, LeafFailsBy}
 use Rattle.cert_parts.specs.Shown.{cost_over}
 use Rattle.cert_check.specs.Bare.{as_judged}
 use Rattle.cert_check.specs.Visits.{leaf_passes, leaf_fails}
@@ -17,7 +19,8 @@ returns-then-judge-clause-passes c =
     let n = node_of c.args.node.now in
     passes_as (end_of c.args.end.now) c.judge_leaf.result (as_judged j.bounds)
     (λ l k. judged_as_is j.bounds c.if-judge.true l)
-    (λ (l : Leaf). LeafPasses j.partial j.site.now (cost_over j.claimed) n l)
+    (λ (l : Leaf). LeafPassesBy (facts_of j.facts.now) j.partial j.site.now (cost_over j.claimed) n
+    l)
     c.judge_leaf.ensures.passes
 
 pub returns-then-judge-clause-fails : goal.returns-then-judge-clause-fails
@@ -26,7 +29,8 @@ returns-then-judge-clause-fails c =
     let n = node_of c.args.node.now in
     fails_as (end_of c.args.end.now) c.judge_leaf.result (as_judged j.bounds)
     (λ l k. judged_as_is j.bounds c.if-judge.true l)
-    (λ (l : Leaf) (why : Why). LeafFails j.partial j.site.now (cost_over j.claimed) n l why)
+    (λ (l : Leaf) (why : Why). LeafFailsBy (facts_of j.facts.now) j.partial j.site.now
+    (cost_over j.claimed) n l why)
     c.judge_leaf.ensures.fails
 
 pub returns-in-Open-clause-passes : goal.returns-in-Open-clause-passes
@@ -39,7 +43,8 @@ returns-in-Open-clause-passes c =
     ((claimed : Option CostOver) → LeafPasses j.partial j.site.now claimed n (untried None))
     c.judge_open.result
     (λ q. subst
-    (λ (b : Bool). LeafPasses j.partial j.site.now k n (as_judged b (untried c.in-Open.field-0)))
+    (λ (b : Bool). LeafPassesBy (facts_of j.facts.now) j.partial j.site.now k n
+    (as_judged b (untried c.in-Open.field-0)))
     (sym c.if-judge.false) (q k))
     c.judge_open.ensures.passes
 
@@ -54,7 +59,8 @@ returns-in-Open-clause-fails c =
     → LeafFails j.partial j.site.now claimed n (untried None) why)
     c.judge_open.result
     (λ why q. subst
-    (λ (b : Bool). LeafFails j.partial j.site.now k n (as_judged b (untried c.in-Open.field-0)) why)
+    (λ (b : Bool). LeafFailsBy (facts_of j.facts.now) j.partial j.site.now k n
+    (as_judged b (untried c.in-Open.field-0)) why)
     (sym c.if-judge.false) (q k))
     c.judge_open.ensures.fails
 
@@ -64,7 +70,8 @@ returns-in_default-clause-passes c =
     let n = node_of c.args.node.now in
     passes_as (end_of c.args.end.now) c.judge_leaf-in_default.result (as_judged j.bounds)
     (judged_bare j.bounds c.if-judge.false c.args.end.now c.in_default.not-Open)
-    (λ (l : Leaf). LeafPasses j.partial j.site.now (cost_over j.claimed) n l)
+    (λ (l : Leaf). LeafPassesBy (facts_of j.facts.now) j.partial j.site.now (cost_over j.claimed) n
+    l)
     c.judge_leaf-in_default.ensures.passes
 
 pub returns-in_default-clause-fails : goal.returns-in_default-clause-fails
@@ -73,5 +80,6 @@ returns-in_default-clause-fails c =
     let n = node_of c.args.node.now in
     fails_as (end_of c.args.end.now) c.judge_leaf-in_default.result (as_judged j.bounds)
     (judged_bare j.bounds c.if-judge.false c.args.end.now c.in_default.not-Open)
-    (λ (l : Leaf) (why : Why). LeafFails j.partial j.site.now (cost_over j.claimed) n l why)
+    (λ (l : Leaf) (why : Why). LeafFailsBy (facts_of j.facts.now) j.partial j.site.now
+    (cost_over j.claimed) n l why)
     c.judge_leaf-in_default.ensures.fails

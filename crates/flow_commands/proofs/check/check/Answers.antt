@@ -1,6 +1,6 @@
 use Rattle.std.proofs.Common.{◌≡◌, ap, ℕ, List}
 use Rattle.studio_rules.specs.Reading.{TwoFilesSay}
-use Rattle.studio_rules.specs.TreeFile.{OnTree, TreeSays}
+use Rattle.studio_rules.specs.HeadedFile.{OnHeaded, HeadedSays}
 use Rattle.studio_rules.specs.Check.{CheckWork}
 use Rattle.studio_rules.specs.Ending.{Says}
 use Rattle.studio_rules.specs.declared.status.Status.{Status}
@@ -18,11 +18,11 @@ returns-in-Ok g c =
     let file = c.args.file.now in
     let tree = c.args.tree.now in
     let P : Status → List ℕ → Type 0 =
-    Says (OnTree CheckWork mid.held tree c.in-Ok.problem) (λ other. other ≡ tree) mid new in
-    let Q : Status → List ℕ → Type 0 = TwoFilesSay (OnTree CheckWork) file tree old new in
+    Says (OnHeaded CheckWork mid.held tree c.in-Ok.problem) (λ other. other ≡ tree) mid new in
+    let Q : Status → List ℕ → Type 0 = TwoFilesSay (OnHeaded CheckWork) file tree old new in
     let ends =
     Ends-from P Q c.args.out.now _ c.say_tree.new.out _ c.in-Ok.ensures.silent
-    (on_both-work (TreeSays CheckWork tree) file tree old mid new c.in-Ok.problem
+    (on_both-work (HeadedSays CheckWork tree) file tree old mid new c.in-Ok.problem
     c.in-Ok.ensures.problem (c.problem_of.ensures.keeps.held tree)
     c.problem_of.ensures.keeps.later) c.say_tree.ensures.ends in
     record {
@@ -41,10 +41,10 @@ returns-in-Err g c =
     let new = g.F.Shelf.state c.problem_of.new.shelf in
     let file = c.args.file.now in
     let tree = c.args.tree.now in
-    let Q : Status → List ℕ → Type 0 = TwoFilesSay (OnTree CheckWork) file tree old new in
+    let Q : Status → List ℕ → Type 0 = TwoFilesSay (OnHeaded CheckWork) file tree old new in
     let ends =
     Ends-map _ Q c.args.out.now c.problem_of.new.out _
-    (on_both-faults (TreeSays CheckWork tree) file tree old new) c.in-Err.ensures.told in
+    (on_both-faults (HeadedSays CheckWork tree) file tree old new) c.in-Err.ensures.told in
     record {
       ends = ends;
       keeps = c.in-Err.ensures.keeps;

@@ -2,6 +2,7 @@ use Rattle.std.proofs.Common.{sym, subst}
 use Rattle.problem_rules.specs.Problem.{Problem}
 use Rattle.tree_rules.specs.Accepted.{first_node}
 use Rattle.abb_search.specs.Found.{IsFound}
+use Rattle.report_rules.specs.Measures.{Measures, measures_of}
 use Rattle.studio_rules.specs.Ending.{Ends, Tells}
 use Rattle.studio_rules.specs.Show.{ShowWork}
 use Rattle.studio_rules.specs.declared.status.Status.TheVariants.{Memory}
@@ -19,17 +20,28 @@ say_found-requires g c = (
 
 pub returns-in_default : goal.returns-in_default
 returns-in_default g c =
-    Ends-map _ _ c.args.out.now _ _
-    (only_in (Tells (ShowWork c.args.effort.budget c.args.problem.now)) Memory _
-    (Tells-memory (ShowWork c.args.effort.budget c.args.problem.now))) c.say_memory.ensures
+    let work = ShowWork c.args.effort.budget c.args.bytes.now c.args.problem.now in
+    Ends-map _ _ c.args.out.now _ _ (only_in (Tells work) Memory _ (Tells-memory work))
+    c.say_memory.ensures
+
+pub returns-in_default-of : goal.returns-in_default-of
+returns-in_default-of g c =
+    let work = ShowWork c.args.effort.budget c.args.bytes.now c.args.problem.now in
+    Ends-map _ _ c.args.out.now _ _ (only_in (Tells work) Memory _ (Tells-memory work))
+    c.say_memory-in_default-of.ensures
 
 pub returns : goal.returns
 returns g c =
+    let file = c.args.bytes.now in
     let p = c.args.problem.now in
     let f = c.search_all-found.result in
-    Ends-map _ _ c.args.out.now _ _ (Tells-map (FoundShows p f) (ShowWork c.args.effort.budget p)
-    (found_shows c.accepted_is_optimal.ensures p c.is_valid.ensures.valid c.args.effort.budget f
-    c.search_all-found.ensures))
+    Ends-map _ _ c.args.out.now _ _
+    (Tells-map (FoundShows (measures_of file) p f) (ShowWork c.args.effort.budget file p)
+    (found_shows c.accepted_is_optimal.ensures file p c.is_valid.ensures.valid
+    c.args.effort.budget f c.search_all-found.ensures))
     (subst
-    (λ (q : Problem). Ends (Tells (FoundShows q f)) c.args.out.now c.say_found.new.out
-    c.say_found.result) c.of-site.ensures c.say_found.ensures)
+    (λ (ms : Measures). Ends (Tells (FoundShows ms p f)) c.args.out.now c.say_found.new.out
+    c.say_found.result) c.in-Ok.ensures
+    (subst
+    (λ (q : Problem). Ends (Tells (FoundShows c.in-Ok.measures q f)) c.args.out.now
+    c.say_found.new.out c.say_found.result) c.of-site.ensures c.say_found.ensures))

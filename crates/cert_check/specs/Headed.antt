@@ -1,0 +1,33 @@
+-- Answers of a check of a tree that may have a head.
+use Rattle.std.specs.Prelude.{◌≡◌, List, Result, Ok, Err}
+use Rattle.pns_rules.specs.Shape.{Shape}
+use Rattle.pns_rules.specs.Nodes.{Node}
+use Rattle.tree_rules.specs.declared.why.Why.{Why}
+use Rattle.tree_rules.specs.declared.refusal.Refusal as trees
+use Rattle.tree_rules.specs.declared.refusal.Refusal.TheVariants as causes
+use Rattle.tree_rules.specs.Fault.{IsFirstFault}
+use Rattle.tree_rules.specs.Leaf.{Leaf}
+use Rattle.tree_rules.specs.Accepted.{Tree}
+use Rattle.head_rules.specs.declared.refusal.Refusal.{Refusal}
+use Rattle.head_rules.specs.declared.refusal.Refusal.TheVariants.{Memory, Claim, Line}
+use Rattle.head_rules.specs.declared.refusal.Refusal.TheVariants as refusals
+
+-- the answer is Ok or `Memory`
+abbrev pub IsOkOrMemoryBy : {A : Type 0} → Result A Refusal → Type 0
+IsOkOrMemoryBy (Ok x) = Unit {0}
+IsOkOrMemoryBy (Err e) = e ≡ Memory
+
+-- a refusal of nodes, in the words of a tree with a head
+abbrev pub refusal_by : trees.Refusal → Refusal
+refusal_by causes.Memory = Memory
+refusal_by (causes.Claim why) = Claim why
+refusal_by (causes.Node k why) = refusals.Node k why
+
+-- of the subtrees of the nodes, the first that fails is the one that the refusal names, for its
+-- cause
+abbrev pub NamesFaultBy : Shape → (Node → Leaf → Type 0) → (Node → Leaf → Why → Type 0) → List Node
+    → Tree → Refusal → Type 0
+NamesFaultBy g P F starts tree Memory = Unit {0}
+NamesFaultBy g P F starts tree (Claim why) = ⊥
+NamesFaultBy g P F starts tree (Line i why) = ⊥
+NamesFaultBy g P F starts tree (refusals.Node k why) = IsFirstFault g P F starts tree k why

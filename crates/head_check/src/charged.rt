@@ -1,0 +1,58 @@
+//! The charge of a line.
+ghost use Rattle.std.specs.Prelude.{◌≡◌, OnOk, IfErr};
+ghost use Rattle.pns_rules.specs.Shape.{shape_of};
+ghost use Rattle.pgraph.specs.View.{node_of};
+ghost use Rattle.charges.specs.Known.{facts_of};
+ghost use Rattle.cert_parts.specs.Known.{KnowsInside};
+ghost use Rattle.cert_parts.specs.Shown.{cost_over};
+ghost use Rattle.head_rules.specs.Charged.{IsCharged};
+ghost use Rattle.head_rules.specs.Faults as rules;
+
+use crate::known::Known;
+use branch_tree::Scaled;
+use cert_parts::judge_charge;
+use charge_rules::ChargeWhy;
+use charges::Charge;
+use covers::Covers;
+use frac128::CostOver;
+use head_rules::LineWhy;
+use pgraph::Site;
+
+/// The cause of a charge that fails, as that of its line.
+fn line_why(why: ChargeWhy) -> LineWhy
+    ensures { result ≡ rules.line_why why }
+{
+    match why {
+        ChargeWhy::Bound => LineWhy::Bound,
+        ChargeWhy::Cover => LineWhy::Cover,
+        ChargeWhy::Sum => LineWhy::Sum,
+    }
+}
+
+/// The node is to be charged what is claimed, with these facts.
+pub(crate) fn judge_charged(
+    site: &Site<'_>,
+    known: &Known,
+    claimed: Option<CostOver>,
+    scaled: &Scaled,
+    covers: &Covers,
+) -> Result<(), LineWhy>
+    requires inside { KnowsInside (shape_of site.now) (node_of known.now.node) }
+    ensures passes { OnOk result
+        (IsCharged site.now (cost_over claimed) (node_of known.now.node)
+        (facts_of known.now.facts) scaled.now.d scaled.now.ys covers.now) }
+    ensures fails { IfErr result
+        (rules.ChargeFails site.now (cost_over claimed) (node_of known.now.node)
+        (facts_of known.now.facts) scaled.now.d scaled.now.ys covers.now) }
+{
+    covers.are_kept();
+    let charge = Charge {
+        d: scaled.d(),
+        ys: scaled.ys(),
+        covers: covers.covers(),
+    };
+    match judge_charge(site, &known.node, &known.facts, claimed, &charge) {
+        Ok(()) => Ok(()),
+        Err(why) => Err(line_why(why)),
+    }
+}

@@ -1,0 +1,168 @@
+//! One line of a head.
+ghost use Rattle.std.specs.Prelude.{◌≡◌, IfOk, IfErr};
+ghost use Rattle.pns_rules.specs.Shape.{shape_of};
+ghost use Rattle.pgraph.specs.View.{node_of, step_of};
+ghost use Rattle.cert_parts.specs.Known.{KnowsInside};
+ghost use Rattle.cert_parts.specs.Shown.{cost_over};
+ghost use Rattle.head_rules.specs.Head.{step, cap, out, trim};
+ghost use Rattle.head_lines.specs.View.{line_of};
+ghost use Rattle.head_check.specs.View.{known_of};
+ghost use Rattle.head_check.specs.Lines.{IsJudged, Fails};
+
+use crate::charged::judge_charged;
+use crate::known::{Known, with_in, with_out};
+use crate::sizes::size_of_cap;
+use crate::trim::trimmed;
+use branch_tree::Scaled;
+use cert_parts::after_steps;
+use charges::is_free;
+use covers::Covers;
+use frac128::CostOver;
+use head_lines::HeadLine;
+use head_rules::LineWhy;
+use pgraph::Site;
+use unit_sets::Step;
+
+/// Judges a step.
+fn judge_step(
+    site: &Site<'_>,
+    known: &Known,
+    claimed: Option<CostOver>,
+    taken: Step,
+) -> Result<Known, LineWhy>
+    requires inside { KnowsInside (shape_of site.now) (node_of known.now.node) }
+    ensures passes { IfOk result
+        (IsJudged site.now (cost_over claimed) (known_of known.now) (step (step_of taken))) }
+    ensures fails { IfErr result
+        (Fails site.now (cost_over claimed) (known_of known.now) (step (step_of taken))) }
+{
+    let steps = [taken];
+    match after_steps(site.graph(), &known.node, &steps) {
+        Some(node) => Ok(Known {
+            node,
+            facts: known.facts,
+        }),
+        None => Err(LineWhy::Step),
+    }
+}
+
+/// Judges a size that the unit has at most.
+fn judge_cap(
+    site: &Site<'_>,
+    known: &Known,
+    claimed: Option<CostOver>,
+    unit: u32,
+    size: i128,
+    scaled: &Scaled,
+    covers: &Covers,
+) -> Result<Known, LineWhy>
+    requires inside { KnowsInside (shape_of site.now) (node_of known.now.node) }
+    ensures passes { IfOk result
+        (IsJudged site.now (cost_over claimed) (known_of known.now)
+        (cap unit size scaled.now.d scaled.now.ys covers.now)) }
+    ensures fails { IfErr result
+        (Fails site.now (cost_over claimed) (known_of known.now)
+        (cap unit size scaled.now.d scaled.now.ys covers.now)) }
+{
+    site.graph();
+    let Some(most) = size_of_cap(site, known, unit, size) else {
+        return Err(LineWhy::Fact);
+    };
+    let larger = Known {
+        node: with_in(&known.node, unit),
+        facts: known.facts.with_least(unit, most),
+    };
+    match judge_charged(site, &larger, claimed, scaled, covers) {
+        Ok(()) => Ok(Known {
+            node: known.node,
+            facts: known.facts.with_most(unit, most),
+        }),
+        Err(why) => Err(why),
+    }
+}
+
+/// Judges a unit that is left out.
+fn judge_out(
+    site: &Site<'_>,
+    known: &Known,
+    claimed: Option<CostOver>,
+    unit: u32,
+    scaled: &Scaled,
+    covers: &Covers,
+) -> Result<Known, LineWhy>
+    requires inside { KnowsInside (shape_of site.now) (node_of known.now.node) }
+    ensures passes { IfOk result
+        (IsJudged site.now (cost_over claimed) (known_of known.now)
+        (out unit scaled.now.d scaled.now.ys covers.now)) }
+    ensures fails { IfErr result
+        (Fails site.now (cost_over claimed) (known_of known.now)
+        (out unit scaled.now.d scaled.now.ys covers.now)) }
+{
+    if !is_free(site.graph(), &known.node, unit) {
+        return Err(LineWhy::Fact);
+    }
+    let taken = Known {
+        node: with_in(&known.node, unit),
+        facts: known.facts,
+    };
+    match judge_charged(site, &taken, claimed, scaled, covers) {
+        Ok(()) => Ok(Known {
+            node: with_out(&known.node, unit),
+            facts: known.facts,
+        }),
+        Err(why) => Err(why),
+    }
+}
+
+/// Judges a unit of which no more is of use.
+fn judge_trim(
+    site: &Site<'_>,
+    known: &Known,
+    claimed: Option<CostOver>,
+    unit: u32,
+) -> Result<Known, LineWhy>
+    requires inside { KnowsInside (shape_of site.now) (node_of known.now.node) }
+    ensures passes { IfOk result
+        (IsJudged site.now (cost_over claimed) (known_of known.now) (trim unit)) }
+    ensures fails { IfErr result
+        (Fails site.now (cost_over claimed) (known_of known.now) (trim unit)) }
+{
+    site.graph();
+    match trimmed(site, known, unit) {
+        Some(most) => Ok(Known {
+            node: known.node,
+            facts: known.facts.with_most(unit, most),
+        }),
+        None => Err(LineWhy::Trim),
+    }
+}
+
+/// Judges one line by what is known at its place, and gives what is known after it.
+pub fn judge_line(
+    site: &Site<'_>,
+    known: &Known,
+    claimed: Option<CostOver>,
+    line: &HeadLine,
+) -> Result<Known, LineWhy>
+    requires inside { KnowsInside (shape_of site.now) (node_of known.now.node) }
+    ensures passes { IfOk result
+        (IsJudged site.now (cost_over claimed) (known_of known.now) (line_of line.now)) }
+    ensures fails { IfErr result
+        (Fails site.now (cost_over claimed) (known_of known.now) (line_of line.now)) }
+{
+    match line {
+        HeadLine::Step(taken) => judge_step(site, known, claimed, *taken),
+        HeadLine::Cap {
+            unit,
+            size,
+            scaled,
+            covers,
+        } => judge_cap(site, known, claimed, *unit, *size, scaled, covers),
+        HeadLine::Out {
+            unit,
+            scaled,
+            covers,
+        } => judge_out(site, known, claimed, *unit, scaled, covers),
+        HeadLine::Trim(unit) => judge_trim(site, known, claimed, *unit),
+    }
+}

@@ -1,0 +1,3 @@
+pub mod EmptyLemmas
+mod FaultLemmas
+mod HeadedLemmas

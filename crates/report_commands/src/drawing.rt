@@ -1,0 +1,50 @@
+//! The graph of a ranking.
+ghost use Rattle.std.specs.Prelude.{[]};
+ghost use Rattle.rank_rules.specs.Networks.{ArePassing};
+ghost use Rattle.studio_rules.specs.RankGraph.{RankGraphWork};
+ghost use Rattle.studio_rules.specs.Ending.{Ends, Tells};
+
+use crate::ranking::say_network;
+use endings::say::say_told;
+use network_commands::{list_graph, say_refused};
+use pgraph::Site;
+use pns_io::{Outputs, Sink};
+use rank_check::judge_networks;
+use ranked_tree::RankText;
+use std::alloc::Global;
+use studio_rules::Status;
+use tree_rules::Why;
+
+/// Prints the graph with the first network in it, and all as a table; or that there is none.
+fn say_first<K: Sink, E: Sink>(
+    alloc: Global,
+    out: &mut Outputs<K, E>,
+    site: &Site<'_>,
+    ranking: &RankText,
+) -> Status
+    requires listed { ArePassing ranking.now.distinct site.now [] ranking.now.networks }
+    ensures { Ends (Tells (RankGraphWork site.now ranking.now)) out.old out.new result }
+{
+    ranking.is_counted();
+    let networks = ranking.networks();
+    match networks.split_first() {
+        Some((first, _)) => say_told(out, list_graph(alloc, site, first, networks)),
+        None => say_refused(alloc, out, Why::Unknown),
+    }
+}
+
+/// The same, or the first network that fails.
+pub(crate) fn say_drawn<K: Sink, E: Sink>(
+    alloc: Global,
+    out: &mut Outputs<K, E>,
+    site: &Site<'_>,
+    ranking: &RankText,
+) -> Status
+    ensures { Ends (Tells (RankGraphWork site.now ranking.now)) out.old out.new result }
+{
+    ranking.is_counted();
+    match judge_networks(site, ranking.is_distinct(), ranking.networks()) {
+        Ok(()) => say_first(alloc, out, site, ranking),
+        Err((number, why)) => say_network(alloc, out, number, why),
+    }
+}

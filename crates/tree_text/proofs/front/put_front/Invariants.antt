@@ -1,0 +1,13 @@
+use Rattle.std.proofs.Common.{drop}
+use Rattle.head_rules.specs.Known.{KnowsHead}
+use Rattle.head_lines.specs.View.{lines_of}
+use Rattle.tree_text_rules.specs.Spelling.{front_lines}
+use Rattle.tree_text.proofs.Printed.{Finishes}
+use Rattle.tree_text.proofs.front.put_front.Given as goal
+
+abbrev pub invariant-printing : goal.invariant-printing
+invariant-printing g l = record {
+  known : KnowsHead l.problem (lines_of (drop l.front_line-index l.front));
+  finishes : Finishes (front_lines l.problem (lines_of (drop l.front_line-index l.front)))
+      (front_lines l.problem (lines_of l.front)) (g.K.Sink.state l.fn.out) (g.K.Sink.state l.out);
+}
