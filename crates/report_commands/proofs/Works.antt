@@ -3,8 +3,8 @@ use Rattle.std.proofs.Common.{◌≡◌, ◌∷◌, [], Some, true, false, refl,
 use Rattle.std.proofs.Common.{length, arith}
 use Rattle.std.specs.Borrow.{Bor}
 use Rattle.problem_rules.specs.Problem.{Problem}
-use Rattle.tree_rules.specs.Accepted.{Tree}
-use Rattle.tree_rules.specs.Claim.{Claim, Network}
+use Rattle.tree_rules.specs.Claim.{Network}
+use Rattle.tree_text_rules.specs.Read.{HeadedCertificate}
 use Rattle.rank_rules.specs.Headed.{is_ranking}
 use Rattle.rank_rules.specs.Networks.{ArePassing}
 use Rattle.rank_rules.specs.Ranked.{NetworkIsFault}
@@ -30,7 +30,8 @@ use Rattle.studio_rules.specs.Reading.{IsLong}
 use Rattle.studio_rules.specs.RankWords.{network_line}
 use Rattle.studio_rules.specs.Report.{ReportWork}
 use Rattle.studio_rules.specs.TextFile.{by_kind, RankSays, EitherSays}
-use Rattle.studio_rules.specs.TreeFile.{TreeSays, tree_limit}
+use Rattle.studio_rules.specs.TreeFile.{tree_limit}
+use Rattle.studio_rules.specs.HeadedFile.{HeadedSays}
 use Rattle.studio_rules.specs.declared.status.Status.{Status}
 use Rattle.studio_rules.specs.declared.status.Status.TheVariants.{Done, BadClaim, TooLong}
 
@@ -42,22 +43,18 @@ first_feasible distinct p (w ∷ ws) h = h.0
 
 -- of a tree, in the form that is wanted
 pub as_report : (form : Form) (ms : Bor Measures) → form ≡ Report ms → (p : Problem)
-    (claim : Claim) (tree : Tree) (s : Status) (lines : List (List ℕ))
-    → ReportWork ms.now p claim tree s lines → TreeWork form p claim tree s lines
-as_report form ms e p claim tree s lines h =
-    subst (λ (f : Form). TreeWork f p claim tree s lines) (sym e) h
+    (t : HeadedCertificate) (s : Status) (lines : List (List ℕ))
+    → ReportWork ms.now p t s lines → TreeWork form p t s lines
+as_report form ms e p t s lines h = subst (λ (f : Form). TreeWork f p t s lines) (sym e) h
 
-pub as_json : (form : Form) → form ≡ Json → (p : Problem) (claim : Claim) (tree : Tree)
-    (s : Status) (lines : List (List ℕ)) → JsonWork p claim tree s lines
-    → TreeWork form p claim tree s lines
-as_json form e p claim tree s lines h =
-    subst (λ (f : Form). TreeWork f p claim tree s lines) (sym e) h
+pub as_json : (form : Form) → form ≡ Json → (p : Problem) (t : HeadedCertificate) (s : Status)
+    (lines : List (List ℕ)) → JsonWork p t s lines → TreeWork form p t s lines
+as_json form e p t s lines h = subst (λ (f : Form). TreeWork f p t s lines) (sym e) h
 
-pub as_graph : (form : Form) → form ≡ Graph → (p : Problem) (claim : Claim) (tree : Tree)
-    (s : Status) (lines : List (List ℕ)) → OnNetwork NetworkGraphWork p claim tree s lines
-    → TreeWork form p claim tree s lines
-as_graph form e p claim tree s lines h =
-    subst (λ (f : Form). TreeWork f p claim tree s lines) (sym e) h
+pub as_graph : (form : Form) → form ≡ Graph → (p : Problem) (t : HeadedCertificate) (s : Status)
+    (lines : List (List ℕ)) → OnNetwork NetworkGraphWork p t.claim t.tree s lines
+    → TreeWork form p t s lines
+as_graph form e p t s lines h = subst (λ (f : Form). TreeWork f p t s lines) (sym e) h
 
 -- of a ranking with its verdict
 pub done : (reader : Reader) (p : Problem) (t : Text) (verdict : RankVerdict)
@@ -90,14 +87,14 @@ module _ (form : Form) (name : List ℕ) (p : Problem) (file : List ℕ) where
       → EitherSays (TreeWork form) (RankWork form) name p file s lines
   of_ranking e s lines h =
       subst (λ (kind : Bool). by_kind kind (RankSays (RankWork form) name p file s lines)
-      (TreeSays (TreeWork form) name p file s lines)) (sym e) h
+      (HeadedSays (TreeWork form) name p file s lines)) (sym e) h
 
   pub of_tree : is_ranking file ≡ false → (s : Status) (lines : List (List ℕ))
-      → TreeSays (TreeWork form) name p file s lines
+      → HeadedSays (TreeWork form) name p file s lines
       → EitherSays (TreeWork form) (RankWork form) name p file s lines
   of_tree e s lines h =
       subst (λ (kind : Bool). by_kind kind (RankSays (RankWork form) name p file s lines)
-      (TreeSays (TreeWork form) name p file s lines)) (sym e) h
+      (HeadedSays (TreeWork form) name p file s lines)) (sym e) h
 
 module _ (name : List ℕ) (p : Problem) (file : List ℕ) where
   -- of a table, and of any other text
@@ -134,7 +131,7 @@ module _ (name : List ℕ) (p : Problem) (file : List ℕ) where
   long_kind : (form : Form) (kind : Bool) (lines : List (List ℕ))
       → IsLong name tree_limit file lines
       → by_kind kind (RankSays (RankWork form) name p file TooLong lines)
-      (TreeSays (TreeWork form) name p file TooLong lines)
+      (HeadedSays (TreeWork form) name p file TooLong lines)
   long_kind form true lines h = inl h
   long_kind form false lines h = inl h
 

@@ -2,6 +2,7 @@
 ghost use Rattle.std.specs.Prelude.{◌≡◌};
 ghost use Rattle.report_commands.specs.Works.{OnForm};
 ghost use Rattle.studio_rules.specs.Reading.{TwoFilesSay, TwoTextsSay};
+ghost use Rattle.studio_rules.specs.HeadedFile.{AnyHead};
 ghost use Rattle.studio_rules.specs.Network.{OnNetwork};
 ghost use Rattle.studio_rules.specs.Graph.{NetworkGraphWork};
 ghost use Rattle.studio_rules.specs.Report.{ReportWork};
@@ -158,8 +159,8 @@ pub fn graph<F: Shelf, K: Sink, E: Sink>(
     out: &mut Outputs<K, E>,
 ) -> Status
     ensures ends { Ends
-        (TwoFilesSay (OnEither (OnNetwork NetworkGraphWork) RankGraphWork) file.now text.now
-        (F.state shelf.old) (F.state shelf.new)) out.old out.new result }
+        (TwoFilesSay (OnEither (AnyHead (OnNetwork NetworkGraphWork)) RankGraphWork) file.now
+        text.now (F.state shelf.old) (F.state shelf.new)) out.old out.new result }
     ensures keeps { Keeps (F.state shelf.old) (F.state shelf.new) }
 {
     let wanted = Wanted {
