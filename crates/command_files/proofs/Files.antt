@@ -1,13 +1,8 @@
 -- What the commands on a file say, from what is said of the file and of its problem.
 use Rattle.std.proofs.Common.{◌≡◌, ◌<◌, ℕ, List, Some, None, length, refl, arith, inl, inr, suc}
-use Rattle.std.proofs.Common.{replicate, Bool, true, false, Option, Result, Ok, ◌+◌}
-use Rattle.std.specs.Prelude.{if◌then◌else◌}
+use Rattle.std.proofs.Common.{replicate}
 use Rattle.std.proofs.lemmas.List.{length-replicate}
-use Rattle.text_rules.specs.declared.TextKind.TheVariants.{FileType}
-use Rattle.text_rules.specs.Fault.{Fault, seen_none, first_fault, first_is_type}
-use Rattle.text_rules.specs.Line.{lines_of, body_of, meant_of}
 use Rattle.text_rules.specs.Outside.{Told, IfTold}
-use Rattle.text_rules.specs.Value.{or_first, meaning_at}
 use Rattle.io_rules.specs.State.{ShelfState}
 use Rattle.problem_rules.specs.Problem.{Problem}
 use Rattle.studio_rules.specs.Ending.{Tells, Says}
@@ -23,19 +18,6 @@ long_file None limit h =
     (replicate (suc limit) 0, tt, omega (arith, length-replicate {A = ℕ} (suc limit) 0))
 long_file (Some None) limit h = absurd h
 long_file (Some (Some file)) limit h = (file, refl, h)
-
-typed : (b : Bool) (fault : Option Fault) (rest : Result Problem Fault) (p : Problem)
-    → or_first (if b then fault else Some (1, FileType)) rest ≡ Ok p → b ≡ true
-typed true fault rest p e = refl
-typed false fault rest p e = cc
-
--- a text that gives a problem begins with the type of the file
-pub has_type : (file : List ℕ) (p : Problem) → GivesProblem file p
-    → first_is_type (lines_of file) ≡ true
-has_type file p given =
-    let texts = lines_of file in
-    typed (first_is_type texts) (first_fault seen_none (body_of texts))
-    (meaning_at (meant_of texts) (length texts + 1)) p given.reads
 
 -- a command on a file says what its file says if that gives no problem
 pub on_file-faults : (work : Problem → Status → List (List ℕ) → Type 0) (old new : ShelfState)

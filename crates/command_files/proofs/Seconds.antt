@@ -4,7 +4,7 @@ use Rattle.text_rules.specs.Outside.{Told}
 use Rattle.io_rules.specs.State.{ShelfState}
 use Rattle.problem_rules.specs.Problem.{Problem}
 use Rattle.studio_rules.specs.Reading.{AreHeld, LongFile, IsLong, FileFaults, GivesProblem, OnFile}
-use Rattle.studio_rules.specs.Reading.{OnSecond, OnText, TwoFilesSay, TwoTextsSay}
+use Rattle.studio_rules.specs.Reading.{OnSecond, TwoFilesSay}
 use Rattle.studio_rules.specs.Ending.{Says}
 use Rattle.studio_rules.specs.declared.status.Status.{Status}
 use Rattle.studio_rules.specs.declared.status.Status.TheVariants.{TooLong}
@@ -66,33 +66,3 @@ module _ (judged : Problem → List ℕ → Status → List (List ℕ) → Type 
           inr (p, given.2, (h.0, subst (λ (o : Told). AreHeld o h.0) held h.1, h.2)),
         ))
         (λ other e. inr e) later
-
--- the same of a command whose work on the second file also goes by the bytes of the first
-module _ (judged : List ℕ → Problem → List ℕ → Status → List (List ℕ) → Type 0)
-    (file name : List ℕ) where
-  abbrev pub Judged : (List ℕ → Told) → List ℕ → List ℕ → Problem → Status → List (List ℕ) → Type 0
-  Judged held second bytes = OnSecond (judged bytes) held second
-
-  pub on_texts-faults : (old new : ShelfState) (s : Status) (t : List ℕ)
-      → Says (FileFaults old.held file) (λ other. other ≡ file) old new s t
-      → TwoTextsSay Judged file name old new s t
-  on_texts-faults old new =
-      Says-map (FileFaults old.held file) (OnText (Judged old.held name) old.held file)
-      (λ other. other ≡ file) (λ other. (other ≡ file) ⊎ (other ≡ name)) old new
-      (λ s lines h. (h.0, h.1, inl h.2)) (λ other e. inl e)
-
-  pub on_texts-work : (old mid new : ShelfState) (p : Problem) (bytes : List ℕ)
-      → AreHeld (old.held file) bytes → GivesProblem bytes p → mid.held name ≡ old.held name
-      → ((other : List ℕ) → old.faults other ≤ mid.faults other) → (s : Status) (t : List ℕ)
-      → Says (OnSecond (judged bytes) mid.held name p) (λ other. other ≡ name) mid new s t
-      → TwoTextsSay Judged file name old new s t
-  on_texts-work old mid new p bytes is gives held later =
-      Says-over (OnSecond (judged bytes) mid.held name p)
-      (OnText (Judged old.held name) old.held file) (λ other. other ≡ name)
-      (λ other. (other ≡ file) ⊎ (other ≡ name)) old mid new
-      (λ s lines h. (
-        bytes,
-        is,
-        inr (p, gives, (h.0, subst (λ (o : Told). AreHeld o h.0) held h.1, h.2)),
-      ))
-      (λ other e. inr e) later

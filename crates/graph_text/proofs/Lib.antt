@@ -1,6 +1,5 @@
 mod Most
 mod Lines
-mod Listed
 mod Moves
 mod Users
 mod Roles

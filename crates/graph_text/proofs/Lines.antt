@@ -65,22 +65,18 @@ next_lines lines left rest k whole text t1 e f h =
     ∙ ap (λ (t : List ℕ). text ++ t) (sym (printed-append (lines k) (flat_map lines rest)))
     ∙ ap (λ (ks : List ℕ). text ++ printed (flat_map lines ks)) (sym e) ∙ h
 
--- a part of a text, and all of its parts
-pub part_printed : (part rest : List (List ℕ)) (old mid new : List ℕ) → mid ≡ old ++ printed part
-    → new ≡ mid ++ printed rest → new ≡ old ++ printed (part ++ rest)
-part_printed part rest old mid new e f =
-    after old mid new (printed part) (printed rest) e f
-    ∙ ap (λ (t : List ℕ). old ++ t) (sym (printed-append part rest))
-
-pub parts_printed : (a b c d e f : List (List ℕ)) (old t1 t2 t3 t4 t5 t6 : List ℕ)
+-- all parts of a text
+pub parts_printed : (a b c d e : List (List ℕ)) (old t1 t2 t3 t4 t5 : List ℕ)
     → t1 ≡ old ++ printed a → t2 ≡ t1 ++ printed b → t3 ≡ t2 ++ printed c → t4 ≡ t3 ++ printed d
-    → t5 ≡ t4 ++ printed e → t6 ≡ t5 ++ printed f
-    → t6 ≡ old ++ printed (a ++ (b ++ (c ++ (d ++ (e ++ f)))))
-parts_printed a b c d e f old t1 t2 t3 t4 t5 t6 pa pb pc pd pe pf =
-    part_printed a (b ++ (c ++ (d ++ (e ++ f)))) old t1 t6 pa
-    (part_printed b (c ++ (d ++ (e ++ f))) t1 t2 t6 pb
-    (part_printed c (d ++ (e ++ f)) t2 t3 t6 pc
-    (part_printed d (e ++ f) t3 t4 t6 pd (part_printed e f t4 t5 t6 pe pf))))
+    → t5 ≡ t4 ++ printed e
+    → t5 ≡ old ++ printed (a ++ (b ++ (c ++ (d ++ e))))
+parts_printed a b c d e old t1 t2 t3 t4 t5 pa pb pc pd pe =
+    after old t1 t5 (printed a) (printed b ++ (printed c ++ (printed d ++ printed e))) pa
+    (after_four t1 t2 t3 t4 t5 (printed b) (printed c) (printed d) (printed e) pb pc pd pe)
+    ∙ ap (λ (t : List ℕ). old ++ t) (sym (printed-append a (b ++ (c ++ (d ++ e)))
+    ∙ ap (λ (t : List ℕ). printed a ++ t) (printed-append b (c ++ (d ++ e))
+    ∙ ap (λ (t : List ℕ). printed b ++ t) (printed-append c (d ++ e)
+    ∙ ap (λ (t : List ℕ). printed c ++ t) (printed-append d e)))))
 
 -- a line of three pieces
 pub line_end : (x y z : List ℕ) → x ++ (y ++ (z ++ 10 ∷ [])) ≡ printed ((x ++ (y ++ z)) ∷ [])

@@ -1,4 +1,4 @@
-//! Sizes, flows, money, costs and the numbers of a plant.
+//! Sizes, flows, money and the numbers of a plant.
 ghost use Rattle.std.specs.Prelude.{◌≡◌, ◌++◌, ◌≤ℤ◌, ◌<ℤ◌, pos, unsigned_abs, codes, OnOk};
 ghost use Rattle.std.specs.Prelude.{string_bytes};
 ghost use Rattle.integer_laws.specs.Range.{InRange};
@@ -7,11 +7,9 @@ ghost use Rattle.report_rules.specs.Number.{number_text};
 ghost use Rattle.report_rules.specs.Amounts.{quotient};
 ghost use Rattle.report_rules.specs.Drawn.{below, flow_text, way_words, money, money_label};
 ghost use Rattle.report_rules.specs.Drawn.{net_label, width_words};
-ghost use Rattle.report_rules.specs.Graph.{exact, told, cost_text};
+ghost use Rattle.report_rules.specs.Graph.{exact, told};
 
-use branch_tree::Network;
 use decimals::{push_signed, push_six_digits};
-use pns_problem::Problem;
 use report_amounts::Number;
 use std::alloc::AllocError;
 
@@ -152,22 +150,6 @@ pub(crate) fn push_net(text: &mut String, price: i64, net: i128, d: i128) -> Res
     } else {
         push_some_net(text, price, net, d)
     }
-}
-
-/// Appends the cost in one year.
-pub(crate) fn push_cost(
-    text: &mut String,
-    problem: &Problem,
-    network: &Network,
-) -> Result<(), AllocError>
-    ensures { OnOk result
-        (string_bytes text.new ≡ string_bytes text.old
-        ++ cost_text problem.now network.now) }
-{
-    problem.is_valid();
-    network.is_sized();
-    let half = 500_000_000_000 * problem.payout().unsigned_abs();
-    push_six_digits(text, half, network.cost(), network.d())
 }
 
 /// How wide the arc of a flow is, by the greatest one.

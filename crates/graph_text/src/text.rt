@@ -1,26 +1,37 @@
 //! The whole text.
-ghost use Rattle.std.specs.Prelude.{◌≡◌, ◌++◌, ◌∷◌, ◌<◌, ◌^◌, ℕ, [], true, Some, OnOk, IfOk};
+ghost use Rattle.std.specs.Prelude.{◌≡◌, ◌++◌, ◌∷◌, ◌<◌, ℕ, [], true, Some, OnOk, IfOk};
 ghost use Rattle.std.specs.Prelude.{IfSome};
 ghost use Rattle.std.specs.Prelude.{option_map, string_bytes, length};
 ghost use Rattle.number_sets.specs.Sets.{has};
 ghost use Rattle.pns_problem.specs.Printing.{printed};
 ghost use Rattle.tree_rules.specs.Claim.{IsFeasible};
-ghost use Rattle.report_rules.specs.Graph.{sort_words, total_lines};
+ghost use Rattle.report_rules.specs.Graph.{cost_text, sort_words, total_lines};
 ghost use Rattle.report_rules.specs.Graph.{total_line};
 ghost use Rattle.report_rules.specs.Graph.{head_lines, legend, rate_legend, flow_legend};
 ghost use Rattle.report_rules.specs.Graph.{picture_lines, graph_lines, empty_lines};
 ghost use Rattle.graph_text.specs.Kept.{picture_of};
 
-use crate::list::push_list;
 use crate::materials::push_materials;
-use crate::numbers::push_cost;
 use crate::picture::Picture;
 use crate::units::push_units;
 use branch_tree::Network;
+use decimals::push_six_digits;
 use pgraph::Site;
 use pns_problem::Problem;
 use std::alloc::{AllocError, Global};
 use unit_sets::UnitSet;
+
+/// The cost in one year.
+fn push_cost(text: &mut String, problem: &Problem, network: &Network) -> Result<(), AllocError>
+    ensures { OnOk result
+        (string_bytes text.new ≡ string_bytes text.old
+        ++ cost_text problem.now network.now) }
+{
+    problem.is_valid();
+    network.is_sized();
+    let half = 500_000_000_000 * problem.payout().unsigned_abs();
+    push_six_digits(text, half, network.cost(), network.d())
+}
 
 fn sort_words(cost: i128) -> &'static str
     ensures { result.now ≡ sort_words cost }
@@ -117,16 +128,10 @@ fn push_head(text: &mut String) -> Result<(), AllocError>
 const LAST: &str = "  { rank=sink; legend; }\n}\n";
 
 /// Appends all lines.
-fn push_picture(
-    alloc: Global,
-    text: &mut String,
-    picture: &Picture<'_>,
-    networks: &[Network],
-) -> Result<(), AllocError>
-    requires { length networks.now < 2 ^ 32 }
+fn push_picture(text: &mut String, picture: &Picture<'_>) -> Result<(), AllocError>
     ensures { OnOk result
         (string_bytes text.new ≡ string_bytes text.old
-        ++ printed (picture_lines (picture_of picture.now) networks.now)) }
+        ++ printed (picture_lines (picture_of picture.now))) }
 {
     let units = picture.units();
     units.rises();
@@ -134,33 +139,29 @@ fn push_picture(
     materials.rises();
     push_head(text)?;
     push_total(text, picture)?;
-    push_list(alloc, text, picture.problem(), networks)?;
     push_materials(text, picture, materials)?;
     push_units(text, picture, units)?;
     text.push_str(LAST)?;
     Ok(())
 }
 
-/// The graph of these units, with the network in it if one is given, and with these networks as a
-/// table if there are any.
+/// The graph of these units, with the network in it if one is given.
 pub fn graph_of(
     alloc: Global,
     site: &Site<'_>,
     network: Option<&Network>,
-    networks: &[Network],
     units: UnitSet,
 ) -> Result<Vec<u8>, AllocError>
     requires known { (u : ℕ) → has units u ≡ true → u < length site.now.units }
     requires feasible { IfSome network (λ n. IsFeasible site.now n.now) }
-    requires few { length networks.now < 2 ^ 32 }
     ensures { IfOk result
         (λ bytes. bytes.items
         ≡ printed
-        (graph_lines site.now (option_map (λ n. n.now) network.entry) networks.now (has units))) }
+        (graph_lines site.now (option_map (λ n. n.now) network.entry) (has units))) }
 {
     let picture = Picture::of(site, network, units);
     let mut text = String::new(alloc);
-    push_picture(alloc, &mut text, &picture, networks)?;
+    push_picture(&mut text, &picture)?;
     Ok(text.into_bytes())
 }
 

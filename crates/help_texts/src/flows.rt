@@ -47,7 +47,7 @@ claimed.
 Ends with
   0   The whole text was printed.
   1   refused claim WHY, refused head K WHY, or refused node N WHY: the tree
-      does not prove its claim on this plant. K counts lines of its head from
+      does not prove its claim on this plant. K counts the lines of its head from
       0. A tree with status 4 or 5 has open leaves and is refused (unknown or
       open): solve with a greater budget.
   10  tree line L KIND: line L of TREE has a fault; pns help KIND explains it.

@@ -86,21 +86,16 @@ pub fn json_page() -> &'static [u8]
     b"pns json FILE TREE
 Says what pns report says, as one JSON object for programs.
   FILE  the plant, PNS_problem_v1
-  TREE  a tree text, as solve prints it, a rank text, as rank prints it, or a
-        table of pns stable FILE TREE
+  TREE  a tree text, as solve prints it, or a rank text, as rank prints it
 Prints the keys verdict (proved, not finished or not proved, then with the node
-that fails and why) and claim; low and gap, the lower bound and the gap of pns
-report, a fraction here, or null; if the claim has a network, also counts,
-payout_period, units, materials, money, paid_once and left_out. Each number is
-there twice: value has 17 digits, exact is a fraction; both are null if it
-overflows 128 bits. A line has one unit or one material.
+that fails and why) and claim; of a tree low and gap, the lower bound and the
+gap of pns report, a fraction here, or null; if the claim has a network, also
+counts, payout_period, units, materials, money, paid_once and left_out. Each
+number is there twice: value has 17 digits, exact is a fraction; both are null
+if it overflows 128 bits. A line has one unit or one material.
 Of a rank text claim is ranking or alternatives, asked says how many were
 wanted, and networks has place, cost, above, share_above, taken_in, left_out,
 idle of each. The keys from counts on are those of the best one.
-Of a table claim is ranges, and ranges has kind, name, from, now and to of each
-row, from_limit, to_limit (true if that end is limit) and finished (false if an
-end is ?). An end that is no number is null. Nothing of a table is judged: run
-pns stable again for the proof.
 Ends with
   0   The whole text was printed. The verdict says what is proved.
   1   refused claim WHY, refused network K WHY: as of pns report
@@ -122,7 +117,7 @@ pns graph FILE TREE
 Prints the maximal structure as a graph for Graphviz, with TREE also the network
 of its claim. The program itself draws nothing.
   FILE  the plant, PNS_problem_v1
-  TREE  a tree text, as solve prints it, or a rank text, as rank prints it
+  TREE  a tree text, as solve prints it
 Prints DOT text. Raw materials are houses, products have a double line, units
 are boxes. Arcs show rates that are not 1. With TREE they show flows, and are
 wider for more flow; a unit shows its size and its costs, a material what is
@@ -131,13 +126,10 @@ orange, what is left out grey; a unit of size 0 has a broken line. A raw
 material with more than four users is drawn at each of them, and so is another
 with more than four users in the network. A pointer on a part shows its numbers
 in FILE. Numbers with more than six digits show six, but always their whole
-part. Of a ranking the best network is drawn, and a table above it has all: what
-each costs, what that is above the best one, and the units that it takes in (+)
-and leaves out (-) against it.
+part.
 Ends with
   0   The whole text was printed.
-  1   refused claim WHY, refused network K WHY, with TREE only: as in pns help
-      report. A ranking without a network is refused as unknown.
+  1   refused claim WHY, with TREE only: as in pns help report.
   10  tree line L KIND: line L of TREE has a fault; pns help KIND explains it.
       Print the text again. With TREE only.
   2, 3, 6, 7, 8, 12, 20: see pns help status

@@ -1,8 +1,7 @@
 //! Pieces of JSON text in one line.
 ghost use Rattle.std.specs.Prelude.{◌≡◌, ◌++◌, ◌∷◌, [], IfOk, OnOk, decimal, flat_map, option_map};
 ghost use Rattle.integer_laws.specs.Fraction.{fraction_text};
-ghost use Rattle.json_rules.specs.Json.{escaped, quoted, null, truth, parted, array, member};
-ghost use Rattle.json_rules.specs.Json.{object};
+ghost use Rattle.json_rules.specs.Json.{escaped, quoted, null, parted, array, member, object};
 ghost use Rattle.json_rules.specs.Value.{value_text, pair_of, number_json};
 
 use crate::value::value_text;
@@ -46,17 +45,6 @@ impl Json {
         ensures { IfOk result (λ json. json ≡ null) }
     {
         Json::plain(alloc, "null")
-    }
-
-    /// The word for what holds or does not.
-    pub fn truth(alloc: Global, holds: bool) -> Result<Json, AllocError>
-        ensures { IfOk result (λ json. json ≡ truth holds) }
-    {
-        if holds {
-            Json::plain(alloc, "true")
-        } else {
-            Json::plain(alloc, "false")
-        }
     }
 
     /// A whole number.

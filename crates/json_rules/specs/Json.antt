@@ -1,6 +1,5 @@
 -- JSON text (RFC 8259), made from its pieces.
-use Rattle.std.specs.Prelude.{◌==◌, ◌||◌, ℕ, Bool, List, [], ◌∷◌, ◌++◌, flat_map, codes}
-use Rattle.std.specs.Prelude.{if◌then◌else◌}
+use Rattle.std.specs.Prelude.{◌==◌, ◌||◌, ℕ, List, [], ◌∷◌, ◌++◌, flat_map, codes, if◌then◌else◌}
 
 -- ---- in one line
 
@@ -14,9 +13,6 @@ quoted bytes = 34 ∷ flat_map escaped bytes ++ 34 ∷ []
 
 abbrev pub null : List ℕ
 null = codes "null"
-
-abbrev pub truth : Bool → List ℕ
-truth holds = if holds then codes "true" else codes "false"
 
 -- the pieces, with a comma and a space between each two
 abbrev pub parted : List (List ℕ) → List ℕ

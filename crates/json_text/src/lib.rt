@@ -17,7 +17,7 @@ mod ranking;
 mod text;
 mod units;
 
-pub use lower::{bound_member, first_gap_member, gap_member, low_member};
+pub use lower::{gap_member, low_member};
 pub use members::{count_member, null_member, text_member};
 pub use ranking::{first_of, networks_member};
 pub use text::{bare_of, facts_of};

@@ -1,12 +1,9 @@
-//! The lower bound of a tree or of a ranking that is not finished, and the gap between the network
-//! and it.
+//! The lower bound of a tree that is not finished, and the gap between the network and it.
 ghost use Rattle.std.specs.Prelude.{◌≡◌, pos, IfOk, codes};
-ghost use Rattle.tree_rules.specs.Claim as claims;
 ghost use Rattle.branch_tree.specs.View.{claim_of};
 ghost use Rattle.report_rules.specs.Amounts.{quotient};
 ghost use Rattle.json_rules.specs.Json.{member};
 ghost use Rattle.json_rules.specs.Lower as rules;
-ghost use Rattle.report_rules.specs.RankLow.{best_claim};
 
 use crate::foot::year;
 use branch_tree::{Claim, Network};
@@ -95,54 +92,5 @@ pub fn gap_member(alloc: Global, claim: &Claim, verdict: Verdict) -> Result<Json
         (λ json. json ≡ member (codes "gap") (rules.gap_json (claim_of claim.now) verdict)) }
 {
     let gap = gap_json(alloc, claim, verdict)?;
-    Json::member(alloc, "gap", &gap)
-}
-
-/// A lower bound for one year, under its key.
-pub fn bound_member(
-    alloc: Global,
-    problem: &Problem,
-    low: Option<LowerBound>,
-) -> Result<Json, AllocError>
-    ensures { IfOk result (λ json. json ≡ member (codes "low") (rules.bound_json problem.now low)) }
-{
-    let bound = bound_json(alloc, problem, low)?;
-    Json::member(alloc, "low", &bound)
-}
-
-/// The gap of a network, or `null` if no bound is known.
-fn gap_of(alloc: Global, network: &Network, low: Option<LowerBound>) -> Result<Json, AllocError>
-    ensures { IfOk result
-        (λ json. json ≡ rules.gap_between (claims.network network.now) low) }
-{
-    match low {
-        Some(low) => gap_over(alloc, network, &low),
-        None => Json::null(alloc),
-    }
-}
-
-fn first_gap(
-    alloc: Global,
-    networks: &[Network],
-    low: Option<LowerBound>,
-) -> Result<Json, AllocError>
-    ensures { IfOk result (λ json. json ≡ rules.gap_between (best_claim networks.now) low) }
-{
-    match networks.split_first() {
-        Some((first, _)) => gap_of(alloc, first, low),
-        None => Json::null(alloc),
-    }
-}
-
-/// How far the first network is above the lower bound, over the size of its cost, under its key.
-pub fn first_gap_member(
-    alloc: Global,
-    networks: &[Network],
-    low: Option<LowerBound>,
-) -> Result<Json, AllocError>
-    ensures { IfOk result
-        (λ json. json ≡ member (codes "gap") (rules.gap_between (best_claim networks.now) low)) }
-{
-    let gap = first_gap(alloc, networks, low)?;
     Json::member(alloc, "gap", &gap)
 }

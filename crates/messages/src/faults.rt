@@ -14,7 +14,6 @@ pub enum Format {
     Part,
     Script,
     Plan,
-    Ranges,
 }
 
 impl Format {
@@ -26,7 +25,6 @@ impl Format {
             Format::Part => "part",
             Format::Script => "script",
             Format::Plan => "plan",
-            Format::Ranges => "table",
         }
     }
 
@@ -39,7 +37,6 @@ impl Format {
             Format::Part => "PART",
             Format::Script => "SCRIPT",
             Format::Plan => "PLAN",
-            Format::Ranges => "TREE",
         }
     }
 
@@ -52,7 +49,6 @@ impl Format {
             Format::Part => "PNS_part_v1",
             Format::Script => "PNS_edits_v1",
             Format::Plan => "PNS_plan_v1",
-            Format::Ranges => "kind name from now to",
         }
     }
 
@@ -73,7 +69,7 @@ impl Format {
     /// Whether a search printed it.
     fn is_printed(self) -> bool {
         match self {
-            Format::Tree | Format::Rank | Format::Part | Format::Ranges => true,
+            Format::Tree | Format::Rank | Format::Part => true,
             Format::Plant | Format::Script | Format::Plan => false,
         }
     }

@@ -11,17 +11,17 @@ use Rattle.studio_rules.specs.Lines.{text_of}
 use Rattle.studio_rules.specs.Graph.{AreGraphLines}
 
 pub graph_told : {V E : Type 0} (items : V → List ℕ) (p : Problem) (w : Option Network)
-    (ws : List Network) (t : ℕ → Bool) (r : Result V E) → IsMaximal (shape_of p) t
-    → IfOk r (λ bytes. items bytes ≡ printed (graph_lines p w ws t))
-    → IfOk r (λ bytes. (lines : List (List ℕ)) × AreGraphLines p w ws lines
+    (t : ℕ → Bool) (r : Result V E) → IsMaximal (shape_of p) t
+    → IfOk r (λ bytes. items bytes ≡ printed (graph_lines p w t))
+    → IfOk r (λ bytes. (lines : List (List ℕ)) × AreGraphLines p w lines
     × (items bytes ≡ text_of lines))
-graph_told items p w ws t (Ok bytes) is h = (graph_lines p w ws t, inr (t, is, refl), h)
-graph_told items p w ws t (Err e) is h = tt
+graph_told items p w t (Ok bytes) is h = (graph_lines p w t, inr (t, is, refl), h)
+graph_told items p w t (Err e) is h = tt
 
 pub empty_told : {V E : Type 0} (items : V → List ℕ) (p : Problem) (w : Option Network)
-    (ws : List Network) (r : Result V E) → HasNoStructure (shape_of p)
+    (r : Result V E) → HasNoStructure (shape_of p)
     → IfOk r (λ bytes. items bytes ≡ printed empty_lines)
-    → IfOk r (λ bytes. (lines : List (List ℕ)) × AreGraphLines p w ws lines
+    → IfOk r (λ bytes. (lines : List (List ℕ)) × AreGraphLines p w lines
     × (items bytes ≡ text_of lines))
-empty_told items p w ws (Ok bytes) none h = (empty_lines, inl (none, refl), h)
-empty_told items p w ws (Err e) none h = tt
+empty_told items p w (Ok bytes) none h = (empty_lines, inl (none, refl), h)
+empty_told items p w (Err e) none h = tt

@@ -1,3 +1,4 @@
 mod GraphLines
+mod Headed
 mod Refusals
 mod TableLines

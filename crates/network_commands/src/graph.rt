@@ -1,14 +1,17 @@
-//! The command `graph` without a tree, and the graphs with a network in them.
-ghost use Rattle.std.specs.Prelude.{◌≡◌, ◌<◌, ◌^◌, [], ℕ, List, Some, None, IfOk, IfSome, true};
-ghost use Rattle.std.specs.Prelude.{length, option_map};
+//! The command `graph`.
+ghost use Rattle.std.specs.Prelude.{◌≡◌, ℕ, List, Some, None, IfOk, IfSome, option_map, true};
+ghost use Rattle.std.specs.Prelude.{length};
 ghost use Rattle.number_sets.specs.Sets.{has};
 ghost use Rattle.tree_rules.specs.Claim.{IsFeasible};
 ghost use Rattle.studio_rules.specs.Lines.{text_of};
-ghost use Rattle.studio_rules.specs.Reading.{FileSays};
-ghost use Rattle.studio_rules.specs.Graph.{AreGraphLines, PlantGraphWork};
+ghost use Rattle.studio_rules.specs.Reading.{FileSays, TwoFilesSay};
+ghost use Rattle.studio_rules.specs.TreeFile.{OnTree};
+ghost use Rattle.studio_rules.specs.Network.{OnNetwork};
+ghost use Rattle.studio_rules.specs.Graph.{AreGraphLines, PlantGraphWork, NetworkGraphWork};
 ghost use Rattle.studio_rules.specs.Ending.{Ends, Tells};
 ghost use Rattle.studio_rules.specs.Keeps.{Keeps};
 
+use crate::network::{NetworkText, say_of_network};
 use branch_tree::Network;
 use command_files::problem_of;
 use endings::say::{say_memory, say_text};
@@ -21,22 +24,15 @@ use std::alloc::{AllocError, Global};
 use studio_rules::Status;
 use unit_sets::UnitSet;
 
-/// The graph of the maximal structure, with the network in it if one is given, and with these
-/// networks as a table if there are any.
-fn drawn(
-    alloc: Global,
-    site: &Site<'_>,
-    network: Option<&Network>,
-    networks: &[Network],
-) -> Result<Vec<u8>, AllocError>
+/// The graph of the maximal structure, with the network in it if one is given.
+fn drawn(alloc: Global, site: &Site<'_>, network: Option<&Network>) -> Result<Vec<u8>, AllocError>
     requires feasible { IfSome network (λ n. IsFeasible site.now n.now) }
-    requires few { length networks.now < 2 ^ 32 }
     ensures { IfOk result (λ bytes. (lines : List (List ℕ))
-        × AreGraphLines site.now (option_map (λ n. n.now) network.entry) networks.now lines
+        × AreGraphLines site.now (option_map (λ n. n.now) network.entry) lines
         × (bytes.items ≡ text_of lines)) }
 {
     match maximal(site.graph(), UnitSet::empty()) {
-        Some(units) => graph_of(alloc, site, network, networks, units),
+        Some(units) => graph_of(alloc, site, network, units),
         None => empty_graph(alloc),
     }
 }
@@ -49,25 +45,9 @@ pub(crate) fn network_graph(
 ) -> Result<Vec<u8>, AllocError>
     requires feasible { IsFeasible site.now network.now }
     ensures { IfOk result (λ bytes. (lines : List (List ℕ))
-        × AreGraphLines site.now (Some network.now) [] lines × (bytes.items ≡ text_of lines)) }
+        × AreGraphLines site.now (Some network.now) lines × (bytes.items ≡ text_of lines)) }
 {
-    drawn(alloc, site, Some(network), &[])
-}
-
-/// The graph with the first network of a list in it, and the list as a table.
-pub fn list_graph(
-    alloc: Global,
-    site: &Site<'_>,
-    first: &Network,
-    networks: &[Network],
-) -> Result<Vec<u8>, AllocError>
-    requires feasible { IsFeasible site.now first.now }
-    requires few { length networks.now < 2 ^ 32 }
-    ensures { IfOk result (λ bytes. (lines : List (List ℕ))
-        × AreGraphLines site.now (Some first.now) networks.now lines
-        × (bytes.items ≡ text_of lines)) }
-{
-    drawn(alloc, site, Some(first), networks)
+    drawn(alloc, site, Some(network))
 }
 
 fn say_plant<K: Sink, E: Sink>(alloc: Global, out: &mut Outputs<K, E>, problem: &Problem) -> Status
@@ -77,7 +57,7 @@ fn say_plant<K: Sink, E: Sink>(alloc: Global, out: &mut Outputs<K, E>, problem: 
         return say_memory(out);
     };
     let site = Site::of(problem, &graph);
-    match drawn(alloc, &site, None, &[]) {
+    match drawn(alloc, &site, None) {
         Ok(bytes) => say_text(out, &bytes, Status::Done),
         Err(_) => say_memory(out),
     }
@@ -98,4 +78,20 @@ pub fn plant_graph<F: Shelf, K: Sink, E: Sink>(
         Ok(problem) => say_plant(alloc, out, &problem),
         Err(status) => status,
     }
+}
+
+/// Prints the same, with the network that the tree of the other file claims on the problem.
+pub fn graph<F: Shelf, K: Sink, E: Sink>(
+    alloc: Global,
+    file: &str,
+    tree: &str,
+    shelf: &mut F,
+    out: &mut Outputs<K, E>,
+) -> Status
+    ensures ends { Ends
+        (TwoFilesSay (OnTree (OnNetwork NetworkGraphWork)) file.now tree.now (F.state shelf.old)
+        (F.state shelf.new)) out.old out.new result }
+    ensures keeps { Keeps (F.state shelf.old) (F.state shelf.new) }
+{
+    say_of_network(alloc, NetworkText::Graph, file, tree, shelf, out)
 }

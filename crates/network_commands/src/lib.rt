@@ -7,20 +7,22 @@
 //! which text is printed with which status. In `studio_rules`, `Network` has what all of them print
 //! of a claim that is refused, and `Table`, `Graph` and `Report` have the texts.
 //!
-//! Modules: `claim`, which gives the network of a claim or refuses it; `network`, the text of the
-//! network of a claim; `table` and `graph`; `report`, the report of a tree; `verdict_lines`, its
-//! text. For `report`, and for `graph` with a tree, `report_commands` reads the files.
+//! Modules: `claim`, which gives the network of a claim or refuses it; `network`, the way from the
+//! files to the text of a network; `table` and `graph`; `report`, the report of a tree, of which
+//! `report_commands` reads the files; `verdict_lines`, its text, and `headed`, that of a tree which
+//! may have a head.
 #![tactic(auto)]
 
 mod claim;
 pub mod graph;
+mod headed;
 mod network;
 mod report;
 pub mod table;
 mod verdict_lines;
 
 pub use claim::{network_of, say_refused};
-pub use graph::list_graph;
-pub use network::{NetworkText, say_claimed};
+pub use headed::headed_report_text;
+pub use network::NetworkText;
 pub use report::say_reported;
-pub use verdict_lines::{push_gap_behind, push_low_words, verdict_text};
+pub use verdict_lines::verdict_text;

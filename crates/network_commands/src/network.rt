@@ -1,20 +1,24 @@
-//! The text of the network of a claim.
+//! The text of the network that a tree file claims.
 ghost use Rattle.std.specs.Prelude.{◌≡◌, ℕ, List, IfOk};
 ghost use Rattle.tree_rules.specs.Claim.{IsFeasible};
 ghost use Rattle.branch_tree.specs.View.{claim_of};
 ghost use Rattle.studio_rules.specs.Lines.{text_of};
+ghost use Rattle.studio_rules.specs.Reading.{TwoFilesSay};
+ghost use Rattle.studio_rules.specs.TreeFile.{OnTree};
 ghost use Rattle.studio_rules.specs.Network.{OnNetwork};
 ghost use Rattle.network_commands.specs.Texts.{TextWork};
 ghost use Rattle.studio_rules.specs.declared.status.Status.TheVariants.{Done};
-ghost use Rattle.studio_rules.specs.Ending.{Ends, Tells};
+ghost use Rattle.studio_rules.specs.Ending.{Ends, Says, Tells};
+ghost use Rattle.studio_rules.specs.Keeps.{Keeps};
 
 use crate::claim::network_of;
 use crate::graph::network_graph;
 use crate::table::tables;
 use branch_tree::{Claim, Network, Tree};
+use command_files::{problem_of, tree_of};
 use endings::say::{say_memory, say_text};
 use pgraph::{Graph, Site};
-use pns_io::{Outputs, Sink};
+use pns_io::{Outputs, Shelf, Sink};
 use pns_problem::Problem;
 use std::alloc::{AllocError, Global};
 use studio_rules::Status;
@@ -80,6 +84,47 @@ pub fn say_claimed<K: Sink, E: Sink>(
     let site = Site::of(problem, &graph);
     match network_of(alloc, out, &site, claim) {
         Ok(network) => say_network(alloc, what, out, &site, &network),
+        Err(status) => status,
+    }
+}
+
+fn say_tree<F: Shelf, K: Sink, E: Sink>(
+    alloc: Global,
+    what: NetworkText,
+    problem: &Problem,
+    name: &str,
+    shelf: &mut F,
+    out: &mut Outputs<K, E>,
+) -> Status
+    ensures ends { Ends
+        (Says (OnTree (OnNetwork (TextWork what)) (F.state shelf.old).held name.now problem.now)
+        (λ other. other ≡ name.now) (F.state shelf.old) (F.state shelf.new)) out.old out.new
+        result }
+    ensures keeps { Keeps (F.state shelf.old) (F.state shelf.new) }
+{
+    match tree_of(alloc, shelf, out, name, problem) {
+        Ok((claim, tree)) => say_claimed(alloc, what, out, problem, claim, &tree),
+        Err(status) => status,
+    }
+}
+
+/// Prints this text of the network that the tree of the one file claims on the problem of the
+/// other.
+pub(crate) fn say_of_network<F: Shelf, K: Sink, E: Sink>(
+    alloc: Global,
+    what: NetworkText,
+    file: &str,
+    tree: &str,
+    shelf: &mut F,
+    out: &mut Outputs<K, E>,
+) -> Status
+    ensures ends { Ends
+        (TwoFilesSay (OnTree (OnNetwork (TextWork what))) file.now tree.now (F.state shelf.old)
+        (F.state shelf.new)) out.old out.new result }
+    ensures keeps { Keeps (F.state shelf.old) (F.state shelf.new) }
+{
+    match problem_of(alloc, shelf, out, file) {
+        Ok(problem) => say_tree(alloc, what, &problem, tree, shelf, out),
         Err(status) => status,
     }
 }

@@ -17,11 +17,12 @@ ghost use Rattle.studio_rules.specs.Report.{tables_of, VerdictSays};
 use branch_tree::{Claim, Network, Tree};
 use clash_tables::clashes_of;
 use marginals::marginals_of;
+use pgraph::Site;
 use pns_problem::Problem;
 use refusal_words::why_word;
 use report_amounts::push_gap;
 use report_rules::{LowerBound, Verdict};
-use report_tables::{Plant, push_low, push_total, report_of};
+use report_tables::{push_low, push_total, report_of};
 use std::alloc::{AllocError, Global};
 use tree_rules::Why;
 
@@ -36,7 +37,8 @@ fn push_least(text: &mut String, problem: &Problem, network: &Network) -> Result
     Ok(())
 }
 
-fn push_proved(text: &mut String, problem: &Problem, claim: &Claim) -> Result<(), AllocError>
+/// Appends that the claim is proved.
+pub(crate) fn push_proved(text: &mut String, problem: &Problem, claim: &Claim) -> Result<(), AllocError>
     ensures { OnOk result
         (string_bytes text.new ≡ string_bytes text.old
         ++ proved_line problem.now (claim_of claim.now)) }
@@ -48,7 +50,7 @@ fn push_proved(text: &mut String, problem: &Problem, claim: &Claim) -> Result<()
 }
 
 /// Appends the lower bound, if one is known.
-pub fn push_low_words(
+fn push_low_words(
     text: &mut String,
     problem: &Problem,
     low: Option<LowerBound>,
@@ -65,7 +67,7 @@ pub fn push_low_words(
 }
 
 /// Appends its gap, if it is known.
-pub fn push_gap_behind(
+fn push_gap_behind(
     text: &mut String,
     network: &Network,
     low: Option<LowerBound>,
@@ -125,7 +127,8 @@ fn push_unfinished(
     }
 }
 
-fn push_failing(text: &mut String, node: u32, why: Why) -> Result<(), AllocError>
+/// Appends which node fails first, and why.
+pub(crate) fn push_failing(text: &mut String, node: u32, why: Why) -> Result<(), AllocError>
     ensures { OnOk result (string_bytes text.new ≡ string_bytes text.old ++ failing_line node why) }
 {
     text.push_str("NOT PROVED: node ")?;
@@ -172,58 +175,56 @@ fn first_text(
 /// The bounds that clash, if the tree proves that no network meets the bounds.
 fn clash_text(
     alloc: Global,
-    plant: &Plant<'_>,
+    site: &Site<'_>,
     tree: &Tree,
     verdict: Verdict,
 ) -> Result<Vec<u8>, AllocError>
     requires few { length tree.now < 2 ^ 32 }
-    requires verdict { IsVerdict plant.now.site.now claims.infeasible tree.now verdict }
+    requires verdict { IsVerdict site.now claims.infeasible tree.now verdict }
     ensures { IfOk result
         (λ bytes. bytes.items
-        ≡ text_of
-        (tables_of plant.now.measures.now plant.now.site.now None claims.infeasible tree.now
-        verdict)) }
+        ≡ text_of (tables_of site.now None claims.infeasible tree.now verdict)) }
 {
     match verdict {
-        Verdict::Proved => clashes_of(alloc, plant.site, tree),
+        Verdict::Proved => clashes_of(alloc, site, tree),
         Verdict::Unfinished { .. } | Verdict::Fails { .. } => Ok(Vec::new(alloc)),
     }
 }
 
 /// The tables of the network, with its marginals.
-fn network_text(alloc: Global, plant: &Plant<'_>, network: &Network) -> Result<Vec<u8>, AllocError>
-    requires feasible { IsFeasible plant.now.site.now network.now }
+pub(crate) fn network_text(
+    alloc: Global,
+    site: &Site<'_>,
+    network: &Network,
+) -> Result<Vec<u8>, AllocError>
+    requires feasible { IsFeasible site.now network.now }
     ensures { IfOk result
-        (λ bytes. (m : Marginals) × AreMarginals plant.now.site.now network.now.units m
-        × (bytes.items
-        ≡ text_of (report_lines plant.now.measures.now plant.now.site.now network.now m))) }
+        (λ bytes. (m : Marginals) × AreMarginals site.now network.now.units m
+        × (bytes.items ≡ text_of (report_lines site.now network.now m))) }
 {
-    let marginals = marginals_of(alloc, plant.site, network)?;
-    let bytes = report_of(alloc, plant, network, &marginals)?;
+    let marginals = marginals_of(alloc, site, network)?;
+    let bytes = report_of(alloc, site, network, &marginals)?;
     Ok(bytes)
 }
 
 /// The tables of the network, if one is claimed, or the bounds that clash.
 fn tables_of(
     alloc: Global,
-    plant: &Plant<'_>,
+    site: &Site<'_>,
     claim: &Claim,
     tree: &Tree,
     verdict: Verdict,
 ) -> Result<Vec<u8>, AllocError>
     requires few { length tree.now < 2 ^ 32 }
-    requires passes { ClaimPasses true plant.now.site.now (claim_of claim.now) }
-    requires verdict { IsVerdict plant.now.site.now (claim_of claim.now) tree.now verdict }
+    requires passes { ClaimPasses true site.now (claim_of claim.now) }
+    requires verdict { IsVerdict site.now (claim_of claim.now) tree.now verdict }
     ensures { IfOk result
-        (λ bytes. (m : Marginals) × AreClaimMarginals plant.now.site.now (claim_of claim.now) m
-        × (bytes.items
-        ≡ text_of
-        (tables_of plant.now.measures.now plant.now.site.now m (claim_of claim.now) tree.now
-        verdict))) }
+        (λ bytes. (m : Marginals) × AreClaimMarginals site.now (claim_of claim.now) m
+        × (bytes.items ≡ text_of (tables_of site.now m (claim_of claim.now) tree.now verdict))) }
 {
     match claim {
-        Claim::Network(network) => network_text(alloc, plant, network),
-        Claim::Infeasible => clash_text(alloc, plant, tree, verdict),
+        Claim::Network(network) => network_text(alloc, site, network),
+        Claim::Infeasible => clash_text(alloc, site, tree, verdict),
         Claim::Unknown => Ok(Vec::new(alloc)),
     }
 }
@@ -232,22 +233,21 @@ fn tables_of(
 /// that clash if it is proved that no network meets the bounds.
 pub fn verdict_text(
     alloc: Global,
-    plant: &Plant<'_>,
+    site: &Site<'_>,
     claim: &Claim,
     tree: &Tree,
     verdict: Verdict,
 ) -> Result<Vec<u8>, AllocError>
     requires few { length tree.now < 2 ^ 32 }
-    requires passes { ClaimPasses true plant.now.site.now (claim_of claim.now) }
-    requires verdict { IsVerdict plant.now.site.now (claim_of claim.now) tree.now verdict }
+    requires passes { ClaimPasses true site.now (claim_of claim.now) }
+    requires verdict { IsVerdict site.now (claim_of claim.now) tree.now verdict }
     ensures { IfOk result
         (λ bytes. (lines : List (List ℕ))
-        × VerdictSays plant.now.measures.now plant.now.site.now (claim_of claim.now) tree.now
-        verdict lines
+        × VerdictSays site.now (claim_of claim.now) tree.now verdict lines
         × (bytes.items ≡ text_of lines)) }
 {
-    let mut bytes = first_text(alloc, plant.site.problem(), claim, verdict)?;
-    let tables = tables_of(alloc, plant, claim, tree, verdict)?;
+    let mut bytes = first_text(alloc, site.problem(), claim, verdict)?;
+    let tables = tables_of(alloc, site, claim, tree, verdict)?;
     bytes.extend_from_slice(&tables)?;
     Ok(bytes)
 }

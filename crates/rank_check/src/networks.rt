@@ -58,7 +58,7 @@ fn number(at: usize) -> u32
 }
 
 /// Judges the networks in turn. If one fails, its number, counted from 1, and the cause are given.
-pub fn judge_networks(
+pub(crate) fn judge_networks(
     site: &Site<'_>,
     distinct: bool,
     networks: &[Network],

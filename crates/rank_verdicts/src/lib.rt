@@ -2,14 +2,11 @@
 //!
 //! `RankVerdict` of `report_rules` says when a verdict is the one of a ranking. If each network
 //! passes, [`rank_verdict_of`] gives this verdict. It is `Proved` if and only if `rankcheck`
-//! accepts the ranking. If a node is open it has the lower bound: the ranking is made an ordinary
-//! tree (`RankLow`), and `verdicts` has the bound of that.
+//! accepts the ranking.
 //!
-//! Modules: `plain`; `low`, the lower bound; `verdict`.
+//! Modules: `verdict`.
 #![tactic(auto)]
 
-mod low;
-mod plain;
 mod verdict;
 
 pub use verdict::{RankUnjudged, rank_verdict_of};

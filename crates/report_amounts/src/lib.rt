@@ -9,12 +9,10 @@
 //!
 //! Modules: `number`, such fractions; `amounts`, the numbers of units and their sums; `costs`,
 //! those of materials; `marginals`, what one more of a material costs or of a size saves; `gap`,
-//! the gap to a lower bound; `ranks` and `changes`, what a network costs more than the first of a
-//! ranking, and its units against those of the first.
+//! the gap to a lower bound; `ranks`, what a network costs more than the first of a ranking.
 #![tactic(auto)]
 
 mod amounts;
-mod changes;
 mod costs;
 mod gap;
 mod marginals;
@@ -22,9 +20,8 @@ mod number;
 mod ranks;
 
 pub use amounts::{amount, share_of, size, unit_of, unit_sum};
-pub use changes::{change_of, push_word};
 pub use costs::{cost, cost_sum, flow_at, material_of, net, price};
 pub use gap::{gap_above, push_gap};
 pub use marginals::{Marginals, Multipliers};
 pub use number::Number;
-pub use ranks::{above_first, place_of, share_above};
+pub use ranks::{above_first, share_above};

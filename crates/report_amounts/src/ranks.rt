@@ -1,5 +1,5 @@
-//! The place of a network in a ranking, and what it costs more than the first.
-ghost use Rattle.std.specs.Prelude.{◌≡◌, ◌<◌, ◌+◌, ◌^◌, ◌*ℤ◌, pos, neg_ℤ, unsigned_abs};
+//! What a network costs more than the first of a ranking.
+ghost use Rattle.std.specs.Prelude.{◌≡◌, ◌*ℤ◌, pos, neg_ℤ, unsigned_abs};
 ghost use Rattle.integer_laws.specs.Range.{InRange};
 ghost use Rattle.report_rules.specs.Amounts.{quotient};
 ghost use Rattle.report_rules.specs.Ranked.{more_than, above_first, share_above};
@@ -8,14 +8,6 @@ use crate::amounts::quotient;
 use crate::number::Number;
 use branch_tree::Network;
 use pns_problem::Problem;
-
-/// The place of the network of this number, counted from 0.
-pub fn place_of(at: usize) -> u32
-    requires { at + 1 < 2 ^ 32 }
-    ensures { result ≡ at + 1 }
-{
-    at as u32 + 1
-}
 
 /// The cost, turned into an income or the other way round.
 fn turned_cost(network: &Network) -> i128

@@ -1,36 +1,26 @@
 -- What is printed of a tree or of a ranking, in each form.
-use Rattle.std.proofs.Common.{◌≡◌, ◌∷◌, [], Some, true, false, refl, inl, sym, subst, Bool, ℕ, List}
-use Rattle.std.proofs.Common.{length, arith}
-use Rattle.std.specs.Borrow.{Bor}
+use Rattle.std.proofs.Common.{◌≡◌, ◌∷◌, [], true, false, refl, inl, sym, subst, Bool, ℕ, List}
 use Rattle.problem_rules.specs.Problem.{Problem}
-use Rattle.tree_rules.specs.Accepted.{Tree}
-use Rattle.tree_rules.specs.Claim.{Claim, Network}
+use Rattle.tree_rules.specs.Claim.{Network}
+use Rattle.tree_text_rules.specs.Read.{HeadedCertificate}
 use Rattle.rank_rules.specs.Headed.{is_ranking}
 use Rattle.rank_rules.specs.Networks.{ArePassing}
 use Rattle.rank_rules.specs.Ranked.{NetworkIsFault}
 use Rattle.rank_rules.specs.Text.{Text, ranking_of}
 use Rattle.rank_rules.specs.declared.why.RankWhy.{RankWhy}
 use Rattle.report_tables.specs.First.{IsFirstFeasible}
-use Rattle.report_rules.specs.Measures.{Measures}
 use Rattle.report_rules.specs.RankVerdict.{IsRankVerdict}
 use Rattle.report_rules.specs.declared.rank_verdict.RankVerdict.{RankVerdict}
-use Rattle.range_rules.specs.Table.{is_table}
-use Rattle.report_commands.specs.Works.{TreeWork, RankWork, VerdictWork, RankLines, FormSays}
+use Rattle.report_commands.specs.Works.{TreeWork, RankWork, RankLines}
 use Rattle.report_commands.specs.declared.form.Form.{Form}
-use Rattle.report_commands.specs.declared.form.Form.TheVariants.{Report, Json, Graph}
-use Rattle.report_commands.specs.declared.form.Reader.{Reader}
-use Rattle.report_commands.specs.declared.form.Reader.TheVariants.{People, Programs}
-use Rattle.studio_rules.specs.Network.{OnNetwork}
-use Rattle.studio_rules.specs.Graph.{AreGraphLines, NetworkGraphWork}
-use Rattle.studio_rules.specs.RankGraph.{DrawsFirst}
+use Rattle.report_commands.specs.declared.form.Form.TheVariants.{Report, Json}
 use Rattle.studio_rules.specs.Json.{JsonWork}
-use Rattle.studio_rules.specs.RankJson.{RankJsonWork}
-use Rattle.studio_rules.specs.RangesJson.{TableSays, AnySays}
 use Rattle.studio_rules.specs.Reading.{IsLong}
 use Rattle.studio_rules.specs.RankWords.{network_line}
 use Rattle.studio_rules.specs.Report.{ReportWork}
 use Rattle.studio_rules.specs.TextFile.{by_kind, RankSays, EitherSays}
-use Rattle.studio_rules.specs.TreeFile.{TreeSays, tree_limit}
+use Rattle.studio_rules.specs.TreeFile.{tree_limit}
+use Rattle.studio_rules.specs.HeadedFile.{HeadedSays}
 use Rattle.studio_rules.specs.declared.status.Status.{Status}
 use Rattle.studio_rules.specs.declared.status.Status.TheVariants.{Done, BadClaim, TooLong}
 
@@ -41,47 +31,25 @@ first_feasible distinct p [] h = h
 first_feasible distinct p (w ∷ ws) h = h.0
 
 -- of a tree, in the form that is wanted
-pub as_report : (form : Form) (ms : Bor Measures) → form ≡ Report ms → (p : Problem)
-    (claim : Claim) (tree : Tree) (s : Status) (lines : List (List ℕ))
-    → ReportWork ms.now p claim tree s lines → TreeWork form p claim tree s lines
-as_report form ms e p claim tree s lines h =
-    subst (λ (f : Form). TreeWork f p claim tree s lines) (sym e) h
+pub as_report : (form : Form) → form ≡ Report → (p : Problem) (t : HeadedCertificate)
+    (s : Status) (lines : List (List ℕ)) → ReportWork p t s lines → TreeWork form p t s lines
+as_report form e p t s lines h = subst (λ (f : Form). TreeWork f p t s lines) (sym e) h
 
-pub as_json : (form : Form) → form ≡ Json → (p : Problem) (claim : Claim) (tree : Tree)
-    (s : Status) (lines : List (List ℕ)) → JsonWork p claim tree s lines
-    → TreeWork form p claim tree s lines
-as_json form e p claim tree s lines h =
-    subst (λ (f : Form). TreeWork f p claim tree s lines) (sym e) h
+pub as_json : (form : Form) → form ≡ Json → (p : Problem) (t : HeadedCertificate) (s : Status)
+    (lines : List (List ℕ)) → JsonWork p t s lines → TreeWork form p t s lines
+as_json form e p t s lines h = subst (λ (f : Form). TreeWork f p t s lines) (sym e) h
 
-pub as_graph : (form : Form) → form ≡ Graph → (p : Problem) (claim : Claim) (tree : Tree)
-    (s : Status) (lines : List (List ℕ)) → OnNetwork NetworkGraphWork p claim tree s lines
-    → TreeWork form p claim tree s lines
-as_graph form e p claim tree s lines h =
-    subst (λ (f : Form). TreeWork f p claim tree s lines) (sym e) h
+pub done : (form : Form) (p : Problem) (t : Text) (verdict : RankVerdict) (lines : List (List ℕ))
+    → IsRankVerdict p (ranking_of t) verdict → RankLines form p (ranking_of t) verdict lines
+    → RankWork form p t Done lines
+done Report p t verdict lines h says = (verdict, h, says)
+done Json p t verdict lines h says = (verdict, h, says)
 
--- of a ranking with its verdict
-pub done : (reader : Reader) (p : Problem) (t : Text) (verdict : RankVerdict)
-    (lines : List (List ℕ)) → IsRankVerdict p (ranking_of t) verdict
-    → RankLines reader p (ranking_of t) verdict lines → VerdictWork reader p t Done lines
-done (People ms) p t verdict lines h says = (verdict, h, says)
-done Programs p t verdict lines h says = (verdict, h, says)
-
-pub refused : (reader : Reader) (p : Problem) (t : Text) (number : ℕ) (why : RankWhy)
+pub refused : (form : Form) (p : Problem) (t : Text) (number : ℕ) (why : RankWhy)
     → NetworkIsFault p (ranking_of t) number why
-    → VerdictWork reader p t BadClaim (network_line number why ∷ [])
-refused (People ms) p t number why h = (number, why, h, refl)
-refused Programs p t number why h = (number, why, h, refl)
-
-pub none_of : (ws : List Network) → length ws ≡ 0 → ws ≡ []
-none_of [] e = refl
-none_of (w ∷ ws) e = absurd (omega arith)
-
--- the first of some networks is drawn
-pub draws_first : (p : Problem) (w : Network) (rest ws : List Network) (lines : List (List ℕ))
-    → ws ≡ w ∷ rest → AreGraphLines p (Some w) ws lines → DrawsFirst p ws lines
-draws_first p w rest ws lines e h =
-    subst (λ (vs : List Network). DrawsFirst p vs lines) (sym e)
-    (subst (λ (vs : List Network). AreGraphLines p (Some w) vs lines) e h)
+    → RankWork form p t BadClaim (network_line number why ∷ [])
+refused Report p t number why h = (number, why, h, refl)
+refused Json p t number why h = (number, why, h, refl)
 
 module _ (form : Form) (name : List ℕ) (p : Problem) (file : List ℕ) where
   -- of a ranking, and of a tree
@@ -90,62 +58,22 @@ module _ (form : Form) (name : List ℕ) (p : Problem) (file : List ℕ) where
       → EitherSays (TreeWork form) (RankWork form) name p file s lines
   of_ranking e s lines h =
       subst (λ (kind : Bool). by_kind kind (RankSays (RankWork form) name p file s lines)
-      (TreeSays (TreeWork form) name p file s lines)) (sym e) h
+      (HeadedSays (TreeWork form) name p file s lines)) (sym e) h
 
   pub of_tree : is_ranking file ≡ false → (s : Status) (lines : List (List ℕ))
-      → TreeSays (TreeWork form) name p file s lines
+      → HeadedSays (TreeWork form) name p file s lines
       → EitherSays (TreeWork form) (RankWork form) name p file s lines
   of_tree e s lines h =
       subst (λ (kind : Bool). by_kind kind (RankSays (RankWork form) name p file s lines)
-      (TreeSays (TreeWork form) name p file s lines)) (sym e) h
+      (HeadedSays (TreeWork form) name p file s lines)) (sym e) h
 
-module _ (name : List ℕ) (p : Problem) (file : List ℕ) where
-  -- of a table, and of any other text
-  pub of_table : is_table file ≡ true → (s : Status) (lines : List (List ℕ))
-      → TableSays name p file s lines → AnySays name p file s lines
-  of_table e s lines h =
-      subst (λ (kind : Bool). by_kind kind (TableSays name p file s lines)
-      (EitherSays JsonWork RankJsonWork name p file s lines)) (sym e) h
-
-  pub of_other : is_table file ≡ false → (s : Status) (lines : List (List ℕ))
-      → EitherSays JsonWork RankJsonWork name p file s lines → AnySays name p file s lines
-  of_other e s lines h =
-      subst (λ (kind : Bool). by_kind kind (TableSays name p file s lines)
-      (EitherSays JsonWork RankJsonWork name p file s lines)) (sym e) h
-
-  -- in the form that is wanted
-  pub in_report : (form : Form) (ms : Bor Measures) → form ≡ Report ms → (s : Status)
-      (lines : List (List ℕ))
-      → EitherSays (TreeWork (Report ms)) (RankWork (Report ms)) name p file s lines
-      → FormSays form name p file s lines
-  in_report form ms e s lines h =
-      subst (λ (f : Form). FormSays f name p file s lines) (sym e) h
-
-  pub in_json : (form : Form) → form ≡ Json → (s : Status) (lines : List (List ℕ))
-      → AnySays name p file s lines → FormSays form name p file s lines
-  in_json form e s lines h = subst (λ (f : Form). FormSays f name p file s lines) (sym e) h
-
-  pub in_graph : (form : Form) → form ≡ Graph → (s : Status) (lines : List (List ℕ))
-      → EitherSays (TreeWork Graph) (RankWork Graph) name p file s lines
-      → FormSays form name p file s lines
-  in_graph form e s lines h = subst (λ (f : Form). FormSays f name p file s lines) (sym e) h
+  long_kind : (kind : Bool) (lines : List (List ℕ)) → IsLong name tree_limit file lines
+      → by_kind kind (RankSays (RankWork form) name p file TooLong lines)
+      (HeadedSays (TreeWork form) name p file TooLong lines)
+  long_kind true lines h = inl h
+  long_kind false lines h = inl h
 
   -- of a file above the limit
-  long_kind : (form : Form) (kind : Bool) (lines : List (List ℕ))
-      → IsLong name tree_limit file lines
-      → by_kind kind (RankSays (RankWork form) name p file TooLong lines)
-      (TreeSays (TreeWork form) name p file TooLong lines)
-  long_kind form true lines h = inl h
-  long_kind form false lines h = inl h
-
-  long_any : (kind : Bool) (lines : List (List ℕ)) → IsLong name tree_limit file lines
-      → by_kind kind (TableSays name p file TooLong lines)
-      (EitherSays JsonWork RankJsonWork name p file TooLong lines)
-  long_any true lines h = h
-  long_any false lines h = long_kind Json (is_ranking file) lines h
-
-  pub of_long : (form : Form) (lines : List (List ℕ)) → IsLong name tree_limit file lines
-      → FormSays form name p file TooLong lines
-  of_long (Report ms) lines h = long_kind (Report ms) (is_ranking file) lines h
-  of_long Json lines h = long_any (is_table file) lines h
-  of_long Graph lines h = long_kind Graph (is_ranking file) lines h
+  pub of_long : (lines : List (List ℕ)) → IsLong name tree_limit file lines
+      → EitherSays (TreeWork form) (RankWork form) name p file TooLong lines
+  of_long lines h = long_kind (is_ranking file) lines h

@@ -1,34 +1,30 @@
-//! The commands `report`, `json`, and `graph` with a second file.
+//! The commands `report` and `json`.
 ghost use Rattle.std.specs.Prelude.{◌≡◌};
-ghost use Rattle.report_commands.specs.Works.{OnForm};
-ghost use Rattle.studio_rules.specs.Reading.{TwoFilesSay, TwoTextsSay};
-ghost use Rattle.studio_rules.specs.Network.{OnNetwork};
-ghost use Rattle.studio_rules.specs.Graph.{NetworkGraphWork};
+ghost use Rattle.report_commands.specs.Works.{TreeWork, RankWork};
+ghost use Rattle.studio_rules.specs.Reading.{TwoFilesSay};
 ghost use Rattle.studio_rules.specs.Report.{ReportWork};
-ghost use Rattle.studio_rules.specs.RankReport.{RankReportWork, ReportsOn};
-ghost use Rattle.studio_rules.specs.RankGraph.{RankGraphWork};
-ghost use Rattle.studio_rules.specs.RangesJson.{OnAny};
+ghost use Rattle.studio_rules.specs.Json.{JsonWork};
+ghost use Rattle.studio_rules.specs.RankReport.{RankReportWork};
+ghost use Rattle.studio_rules.specs.RankJson.{RankJsonWork};
 ghost use Rattle.studio_rules.specs.TextFile.{OnEither};
 ghost use Rattle.studio_rules.specs.Ending.{Ends, Says};
 ghost use Rattle.studio_rules.specs.Keeps.{Keeps};
 
 use crate::form::Form;
-use crate::text::say_any;
-use command_files::{bytes_of, plant_of, problem_of};
-use endings::say::say_memory;
+use crate::text::say_either;
+use command_files::{bytes_of, problem_of};
 use pns_io::{Outputs, Shelf, Sink};
 use pns_problem::Problem;
-use report_tables::Measures;
 use std::alloc::Global;
 use studio_rules::Status;
 
-/// The most bytes of a file that has a tree, a ranking or a table.
+/// The most bytes of a file that has a tree or a ranking.
 const TEXT_LIMIT: u64 = 268_435_456;
 
 /// What is printed for the problem of a call: in this form, of the file of this name.
 #[derive(Clone, Copy)]
 struct Wanted<'a> {
-    form: Form<'a>,
+    form: Form,
     name: &'a str,
 }
 
@@ -41,13 +37,13 @@ fn say_file<F: Shelf, K: Sink, E: Sink>(
 ) -> Status
     ensures ends { Ends
         (Says
-        (OnForm wanted.now.form (F.state shelf.old).held wanted.now.name.now problem.now)
-        (λ other. other ≡ wanted.now.name.now) (F.state shelf.old) (F.state shelf.new)) out.old
-        out.new result }
+        (OnEither (TreeWork wanted.now.form) (RankWork wanted.now.form) (F.state shelf.old).held
+        wanted.now.name.now problem.now) (λ other. other ≡ wanted.now.name.now) (F.state shelf.old)
+        (F.state shelf.new)) out.old out.new result }
     ensures keeps { Keeps (F.state shelf.old) (F.state shelf.new) }
 {
     match bytes_of(alloc, shelf, out, wanted.name, TEXT_LIMIT) {
-        Ok(bytes) => say_any(alloc, wanted.form, out, problem, &bytes),
+        Ok(bytes) => say_either(alloc, wanted.form, out, problem, &bytes),
         Err(status) => status,
     }
 }
@@ -60,43 +56,14 @@ fn say_text<F: Shelf, K: Sink, E: Sink>(
     out: &mut Outputs<K, E>,
 ) -> Status
     ensures ends { Ends
-        (TwoFilesSay (OnForm wanted.now.form) file.now wanted.now.name.now (F.state shelf.old)
-        (F.state shelf.new)) out.old out.new result }
+        (TwoFilesSay (OnEither (TreeWork wanted.now.form) (RankWork wanted.now.form)) file.now
+        wanted.now.name.now (F.state shelf.old) (F.state shelf.new)) out.old out.new result }
     ensures keeps { Keeps (F.state shelf.old) (F.state shelf.new) }
 {
     match problem_of(alloc, shelf, out, file) {
         Ok(problem) => say_file(alloc, wanted, &problem, shelf, out),
         Err(status) => status,
     }
-}
-
-/// A report that is wanted: with these units of measure in headings, of the file of this name.
-#[derive(Clone, Copy)]
-struct Headed<'a> {
-    measures: &'a Measures,
-    name: &'a str,
-}
-
-fn say_headed<F: Shelf, K: Sink, E: Sink>(
-    alloc: Global,
-    headed: &Headed<'_>,
-    problem: &Problem,
-    shelf: &mut F,
-    out: &mut Outputs<K, E>,
-) -> Status
-    ensures ends { Ends
-        (Says
-        (OnEither (ReportWork headed.now.measures.now) (RankReportWork headed.now.measures.now)
-        (F.state shelf.old).held headed.now.name.now problem.now)
-        (λ other. other ≡ headed.now.name.now) (F.state shelf.old) (F.state shelf.new)) out.old
-        out.new result }
-    ensures keeps { Keeps (F.state shelf.old) (F.state shelf.new) }
-{
-    let wanted = Wanted {
-        form: Form::Report(headed.measures),
-        name: headed.name,
-    };
-    say_file(alloc, &wanted, problem, shelf, out)
 }
 
 /// Prints for people what the tree, or the ranking, of the other file proves on the problem of the
@@ -109,26 +76,18 @@ pub fn report<F: Shelf, K: Sink, E: Sink>(
     out: &mut Outputs<K, E>,
 ) -> Status
     ensures ends { Ends
-        (TwoTextsSay ReportsOn file.now text.now (F.state shelf.old) (F.state shelf.new)) out.old
-        out.new result }
+        (TwoFilesSay (OnEither ReportWork RankReportWork) file.now text.now (F.state shelf.old)
+        (F.state shelf.new)) out.old out.new result }
     ensures keeps { Keeps (F.state shelf.old) (F.state shelf.new) }
 {
-    match plant_of(alloc, shelf, out, file) {
-        Ok((bytes, problem)) => {
-            let Ok(measures) = Measures::of(alloc, &bytes) else {
-                return say_memory(out);
-            };
-            let wanted = Headed {
-                measures: &measures,
-                name: text,
-            };
-            say_headed(alloc, &wanted, &problem, shelf, out)
-        }
-        Err(status) => status,
-    }
+    let wanted = Wanted {
+        form: Form::Report,
+        name: text,
+    };
+    say_text(alloc, file, &wanted, shelf, out)
 }
 
-/// The same for programs; or the object of a table of ranges.
+/// The same for programs.
 pub fn json<F: Shelf, K: Sink, E: Sink>(
     alloc: Global,
     file: &str,
@@ -137,33 +96,12 @@ pub fn json<F: Shelf, K: Sink, E: Sink>(
     out: &mut Outputs<K, E>,
 ) -> Status
     ensures ends { Ends
-        (TwoFilesSay OnAny file.now text.now (F.state shelf.old) (F.state shelf.new)) out.old
-        out.new result }
+        (TwoFilesSay (OnEither JsonWork RankJsonWork) file.now text.now (F.state shelf.old)
+        (F.state shelf.new)) out.old out.new result }
     ensures keeps { Keeps (F.state shelf.old) (F.state shelf.new) }
 {
     let wanted = Wanted {
         form: Form::Json,
-        name: text,
-    };
-    say_text(alloc, file, &wanted, shelf, out)
-}
-
-/// Prints the graph of the plant of the one file for Graphviz, with the network in it that the tree
-/// of the other file claims, or with the first network of a ranking and a table of all.
-pub fn graph<F: Shelf, K: Sink, E: Sink>(
-    alloc: Global,
-    file: &str,
-    text: &str,
-    shelf: &mut F,
-    out: &mut Outputs<K, E>,
-) -> Status
-    ensures ends { Ends
-        (TwoFilesSay (OnEither (OnNetwork NetworkGraphWork) RankGraphWork) file.now text.now
-        (F.state shelf.old) (F.state shelf.new)) out.old out.new result }
-    ensures keeps { Keeps (F.state shelf.old) (F.state shelf.new) }
-{
-    let wanted = Wanted {
-        form: Form::Graph,
         name: text,
     };
     say_text(alloc, file, &wanted, shelf, out)

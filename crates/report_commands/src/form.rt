@@ -1,20 +1,8 @@
-use report_tables::Measures;
-
-/// What is printed of a tree or of a ranking.
-#[derive(Clone, Copy)]
-pub enum Form<'a> {
-    /// What it proves, and its networks, for people, with these units of measure in headings.
-    Report(&'a Measures),
-    /// The same for programs.
+/// For whom a text is printed.
+#[derive(Clone, Copy, Debug, PartialEq, Eq)]
+pub enum Form {
+    /// For people.
+    Report,
+    /// For programs.
     Json,
-    /// Its network in the graph of the plant.
-    Graph,
-}
-
-/// For whom it is printed what a ranking proves.
-#[derive(Clone, Copy)]
-pub enum Reader<'a> {
-    /// For people, with these units of measure in headings.
-    People(&'a Measures),
-    Programs,
 }

@@ -1,30 +1,22 @@
-//! The commands `report`, `json` and `graph`.
+//! The commands `report` and `json`.
 //!
 //! Each reads a problem and then a tree or a ranking; the first line of the text says which it is.
-//! `report` also takes the units of measure from the bytes of the problem's file. `graph` without
-//! such a text is in `network_commands`.
+//! Of a tree they print what `network_commands` and `json_commands` print. Of a ranking they print
+//! what its tree proves, a table of its networks, and the facts of the first. In `studio_rules`,
+//! `TextFile` has what is a ranking, and `RankReport` and `RankJson` have the lines of one.
 //!
-//! Of a tree they print what `network_commands` and `json_commands` print. Of a ranking `report`
-//! and `json` print what its tree proves, a table of its networks, and the facts of the first;
-//! `graph` prints the graph with the first in it and the table. In `studio_rules`, `TextFile` has
-//! what is a ranking, and `RankReport`, `RankJson` and `RankGraph` have the lines of one. `json`
-//! also prints a table of ranges, of which nothing is judged (`RangesJson`).
-//!
-//! Modules: `form`, which of them is printed; `words`, the first line of a ranking; `first`, the
-//! marginals of its first network; `report` and `object`, two texts of a ranking; `drawing`, its
-//! graph; `ranking`, `table` and `text`, the way from the bytes of a file to the text; `call`, the
-//! commands.
+//! Modules: `form`, which of the two is printed; `words`, the first line of a ranking; `first`, the
+//! marginals of its first network; `report` and `object`, the two texts of a ranking; `ranking` and
+//! `text`, the way from the bytes of a file to the text; `call`, the commands.
 #![tactic(auto)]
 
 pub mod call;
-mod drawing;
 mod first;
 mod form;
 mod object;
 mod ranking;
 mod report;
-mod table;
 mod text;
 mod words;
 
-pub use form::{Form, Reader};
+pub use form::Form;

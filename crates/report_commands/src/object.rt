@@ -5,19 +5,16 @@ ghost use Rattle.rank_rules.specs.Text.{ranking_of};
 ghost use Rattle.json_rules.specs.Facts as facts;
 ghost use Rattle.json_rules.specs.Json.{member};
 ghost use Rattle.json_rules.specs.Ranked as ranked;
-ghost use Rattle.report_rules.specs.RankVerdict.{low_of};
 ghost use Rattle.studio_rules.specs.Lines.{text_of};
 ghost use Rattle.studio_rules.specs.RankJson as rules;
 
 use crate::first::first_marginals;
 use json_pieces::Json;
-use json_text::{
-    bound_member, count_member, first_gap_member, first_of, networks_member, text_member,
-};
+use json_text::{count_member, first_of, networks_member, text_member};
 use pgraph::Site;
 use rank_commands::rank_why_word;
 use ranked_tree::RankText;
-use report_rules::{LowerBound, RankVerdict};
+use report_rules::RankVerdict;
 use std::alloc::{AllocError, Global};
 
 fn verdict_word(verdict: RankVerdict) -> &'static str
@@ -35,7 +32,7 @@ fn node_json(alloc: Global, verdict: RankVerdict) -> Result<Json, AllocError>
 {
     match verdict {
         RankVerdict::Proved => Json::null(alloc),
-        RankVerdict::Unfinished { node, .. } => Json::count(alloc, u64::from(node)),
+        RankVerdict::Unfinished { node } => Json::count(alloc, u64::from(node)),
         RankVerdict::Fails { node, .. } => Json::count(alloc, u64::from(node)),
     }
 }
@@ -64,16 +61,6 @@ fn why_member(alloc: Global, verdict: RankVerdict) -> Result<Json, AllocError>
 {
     let why = why_json(alloc, verdict)?;
     Json::member(alloc, "why", &why)
-}
-
-/// What no network costs less than, if it is known.
-fn low_of(verdict: RankVerdict) -> Option<LowerBound>
-    ensures { result ≡ low_of verdict }
-{
-    match verdict {
-        RankVerdict::Unfinished { low, .. } => low,
-        RankVerdict::Proved | RankVerdict::Fails { .. } => None,
-    }
 }
 
 fn claim_word(distinct: bool) -> &'static str
@@ -116,13 +103,10 @@ pub(crate) fn rank_object(
     let node = node_member(alloc, verdict)?;
     let why = why_member(alloc, verdict)?;
     let claimed = text_member(alloc, "claim", claim_word(ranking.is_distinct()))?;
-    let networks = ranking.networks();
-    let known = low_of(verdict);
-    let low = bound_member(alloc, site.problem(), known)?;
-    let gap = first_gap_member(alloc, networks, known)?;
     let asked = asked_member(alloc, ranking)?;
     let listed = listed_member(alloc, site, ranking)?;
-    let head = [stated, node, why, claimed, low, gap, asked, listed];
+    let head = [stated, node, why, claimed, asked, listed];
+    let networks = ranking.networks();
     let marginals = first_marginals(alloc, site, networks)?;
     let bytes = first_of(alloc, &head, site, networks, &marginals)?;
     Ok(bytes)

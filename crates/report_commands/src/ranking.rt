@@ -2,15 +2,14 @@
 ghost use Rattle.std.specs.Prelude.{◌≡◌, ◌<◌, ◌≤◌, ◌^◌, [], ℕ, List, IfOk, length};
 ghost use Rattle.rank_rules.specs.Networks.{ArePassing};
 ghost use Rattle.rank_rules.specs.Text.{ranking_of};
-ghost use Rattle.report_commands.specs.Works.{RankWork, VerdictWork, RankLines};
+ghost use Rattle.report_commands.specs.Works.{RankWork, RankLines};
 ghost use Rattle.studio_rules.specs.Lines.{line, text_of};
 ghost use Rattle.studio_rules.specs.RankWords.{network_line};
 ghost use Rattle.studio_rules.specs.TextFile.{RankSays};
 ghost use Rattle.studio_rules.specs.Ending.{Ends, Tells, Only, OrMemory};
 ghost use Rattle.studio_rules.specs.declared.status.Status.TheVariants.{BadClaim};
 
-use crate::drawing::say_drawn;
-use crate::form::{Form, Reader};
+use crate::form::Form;
 use crate::object::rank_object;
 use crate::report::rank_report;
 use command_files::say_tree_fault;
@@ -25,15 +24,14 @@ use rank_text::read_rank;
 use rank_verdicts::{RankUnjudged, rank_verdict_of};
 use ranked_tree::RankText;
 use report_rules::RankVerdict;
-use report_tables::Plant;
 use std::alloc::{AllocError, Global};
 use studio_rules::Status;
 use tree_reading::TreeFault;
 
-/// The text of a ranking for this reader.
+/// The text of a ranking in this form.
 fn text_of(
     alloc: Global,
-    reader: Reader<'_>,
+    form: Form,
     site: &Site<'_>,
     ranking: &RankText,
     verdict: RankVerdict,
@@ -41,14 +39,12 @@ fn text_of(
     requires listed { ArePassing ranking.now.distinct site.now [] ranking.now.networks }
     ensures { IfOk result
         (λ bytes. (lines : List (List ℕ))
-        × RankLines reader.entry site.now (ranking_of ranking.now) verdict lines
+        × RankLines form site.now (ranking_of ranking.now) verdict lines
         × (bytes.items ≡ text_of lines)) }
 {
-    match reader {
-        Reader::People(measures) => {
-            rank_report(alloc, &Plant { site, measures }, ranking, verdict)
-        }
-        Reader::Programs => rank_object(alloc, site, ranking, verdict),
+    match form {
+        Form::Report => rank_report(alloc, site, ranking, verdict),
+        Form::Json => rank_object(alloc, site, ranking, verdict),
     }
 }
 
@@ -61,7 +57,7 @@ fn notes_on(alloc: Global, why: RankWhy) -> Notes {
 }
 
 /// Prints which network fails first, and why.
-pub(crate) fn say_network<K: Sink, E: Sink>(
+fn say_network<K: Sink, E: Sink>(
     alloc: Global,
     out: &mut Outputs<K, E>,
     number: u32,
@@ -82,16 +78,16 @@ pub(crate) fn say_network<K: Sink, E: Sink>(
 /// Prints what the tree proves, and the networks; or the first network that fails.
 fn say_judged<K: Sink, E: Sink>(
     alloc: Global,
-    reader: Reader<'_>,
+    form: Form,
     out: &mut Outputs<K, E>,
     site: &Site<'_>,
     ranking: &RankText,
 ) -> Status
     requires few { length ranking.now.tree < 2 ^ 32 }
-    ensures { Ends (Tells (VerdictWork reader.entry site.now ranking.now)) out.old out.new result }
+    ensures { Ends (Tells (RankWork form site.now ranking.now)) out.old out.new result }
 {
     match rank_verdict_of(alloc, site, ranking) {
-        Ok(verdict) => say_told(out, text_of(alloc, reader, site, ranking, verdict)),
+        Ok(verdict) => say_told(out, text_of(alloc, form, site, ranking, verdict)),
         Err(RankUnjudged::Network { number, why }) => say_network(alloc, out, number, why),
         Err(RankUnjudged::Memory) => say_memory(out),
     }
@@ -100,38 +96,32 @@ fn say_judged<K: Sink, E: Sink>(
 /// The same, once the problem's graph is made.
 fn say_ranked<K: Sink, E: Sink>(
     alloc: Global,
-    form: Form<'_>,
+    form: Form,
     out: &mut Outputs<K, E>,
     problem: &Problem,
     ranking: &RankText,
 ) -> Status
     requires few { length ranking.now.tree < 2 ^ 32 }
-    ensures { Ends (Tells (RankWork form.entry problem.now ranking.now)) out.old out.new result }
+    ensures { Ends (Tells (RankWork form problem.now ranking.now)) out.old out.new result }
 {
     let Ok(graph) = Graph::of(alloc, problem) else {
         return say_memory(out);
     };
     let site = Site::of(problem, &graph);
-    match form {
-        Form::Report(measures) => {
-            say_judged(alloc, Reader::People(measures), out, &site, ranking)
-        }
-        Form::Json => say_judged(alloc, Reader::Programs, out, &site, ranking),
-        Form::Graph => say_drawn(alloc, out, &site, ranking),
-    }
+    say_judged(alloc, form, out, &site, ranking)
 }
 
 /// Prints the ranking of the bytes of a file, or their first fault.
 pub(crate) fn say_ranking<K: Sink, E: Sink>(
     alloc: Global,
-    form: Form<'_>,
+    form: Form,
     out: &mut Outputs<K, E>,
     problem: &Problem,
     bytes: &[u8],
 ) -> Status
     requires { length bytes.now ≤ 268435456 }
     ensures { (name : List ℕ)
-        → Ends (Tells (RankSays (RankWork form.entry) name problem.now bytes.now)) out.old out.new
+        → Ends (Tells (RankSays (RankWork form) name problem.now bytes.now)) out.old out.new
         result }
 {
     match read_rank(alloc, problem, bytes) {

@@ -1,57 +1,42 @@
-//! From the bytes of a file to the text of what it holds.
+//! From the bytes of a file to the text of a tree or of a ranking.
 ghost use Rattle.std.specs.Prelude.{◌≤◌, ℕ, List, length};
-ghost use Rattle.report_commands.specs.Works.{TreeWork, RankWork, FormSays};
-ghost use Rattle.studio_rules.specs.RangesJson.{AnySays};
-ghost use Rattle.studio_rules.specs.TreeFile.{TreeSays};
+ghost use Rattle.report_commands.specs.Works.{TreeWork, RankWork};
+ghost use Rattle.studio_rules.specs.HeadedFile.{HeadedSays};
 ghost use Rattle.studio_rules.specs.TextFile.{EitherSays};
 ghost use Rattle.studio_rules.specs.Ending.{Ends, Tells};
 
 use crate::form::Form;
 use crate::ranking::say_ranking;
-use crate::table::say_table;
 use command_files::say_tree_fault;
 use endings::say::say_memory;
 use json_commands::say_stated;
 use messages::{Format, Source};
-use network_commands::{NetworkText, say_claimed, say_reported};
-use pgraph::{Graph, Site};
+use network_commands::say_reported;
 use pns_io::{Outputs, Sink};
 use pns_problem::Problem;
-use range_text::is_table;
 use rank_text::is_ranking;
-use report_tables::Plant;
 use std::alloc::Global;
 use studio_rules::Status;
-use tree_reading::{TreeFault, read_tree};
+use tree_reading::{TreeFault, read_headed};
 
-/// Prints the claim and the tree of the bytes of a file in this form, or their first fault.
+/// Prints the claim and the tree of the bytes of a file, which may have a head, or their first
+/// fault.
 fn say_tree<K: Sink, E: Sink>(
     alloc: Global,
-    form: Form<'_>,
+    form: Form,
     out: &mut Outputs<K, E>,
     problem: &Problem,
     bytes: &[u8],
 ) -> Status
     requires { length bytes.now ≤ 268435456 }
     ensures { (name : List ℕ)
-        → Ends (Tells (TreeSays (TreeWork form.entry) name problem.now bytes.now)) out.old out.new
+        → Ends (Tells (HeadedSays (TreeWork form) name problem.now bytes.now)) out.old out.new
         result }
 {
-    match read_tree(alloc, problem, bytes) {
-        Ok((claim, tree, _)) => match form {
-            Form::Report(measures) => {
-                let Ok(graph) = Graph::of(alloc, problem) else {
-                    return say_memory(out);
-                };
-                let site = Site::of(problem, &graph);
-                let plant = Plant {
-                    site: &site,
-                    measures,
-                };
-                say_reported(alloc, out, &plant, &claim, &tree)
-            }
-            Form::Json => say_stated(alloc, out, problem, &claim, &tree),
-            Form::Graph => say_claimed(alloc, NetworkText::Graph, out, problem, claim, &tree),
+    match read_headed(alloc, problem, bytes) {
+        Ok(text) => match form {
+            Form::Report => say_reported(alloc, out, problem, &text),
+            Form::Json => say_stated(alloc, out, problem, &text),
         },
         Err(TreeFault::At { line, kind }) => {
             let source = Source {
@@ -65,59 +50,21 @@ fn say_tree<K: Sink, E: Sink>(
 }
 
 /// The same of a tree or of a ranking: the first line says which it is.
-fn say_either<K: Sink, E: Sink>(
+pub(crate) fn say_either<K: Sink, E: Sink>(
     alloc: Global,
-    form: Form<'_>,
+    form: Form,
     out: &mut Outputs<K, E>,
     problem: &Problem,
     bytes: &[u8],
 ) -> Status
     requires { length bytes.now ≤ 268435456 }
     ensures { (name : List ℕ)
-        → Ends
-        (Tells (EitherSays (TreeWork form.entry) (RankWork form.entry) name problem.now bytes.now))
+        → Ends (Tells (EitherSays (TreeWork form) (RankWork form) name problem.now bytes.now))
         out.old out.new result }
 {
     if is_ranking(bytes) {
         say_ranking(alloc, form, out, problem, bytes)
     } else {
         say_tree(alloc, form, out, problem, bytes)
-    }
-}
-
-/// For programs, a table of ranges too: the first line says so.
-fn say_object<K: Sink, E: Sink>(
-    alloc: Global,
-    out: &mut Outputs<K, E>,
-    problem: &Problem,
-    bytes: &[u8],
-) -> Status
-    requires { length bytes.now ≤ 268435456 }
-    ensures { (name : List ℕ)
-        → Ends (Tells (AnySays name problem.now bytes.now)) out.old out.new result }
-{
-    if is_table(bytes) {
-        say_table(alloc, out, problem, bytes)
-    } else {
-        say_either(alloc, Form::Json, out, problem, bytes)
-    }
-}
-
-/// Prints in this form what the bytes of a file hold, or their first fault.
-pub(crate) fn say_any<K: Sink, E: Sink>(
-    alloc: Global,
-    form: Form<'_>,
-    out: &mut Outputs<K, E>,
-    problem: &Problem,
-    bytes: &[u8],
-) -> Status
-    requires { length bytes.now ≤ 268435456 }
-    ensures { (name : List ℕ)
-        → Ends (Tells (FormSays form.entry name problem.now bytes.now)) out.old out.new result }
-{
-    match form {
-        Form::Report(measures) => say_either(alloc, Form::Report(measures), out, problem, bytes),
-        Form::Json => say_object(alloc, out, problem, bytes),
-        Form::Graph => say_either(alloc, Form::Graph, out, problem, bytes),
     }
 }

@@ -1,19 +1,13 @@
 //! The first line of the report of a ranking: what its tree proves.
-ghost use Rattle.std.specs.Prelude.{◌≡◌, ◌++◌, OnOk, codes, decimal, length, string_bytes};
-ghost use Rattle.rank_rules.specs.Text.{ranking_of};
-ghost use Rattle.studio_rules.specs.Report.{low_words};
+ghost use Rattle.std.specs.Prelude.{◌≡◌, ◌++◌, OnOk, codes, decimal, string_bytes};
 ghost use Rattle.studio_rules.specs.RankReport.{listed_word, best_words, all_words};
 ghost use Rattle.studio_rules.specs.RankReport.{contained_words, fewer_words, ranked_words};
-ghost use Rattle.studio_rules.specs.RankReport.{gap_of_first, unfinished_words, failing_words};
-ghost use Rattle.studio_rules.specs.RankReport.{rank_first_line};
+ghost use Rattle.studio_rules.specs.RankReport.{unfinished_words, failing_words, rank_first_line};
 
-use branch_tree::Network;
-use network_commands::{push_gap_behind, push_low_words};
-use pns_problem::Problem;
 use rank_commands::rank_why_word;
 use rank_rules::RankWhy;
-use ranked_tree::{Asked, RankText};
-use report_rules::{LowerBound, RankVerdict};
+use ranked_tree::Asked;
+use report_rules::RankVerdict;
 use std::alloc::AllocError;
 
 fn listed_word(distinct: bool) -> &'static str
@@ -125,54 +119,14 @@ fn push_ranked(text: &mut String, asked: Asked, found: u32) -> Result<(), AllocE
     }
 }
 
-/// Appends how far the first network is above the lower bound.
-fn push_gap_of_first(
-    text: &mut String,
-    networks: &[Network],
-    low: Option<LowerBound>,
-) -> Result<(), AllocError>
+fn push_unfinished(text: &mut String, found: u32, node: u32) -> Result<(), AllocError>
     ensures { OnOk result
-        (string_bytes text.new ≡ string_bytes text.old ++ gap_of_first networks.now low) }
+        (string_bytes text.new ≡ string_bytes text.old ++ unfinished_words found node) }
 {
-    match networks.split_first() {
-        Some((first, _)) => push_gap_behind(text, first, low),
-        None => Ok(()),
-    }
-}
-
-/// Appends the lower bound and the gap, if they are known.
-fn push_known(
-    text: &mut String,
-    problem: &Problem,
-    networks: &[Network],
-    low: Option<LowerBound>,
-) -> Result<(), AllocError>
-    ensures { OnOk result
-        (string_bytes text.new ≡ string_bytes text.old
-        ++ (low_words problem.now low ++ gap_of_first networks.now low)) }
-{
-    push_low_words(text, problem, low)?;
-    push_gap_of_first(text, networks, low)?;
-    Ok(())
-}
-
-fn push_unfinished(
-    text: &mut String,
-    problem: &Problem,
-    networks: &[Network],
-    node: u32,
-    low: Option<LowerBound>,
-) -> Result<(), AllocError>
-    ensures { OnOk result
-        (string_bytes text.new ≡ string_bytes text.old
-        ++ unfinished_words problem.now networks.now node low) }
-{
-    let found = networks.len();
     text.push_str("NOT FINISHED: node ")?;
     write!(text, "{node}")?;
     text.push_str(" is open; networks so far: ")?;
     write!(text, "{found}")?;
-    push_known(text, problem, networks, low)?;
     Ok(())
 }
 
@@ -187,41 +141,20 @@ fn push_failing(text: &mut String, node: u32, why: RankWhy) -> Result<(), AllocE
     Ok(())
 }
 
-/// How many networks there are.
-fn found_in(text: &RankText) -> u32
-    ensures { result ≡ length text.now.networks }
-{
-    text.is_counted();
-    text.networks().len() as u32
-}
-
-/// What was asked for.
-fn asked_of(text: &RankText) -> Asked
-    ensures count { result.count ≡ text.now.count }
-    ensures distinct { result.distinct ≡ text.now.distinct }
-{
-    Asked {
-        count: text.count(),
-        distinct: text.is_distinct(),
-    }
-}
-
-/// Appends what the tree proves of the networks.
+/// Appends what the tree proves of the networks that were found, of those that were asked for.
 pub(crate) fn push_first_line(
     text: &mut String,
-    problem: &Problem,
-    ranking: &RankText,
+    asked: Asked,
+    found: u32,
     verdict: RankVerdict,
 ) -> Result<(), AllocError>
     ensures { OnOk result
         (string_bytes text.new
-        ≡ string_bytes text.old ++ rank_first_line problem.now (ranking_of ranking.now) verdict) }
+        ≡ string_bytes text.old ++ rank_first_line asked.distinct asked.count found verdict) }
 {
     match verdict {
-        RankVerdict::Proved => push_ranked(text, asked_of(ranking), found_in(ranking)),
-        RankVerdict::Unfinished { node, low } => {
-            push_unfinished(text, problem, ranking.networks(), node, low)
-        }
+        RankVerdict::Proved => push_ranked(text, asked, found),
+        RankVerdict::Unfinished { node } => push_unfinished(text, found, node),
         RankVerdict::Fails { node, why } => push_failing(text, node, why),
     }
 }

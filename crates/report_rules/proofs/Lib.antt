@@ -1,4 +1,2 @@
 mod LowerRows
-mod PlainTree
-mod WorkedMeasures
 mod WorkedRanking

@@ -6,7 +6,6 @@ use Rattle.problem_rules.specs.Problem.{Problem, OperatingUnit}
 use Rattle.tree_rules.specs.Claim.{Network}
 use Rattle.report_rules.specs.Amounts.{quotient}
 use Rattle.report_rules.specs.Ranked.{share_above_cell, with_idle, change_cell, idle_cell}
-use Rattle.report_rules.specs.Graph.{change_words}
 
 abbrev unit_of : List ℕ → OperatingUnit
 unit_of name = record {
@@ -75,10 +74,3 @@ a_little = refl
 more : share_above_cell first third ≡ decimal 14 ++ codes ".7"
 unfolding quotient share_above_cell
 more = refl
-
--- in a graph the change comes after a comma, if there is one
-with_change : change_words (change_cell plant first third) ≡ codes ", +U2 -U1"
-with_change = refl
-
-without_change : change_words (change_cell plant first first) ≡ []
-without_change = refl

@@ -1,14 +1,11 @@
 -- A plant as text for Graphviz: some of its units, and a network in it, if one is given. Raw
 -- materials are houses, products have a double line, units are boxes. What the network leaves out
--- is grey. If the network is the first of a list, a node above all has the list as a table. Names
--- and numbers have no byte that would end a text between quotes.
-use Rattle.std.specs.Prelude.{◌==◌, ℕ, ◌+◌, ◌*◌, ◌++◌, Bool, List, [], ◌∷◌, map, flat_map}
-use Rattle.std.specs.Prelude.{length, decimal}
+-- is grey. Names and numbers have no byte that would end a text between quotes.
+use Rattle.std.specs.Prelude.{◌==◌, ℕ, ◌*◌, ◌++◌, Bool, List, [], ◌∷◌, map, flat_map}
+use Rattle.std.specs.Prelude.{length}
 use Rattle.std.specs.Prelude.{Option, Some, None, ℤ, pos, unsigned_abs, int_lt, codes}
 use Rattle.std.specs.Prelude.{if◌then◌else◌}
 use Rattle.report_rules.specs.Decimal.{six_digits, signed_text}
-use Rattle.report_rules.specs.Number.{number_text}
-use Rattle.report_rules.specs.Ranked.{above_first, change_cell}
 use Rattle.number_sets.specs.Sets.{has, listed}
 use Rattle.problem_rules.specs.Problem.{Kind, raw_material, intermediate, product}
 use Rattle.problem_rules.specs.Problem.{Problem}
@@ -205,53 +202,12 @@ unit_lines d i =
     ∷ (map (input_line d i) (unit_at d.problem i).inputs
     ++ map (output_line d i) (unit_at d.problem i).outputs)
 
--- ---- a list of networks, best first
+-- ---- the whole
 
 -- the cost in one year
 abbrev pub cost_text : Problem → Network → List ℕ
 cost_text p w =
     six_digits w.cost (1000000000000000000 * unsigned_abs p.payout * unsigned_abs w.d)
-
--- a comma and the units that a network takes in and leaves out, if there are any
-abbrev pub change_words : List ℕ → List ℕ
-change_words change = if length change == 0 then [] else 44 ∷ 32 ∷ change
-
--- what a network costs, and what that is above the cost of the first
-abbrev pub cost_words : Problem → Network → Network → List ℕ
-cost_words p first w =
-    cost_text p w ++ (codes ", " ++ number_text (above_first p first w))
-
--- a network of the list: its place, its cost, and its units against the first
-abbrev pub listed_words : Problem → Network → ℕ → Network → List ℕ
-listed_words p first place w =
-    decimal place
-    ++ (codes ": " ++ (cost_words p first w ++ change_words (change_cell p first w)))
-
--- words as a further line of a label
-abbrev pub label_line : List ℕ → List ℕ
-label_line words = codes "    + \"" ++ (words ++ codes "\\l\"")
-
--- a line for each network, from a place on
-abbrev pub listed_lines : Problem → Network → ℕ → List Network → List (List ℕ)
-listed_lines p first place [] = []
-listed_lines p first place (w ∷ ws) =
-    label_line (listed_words p first place w) ∷ listed_lines p first (place + 1) ws
-
-abbrev pub list_head : List (List ℕ)
-list_head =
-    codes
-    "  networks [shape=note, fontsize=9, label=\"networks of the list, in one year; the first is drawn\\l\""
-    ∷ codes "    + \"place: cost, above the first, units taken in (+) and left out (-)\\l\"" ∷ []
-
-abbrev pub list_end : List (List ℕ)
-list_end = codes "  ];" ∷ codes "  { rank=source; networks; }" ∷ []
-
--- the list as a node of many lines above all others; there is no such node without a list
-abbrev pub list_lines : Problem → List Network → List (List ℕ)
-list_lines p [] = []
-list_lines p (w ∷ ws) = list_head ++ (listed_lines p w 1 (w ∷ ws) ++ list_end)
-
--- ---- the whole
 
 abbrev pub sort_words : ℤ → List ℕ
 sort_words cost =
@@ -294,17 +250,16 @@ total_lines p (Some w) = legend ++ (flow_legend ++ total_line p w ∷ [])
 abbrev pub last_lines : List (List ℕ)
 last_lines = codes "  { rank=sink; legend; }" ∷ codes "}" ∷ []
 
-abbrev pub picture_lines : Picture → List Network → List (List ℕ)
-picture_lines d ws =
+abbrev pub picture_lines : Picture → List (List ℕ)
+picture_lines d =
     head_lines
     ++ (total_lines d.problem d.network
-    ++ (list_lines d.problem ws
     ++ (map (material_line d) (materials_of (net_of d.problem) d.units)
-    ++ (flat_map (unit_lines d) (listed (length d.problem.units) d.units) ++ last_lines))))
+    ++ (flat_map (unit_lines d) (listed (length d.problem.units) d.units) ++ last_lines)))
 
--- the lines of the graph of the units t, with the list ws as a table
-abbrev pub graph_lines : Problem → Option Network → List Network → (ℕ → Bool) → List (List ℕ)
-graph_lines p w ws t = picture_lines (record { problem = p; network = w; units = t }) ws
+-- the lines of the graph of the units t
+abbrev pub graph_lines : Problem → Option Network → (ℕ → Bool) → List (List ℕ)
+graph_lines p w t = picture_lines (record { problem = p; network = w; units = t })
 
 -- the lines of the graph of a problem without a solution structure
 abbrev pub empty_lines : List (List ℕ)

@@ -4,11 +4,10 @@ pub mod Clash
 pub mod Decimal
 pub mod Drawn
 pub mod Graph
+pub mod HeadedVerdict
 pub mod Lower
 pub mod Marginal
-pub mod Measures
 pub mod Number
-pub mod RankLow
 pub mod RankVerdict
 pub mod Ranked
 pub mod Report

@@ -12,7 +12,6 @@ use Rattle.report_rules.specs.declared.column.Sort.TheVariants.{Words, Numbers, 
 use Rattle.report_rules.specs.Number.{Number, times, plus, share_text}
 use Rattle.report_rules.specs.Amounts.{quotient}
 use Rattle.report_rules.specs.Marginal.{Marginals}
-use Rattle.report_rules.specs.Measures.{Measures, with_measure}
 use Rattle.report_rules.specs.Report.{number_cell, total_cell, table_and_gap, report_lines}
 
 -- ---- what a network costs more than the first
@@ -67,9 +66,9 @@ idle_cell p w = idle_names p w [] w.units
 
 -- ---- the table
 
-abbrev pub ranking_heading : Measures → List (List ℕ)
-ranking_heading ms = codes "place" ∷ with_measure ms.money (codes "cost")
-    ∷ with_measure ms.money (codes "above") ∷ codes "above %" ∷ codes "change" ∷ codes "idle" ∷ []
+abbrev pub ranking_heading : List (List ℕ)
+ranking_heading = codes "place" ∷ codes "cost" ∷ codes "above" ∷ codes "above %" ∷ codes "change"
+    ∷ codes "idle" ∷ []
 
 abbrev pub ranking_sorts : List Sort
 ranking_sorts = Numbers ∷ Sums ∷ Numbers ∷ Numbers ∷ Words ∷ Words ∷ []
@@ -85,11 +84,11 @@ ranking_rows p first place [] = []
 ranking_rows p first place (w ∷ ws) =
     ranking_row p first place w ∷ ranking_rows p first (place + 1) ws
 
-abbrev pub ranking_table : Measures → Problem → Network → List Network → List (List ℕ)
-ranking_table ms p first ws =
-    table_and_gap ranking_sorts (ranking_heading ms) (ranking_rows p first 1 ws)
+abbrev pub ranking_table : Problem → Network → List Network → List (List ℕ)
+ranking_table p first ws =
+    table_and_gap ranking_sorts ranking_heading (ranking_rows p first 1 ws)
 
 -- nothing if there is no network; the marginals are those of the first
-abbrev pub ranking_lines : Measures → Problem → Marginals → List Network → List (List ℕ)
-ranking_lines ms p m [] = []
-ranking_lines ms p m (w ∷ ws) = ranking_table ms p w (w ∷ ws) ++ report_lines ms p w m
+abbrev pub ranking_lines : Problem → Marginals → List Network → List (List ℕ)
+ranking_lines p m [] = []
+ranking_lines p m (w ∷ ws) = ranking_table p w (w ∷ ws) ++ report_lines p w m

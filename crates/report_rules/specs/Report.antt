@@ -1,6 +1,5 @@
 -- The report of the network of a claim: a head, three tables and a foot, separated by empty lines.
--- Numbers have six digits if they have more; the whole part is never shortened. Headings show the
--- units of measure that the text of the plant names.
+-- Numbers have six digits if they have more; the whole part is never shortened.
 use Rattle.std.specs.Prelude.{ℕ, ◌*◌, ◌&&◌, Bool, false, not, List, [], ◌∷◌, ◌++◌, map, flat_map}
 use Rattle.std.specs.Prelude.{length, ℤ, pos, neg_ℤ, ◌*ℤ◌, cond, unsigned_abs, int_lt, codes}
 use Rattle.std.specs.Prelude.{decimal, if◌then◌else◌}
@@ -22,7 +21,6 @@ use Rattle.report_rules.specs.declared.amount.UnitAmount.TheVariants.{Used}
 use Rattle.report_rules.specs.declared.cost_part.CostPart.TheVariants.{All, Costs, Incomes}
 use Rattle.report_rules.specs.Amounts.{size, share, amount, unit_sum, net, price, cost, cost_sum}
 use Rattle.report_rules.specs.Marginal.{Marginals, are_known, marginal, unit_marginal}
-use Rattle.report_rules.specs.Measures.{Measures, with_measure, price_measure, time_words}
 
 -- ---- head
 
@@ -37,14 +35,10 @@ network_line p w =
     ++ (counted (codes " of ") (length p.materials)
     ++ counted (codes " materials, payout period ") (unsigned_abs p.payout))))
 
-abbrev pub time_line : Measures → List ℕ
-time_line ms =
-    codes "Money is for " ++ (time_words ms.time ++ codes ": costs are above 0, incomes below.")
-
-abbrev pub head_lines : Measures → Problem → Network → List (List ℕ)
-head_lines ms p w =
+abbrev pub head_lines : Problem → Network → List (List ℕ)
+head_lines p w =
     codes "Rounded to 6 digits where needed; exact numbers: pns json" ∷ network_line p w
-    ∷ time_line ms ∷ [] ∷ []
+    ∷ codes "Money is for one year: costs are above 0, incomes below." ∷ [] ∷ []
 
 -- ---- cells
 
@@ -115,11 +109,9 @@ table_and_gap sorts heading rows = table_lines sorts heading rows ++ [] ∷ []
 
 -- ---- units
 
-abbrev pub unit_heading : Measures → List (List ℕ)
-unit_heading ms = codes "unit" ∷ codes "size" ∷ codes "share %" ∷ codes "limit"
-    ∷ with_measure ms.money (codes "fixed") ∷ with_measure ms.money (codes "proportional")
-    ∷ with_measure ms.money (codes "investment") ∷ with_measure ms.money (codes "total")
-    ∷ with_measure ms.money (codes "marginal") ∷ []
+abbrev pub unit_heading : List (List ℕ)
+unit_heading = codes "unit" ∷ codes "size" ∷ codes "share %" ∷ codes "limit" ∷ codes "fixed"
+    ∷ codes "proportional" ∷ codes "investment" ∷ codes "total" ∷ codes "marginal" ∷ []
 
 abbrev pub unit_sorts : List Sort
 unit_sorts =
@@ -141,18 +133,14 @@ all_units_row p w =
 abbrev pub unit_rows : Problem → Network → Marginals → List (List (List ℕ))
 unit_rows p w m = map (unit_row p w m) w.units ++ all_units_row p w ∷ []
 
-abbrev pub unit_lines : Measures → Problem → Network → Marginals → List (List ℕ)
-unit_lines ms p w m = table_and_gap unit_sorts (unit_heading ms) (unit_rows p w m)
+abbrev pub unit_lines : Problem → Network → Marginals → List (List ℕ)
+unit_lines p w m = table_and_gap unit_sorts unit_heading (unit_rows p w m)
 
 -- ---- materials
 
--- a price and a marginal are money for one of the material
-abbrev pub material_heading : Measures → List (List ℕ)
-material_heading ms = codes "material" ∷ codes "kind" ∷ with_measure ms.mass (codes "made")
-    ∷ with_measure ms.mass (codes "used") ∷ with_measure ms.mass (codes "net") ∷ codes "limit"
-    ∷ with_measure (price_measure ms.money ms.mass) (codes "price")
-    ∷ with_measure ms.money (codes "cost")
-    ∷ with_measure (price_measure ms.money ms.mass) (codes "marginal") ∷ []
+abbrev pub material_heading : List (List ℕ)
+material_heading = codes "material" ∷ codes "kind" ∷ codes "made" ∷ codes "used" ∷ codes "net"
+    ∷ codes "limit" ∷ codes "price" ∷ codes "cost" ∷ codes "marginal" ∷ []
 
 abbrev pub material_sorts : List Sort
 material_sorts =
@@ -174,14 +162,13 @@ abbrev pub material_rows : Problem → Network → Marginals → List (List (Lis
 material_rows p w m = map (material_row p w m) (materials_of (net_of p) (has w.units))
     ++ all_materials_row p w ∷ []
 
-abbrev pub material_lines : Measures → Problem → Network → Marginals → List (List ℕ)
-material_lines ms p w m = table_and_gap material_sorts (material_heading ms) (material_rows p w m)
+abbrev pub material_lines : Problem → Network → Marginals → List (List ℕ)
+material_lines p w m = table_and_gap material_sorts material_heading (material_rows p w m)
 
 -- ---- money
 
-abbrev pub money_heading : Measures → List (List ℕ)
-money_heading ms =
-    (codes "in " ++ time_words ms.time) ∷ with_measure ms.money (codes "money") ∷ []
+abbrev pub money_heading : List (List ℕ)
+money_heading = codes "in one year" ∷ codes "money" ∷ []
 
 abbrev pub money_sorts : List Sort
 money_sorts = Words ∷ Sums ∷ []
@@ -207,8 +194,8 @@ money_rows p w =
     ∷ money_row (codes "material costs") (cost_sum Costs p w)
     ∷ money_row (codes "material incomes") (cost_sum Incomes p w) ∷ total_row p w ∷ []
 
-abbrev pub money_lines : Measures → Problem → Network → List (List ℕ)
-money_lines ms p w = table_and_gap money_sorts (money_heading ms) (money_rows p w)
+abbrev pub money_lines : Problem → Network → List (List ℕ)
+money_lines p w = table_and_gap money_sorts money_heading (money_rows p w)
 
 -- ---- foot
 
@@ -234,8 +221,7 @@ foot_lines p w = once_line p w ∷ left_out_line p w ∷ []
 
 -- ---- all
 
-abbrev pub report_lines : Measures → Problem → Network → Marginals → List (List ℕ)
-report_lines ms p w m =
-    head_lines ms p w
-    ++ (unit_lines ms p w m
-    ++ (material_lines ms p w m ++ (money_lines ms p w ++ foot_lines p w)))
+abbrev pub report_lines : Problem → Network → Marginals → List (List ℕ)
+report_lines p w m =
+    head_lines p w
+    ++ (unit_lines p w m ++ (material_lines p w m ++ (money_lines p w ++ foot_lines p w)))

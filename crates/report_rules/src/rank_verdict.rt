@@ -1,4 +1,3 @@
-use crate::lower_bound::LowerBound;
 use rank_rules::RankWhy;
 
 /// What the tree of a ranking proves of its networks. Nodes are counted from 0 in preorder.
@@ -6,9 +5,8 @@ use rank_rules::RankWhy;
 pub enum RankVerdict {
     /// All of it.
     Proved,
-    /// The first node that does not pass is open. No network costs less than the lower bound, if
-    /// one is known.
-    Unfinished { node: u32, low: Option<LowerBound> },
+    /// The first node that does not pass is open.
+    Unfinished { node: u32 },
     /// The first node that does not pass fails for this cause.
     Fails { node: u32, why: RankWhy },
 }

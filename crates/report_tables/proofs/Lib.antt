@@ -1,5 +1,4 @@
 mod Bounds
 mod LeftOut
 pub mod Pieces
-mod Printable
 mod Walk

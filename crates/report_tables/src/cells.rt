@@ -1,9 +1,7 @@
 //! More cells in a row.
 ghost use Rattle.std.specs.Prelude.{◌≡◌, ◌++◌, ◌∷◌, [], IfOk, OnOk, map, string_bytes};
-ghost use Rattle.report_rules.specs.Measures.{with_measure};
 ghost use Rattle.report_rules.specs.Report.{number_cell, marginal_cell};
 
-use crate::measures::MeasureUnit;
 use crate::row::Row;
 use report_amounts::{Marginals, Number};
 use std::alloc::{AllocError, Global};
@@ -15,36 +13,6 @@ pub fn push_words(alloc: Global, row: &mut Row, words: &str) -> Result<(), Alloc
     let mut cell = String::new(alloc);
     cell.push_str(words)?;
     row.push(cell)
-}
-
-/// Appends the words as a cell, and after them the unit of measure if there is one.
-pub(crate) fn push_heading(
-    alloc: Global,
-    row: &mut Row,
-    words: &str,
-    measure: &MeasureUnit,
-) -> Result<(), AllocError>
-    ensures { OnOk result (row.new ≡ row.old ++ with_measure measure.now words.now ∷ []) }
-{
-    let mut cell = String::new(alloc);
-    measure.push_with(&mut cell, words)?;
-    row.push(cell)
-}
-
-/// The same for each of the words.
-pub(crate) fn push_headings(
-    alloc: Global,
-    row: &mut Row,
-    words: &[&str],
-    measure: &MeasureUnit,
-) -> Result<(), AllocError>
-    ensures { OnOk result
-        (row.new ≡ row.old ++ map (λ word. with_measure measure.now word.now) words.now) }
-{
-    'words: for word in words {
-        push_heading(alloc, row, word, measure)?;
-    }
-    Ok(())
 }
 
 /// Appends the number with six digits if it has more, or `past` if it overflows.

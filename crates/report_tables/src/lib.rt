@@ -5,10 +5,10 @@
 //! the lines of any table with aligned columns. [`report_of`] gives their bytes. `Ranked` has the
 //! table of a ranking, and [`ranking_of`] gives it with the report of the first network.
 //!
-//! Modules: `measures`, the units of measure of headings; `plant`, a problem with these; `row`,
-//! `column`, `line` and `table`, aligned tables; `cells`, more cells in a row; `limits`, whether a
-//! number is at a bound; `tables`, a table with an empty line after it; `units`, `materials` and
-//! `money`, the three tables; `foot`; `text`, the whole; `ranking`, the table of a ranking.
+//! Modules: `row`, `column`, `line` and `table`, aligned tables; `cells`, more cells in a row;
+//! `limits`, whether a number is at a bound; `tables`, a table with an empty line after it;
+//! `units`, `materials` and `money`, the three tables; `foot`; `text`, the whole; `ranking`, the
+//! table of a ranking.
 #![tactic(auto)]
 
 mod cells;
@@ -17,9 +17,7 @@ mod foot;
 mod limits;
 mod line;
 mod materials;
-mod measures;
 mod money;
-mod plant;
 mod ranking;
 mod row;
 mod table;
@@ -30,9 +28,7 @@ mod units;
 pub use cells::push_words;
 pub use foot::{left_out, push_names_or_none};
 pub use materials::material_limit;
-pub use measures::{MeasureUnit, Measures};
 pub use money::{push_low, push_total};
-pub use plant::Plant;
 pub use ranking::ranking_of;
 pub use row::Row;
 pub use table::push_table;

@@ -18,12 +18,8 @@ ghost use Rattle.report_rules.specs.Report.{marginal_cell};
 ghost use Rattle.report_rules.specs.Report.{material_limit, material_heading, material_row};
 ghost use Rattle.report_rules.specs.Report.{all_materials_row, material_rows, material_lines};
 
-use crate::cells::{
-    push_heading, push_headings, push_marginal, push_number, push_numbers, push_words,
-};
+use crate::cells::{push_marginal, push_number, push_numbers, push_words};
 use crate::limits::{limit_words, unbounded_or};
-use crate::measures::Measures;
-use crate::plant::Plant;
 use crate::row::Row;
 use crate::tables::push_table_and_gap;
 use branch_tree::Network;
@@ -36,6 +32,10 @@ use std::alloc::{AllocError, Global};
 
 /// 1000000000 in 10^-12: a bound that stands for none.
 const NO_BOUND: i128 = 1_000_000_000_000_000_000_000;
+
+const HEADING: [&str; 9] = [
+    "material", "kind", "made", "used", "net", "limit", "price", "cost", "marginal",
+];
 
 fn push_kind(alloc: Global, row: &mut Row, problem: &Problem, j: u32) -> Result<(), AllocError>
     requires { j < length problem.now.materials }
@@ -180,51 +180,22 @@ fn material_rows(
     Ok(rows)
 }
 
-/// The rows of the materials, and that of their sums.
-fn all_rows(
-    alloc: Global,
-    site: &Site<'_>,
-    network: &Network,
-    marginals: &Marginals,
-) -> Result<Vec<Row>, AllocError>
-    requires feasible { IsFeasible site.now network.now }
-    ensures { IfOk result
-        (λ rows. rows.items ≡ material_rows site.now network.now marginals.now) }
-{
-    let mut rows = material_rows(alloc, site, network, marginals)?;
-    rows.push(all_materials_row(alloc, site, network)?)?;
-    Ok(rows)
-}
-
-fn material_heading(alloc: Global, measures: &Measures) -> Result<Row, AllocError>
-    ensures { IfOk result (λ row. row ≡ material_heading measures.now) }
-{
-    let price = measures.price(alloc)?;
-    let mut row = Row::of_words(alloc, &["material", "kind"])?;
-    push_headings(alloc, &mut row, &["made", "used", "net"], measures.mass())?;
-    push_words(alloc, &mut row, "limit")?;
-    push_heading(alloc, &mut row, "price", &price)?;
-    push_heading(alloc, &mut row, "cost", measures.money())?;
-    push_heading(alloc, &mut row, "marginal", &price)?;
-    Ok(row)
-}
-
 /// Appends the table of materials and an empty line.
 pub(crate) fn push_materials(
     alloc: Global,
     text: &mut String,
-    plant: &Plant<'_>,
+    site: &Site<'_>,
     network: &Network,
     marginals: &Marginals,
 ) -> Result<(), AllocError>
-    requires feasible { IsFeasible plant.now.site.now network.now }
+    requires feasible { IsFeasible site.now network.now }
     ensures { OnOk result
         (string_bytes text.new ≡ string_bytes text.old
-        ++ printed
-        (material_lines plant.now.measures.now plant.now.site.now network.now marginals.now)) }
+        ++ printed (material_lines site.now network.now marginals.now)) }
 {
-    let heading = material_heading(alloc, plant.measures)?;
-    let rows = all_rows(alloc, plant.site, network, marginals)?;
+    let heading = Row::of_words(alloc, &HEADING)?;
+    let mut rows = material_rows(alloc, site, network, marginals)?;
+    rows.push(all_materials_row(alloc, site, network)?)?;
     let sorts = [
         Sort::Words,
         Sort::Words,

@@ -12,9 +12,7 @@ ghost use Rattle.report_rules.specs.Lower.{low_cell};
 ghost use Rattle.report_rules.specs.Report.{money_heading, money_row, total_cell, total_words};
 ghost use Rattle.report_rules.specs.Report.{total_row, money_rows, money_lines};
 
-use crate::cells::{push_heading, push_number};
-use crate::measures::Measures;
-use crate::plant::Plant;
+use crate::cells::push_number;
 use crate::row::Row;
 use crate::tables::push_table_and_gap;
 use branch_tree::Network;
@@ -130,31 +128,20 @@ fn money_rows(alloc: Global, site: &Site<'_>, network: &Network) -> Result<Vec<R
     Ok(rows)
 }
 
-fn money_heading(alloc: Global, measures: &Measures) -> Result<Row, AllocError>
-    ensures { IfOk result (λ row. row ≡ money_heading measures.now) }
-{
-    let mut time = String::from_str(alloc, "in ")?;
-    measures.time().push_time(&mut time)?;
-    let mut row = Row::new(alloc);
-    row.push(time)?;
-    push_heading(alloc, &mut row, "money", measures.money())?;
-    Ok(row)
-}
-
 /// Appends the table of money and an empty line.
 pub(crate) fn push_money(
     alloc: Global,
     text: &mut String,
-    plant: &Plant<'_>,
+    site: &Site<'_>,
     network: &Network,
 ) -> Result<(), AllocError>
-    requires feasible { IsFeasible plant.now.site.now network.now }
+    requires feasible { IsFeasible site.now network.now }
     ensures { OnOk result
         (string_bytes text.new ≡ string_bytes text.old
-        ++ printed (money_lines plant.now.measures.now plant.now.site.now network.now)) }
+        ++ printed (money_lines site.now network.now)) }
 {
-    let heading = money_heading(alloc, plant.measures)?;
-    let rows = money_rows(alloc, plant.site, network)?;
+    let heading = Row::of_words(alloc, &["in one year", "money"])?;
+    let rows = money_rows(alloc, site, network)?;
     let sorts = [Sort::Words, Sort::Sums];
     push_table_and_gap(alloc, text, &sorts, &heading, &rows)?;
     Ok(())

@@ -4,26 +4,27 @@ ghost use Rattle.std.specs.Prelude.{decimal, string_bytes};
 ghost use Rattle.pns_problem.specs.Printing.{printed};
 ghost use Rattle.tree_rules.specs.Claim.{IsFeasible};
 ghost use Rattle.report_rules.specs.Report.{total_cell, report_lines};
-ghost use Rattle.report_rules.specs.Ranked.{share_above_cell, change_cell};
+ghost use Rattle.report_rules.specs.Ranked.{share_above_cell, with_word, signed_names, change_cell};
 ghost use Rattle.report_rules.specs.Ranked.{with_idle, idle_names, idle_cell, ranking_row};
-ghost use Rattle.report_rules.specs.Ranked.{ranking_heading, ranking_rows};
+ghost use Rattle.report_rules.specs.Ranked.{ranking_rows};
 ghost use Rattle.report_rules.specs.Ranked.{ranking_table, ranking_lines};
 ghost use Rattle.report_tables.specs.First.{IsFirstFeasible};
 
-use crate::cells::{push_headings, push_number, push_words};
-use crate::measures::Measures;
+use crate::cells::{push_number, push_words};
 use crate::money::push_total;
-use crate::plant::Plant;
 use crate::row::Row;
 use crate::tables::push_table_and_gap;
 use crate::text::push_report;
 use branch_tree::Network;
+use pgraph::Site;
 use pns_problem::Problem;
 use pns_tables::size_at;
-use report_amounts::{Marginals, above_first, change_of, place_of, push_word, share_above};
+use report_amounts::{Marginals, above_first, share_above};
 use report_rules::Sort;
 use std::alloc::{AllocError, Global};
 use unit_sets::UnitSet;
+
+const HEADING: [&str; 6] = ["place", "cost", "above", "above %", "change", "idle"];
 
 fn push_place(alloc: Global, row: &mut Row, place: u32) -> Result<(), AllocError>
     ensures { OnOk result (row.new ≡ row.old ++ decimal place ∷ []) }
@@ -63,6 +64,34 @@ fn push_share_above(
     row.push(cell)
 }
 
+/// Appends a sign and a word, and before them a space if the text is not empty.
+fn push_word(text: &mut String, sign: &str, word: &str) -> Result<(), AllocError>
+    ensures { OnOk result
+        (string_bytes text.new ≡ with_word (string_bytes text.old) (sign.now ++ word.now)) }
+{
+    if !text.is_empty() {
+        text.push(' ')?;
+    }
+    text.push_str(sign)?;
+    text.push_str(word)
+}
+
+/// Appends the names of the units, each with the sign before it.
+fn push_signed(
+    text: &mut String,
+    sign: &str,
+    problem: &Problem,
+    units: UnitSet,
+) -> Result<(), AllocError>
+    ensures { OnOk result
+        (string_bytes text.new ≡ signed_names problem.now sign.now (string_bytes text.old) units) }
+{
+    for u in units {
+        push_word(text, sign, problem.unit_name(u))?;
+    }
+    Ok(())
+}
+
 /// The units that the network takes in and leaves out against the first.
 fn push_change(
     alloc: Global,
@@ -74,7 +103,19 @@ fn push_change(
     ensures { OnOk result
         (row.new ≡ row.old ++ change_cell problem.now first.now network.now ∷ []) }
 {
-    let cell = change_of(alloc, problem, first, network)?;
+    let mut cell = String::new(alloc);
+    push_signed(
+        &mut cell,
+        "+",
+        problem,
+        network.units().minus(first.units()),
+    )?;
+    push_signed(
+        &mut cell,
+        "-",
+        problem,
+        first.units().minus(network.units()),
+    )?;
     row.push(cell)
 }
 
@@ -146,6 +187,14 @@ fn ranking_row(
     Ok(row)
 }
 
+/// The place of the network of this number, counted from 0.
+fn place_of(at: usize) -> u32
+    requires { at + 1 < 2 ^ 32 }
+    ensures { result ≡ at + 1 }
+{
+    at as u32 + 1
+}
+
 fn ranking_rows(
     alloc: Global,
     problem: &Problem,
@@ -164,33 +213,21 @@ fn ranking_rows(
     Ok(rows)
 }
 
-fn ranking_heading(alloc: Global, measures: &Measures) -> Result<Row, AllocError>
-    ensures { IfOk result (λ row. row ≡ ranking_heading measures.now) }
-{
-    let mut row = Row::of_words(alloc, &["place"])?;
-    push_headings(alloc, &mut row, &["cost", "above"], measures.money())?;
-    push_words(alloc, &mut row, "above %")?;
-    push_words(alloc, &mut row, "change")?;
-    push_words(alloc, &mut row, "idle")?;
-    Ok(row)
-}
-
 /// Appends the table and an empty line.
 fn push_ranking(
     alloc: Global,
     text: &mut String,
-    plant: &Plant<'_>,
+    problem: &Problem,
     first: &Network,
     networks: &[Network],
 ) -> Result<(), AllocError>
     requires { length networks.now < 2 ^ 32 }
     ensures { OnOk result
         (string_bytes text.new ≡ string_bytes text.old
-        ++ printed
-        (ranking_table plant.now.measures.now plant.now.site.now first.now networks.now)) }
+        ++ printed (ranking_table problem.now first.now networks.now)) }
 {
-    let heading = ranking_heading(alloc, plant.measures)?;
-    let rows = ranking_rows(alloc, plant.site.problem(), first, networks)?;
+    let heading = Row::of_words(alloc, &HEADING)?;
+    let rows = ranking_rows(alloc, problem, first, networks)?;
     let sorts = [
         Sort::Numbers,
         Sort::Sums,
@@ -206,22 +243,21 @@ fn push_ranking(
 /// The table, and after it the report of the first network.
 fn ranked_text(
     alloc: Global,
-    plant: &Plant<'_>,
+    site: &Site<'_>,
     first: &Network,
     networks: &[Network],
     marginals: &Marginals,
 ) -> Result<Vec<u8>, AllocError>
     requires few { length networks.now < 2 ^ 32 }
-    requires feasible { IsFeasible plant.now.site.now first.now }
+    requires feasible { IsFeasible site.now first.now }
     ensures { IfOk result
         (λ bytes. bytes.items
-        ≡ printed
-        (ranking_table plant.now.measures.now plant.now.site.now first.now networks.now
-        ++ report_lines plant.now.measures.now plant.now.site.now first.now marginals.now)) }
+        ≡ printed (ranking_table site.now first.now networks.now
+        ++ report_lines site.now first.now marginals.now)) }
 {
     let mut text = String::new(alloc);
-    push_ranking(alloc, &mut text, plant, first, networks)?;
-    push_report(alloc, &mut text, plant, first, marginals)?;
+    push_ranking(alloc, &mut text, site.problem(), first, networks)?;
+    push_report(alloc, &mut text, site, first, marginals)?;
     Ok(text.into_bytes())
 }
 
@@ -229,19 +265,17 @@ fn ranked_text(
 /// if there is none.
 pub fn ranking_of(
     alloc: Global,
-    plant: &Plant<'_>,
+    site: &Site<'_>,
     networks: &[Network],
     marginals: &Marginals,
 ) -> Result<Vec<u8>, AllocError>
     requires few { length networks.now < 2 ^ 32 }
-    requires feasible { IsFirstFeasible plant.now.site.now networks.now }
+    requires feasible { IsFirstFeasible site.now networks.now }
     ensures { IfOk result
-        (λ bytes. bytes.items
-        ≡ printed
-        (ranking_lines plant.now.measures.now plant.now.site.now marginals.now networks.now)) }
+        (λ bytes. bytes.items ≡ printed (ranking_lines site.now marginals.now networks.now)) }
 {
     match networks.split_first() {
-        Some((first, _)) => ranked_text(alloc, plant, first, networks, marginals),
+        Some((first, _)) => ranked_text(alloc, site, first, networks, marginals),
         None => Ok(Vec::new(alloc)),
     }
 }

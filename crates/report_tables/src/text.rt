@@ -5,14 +5,11 @@ ghost use Rattle.number_sets.specs.Sets.{has};
 ghost use Rattle.pns_problem.specs.Printing.{printed};
 ghost use Rattle.flow_rules.specs.Net.{net_of, materials_of};
 ghost use Rattle.tree_rules.specs.Claim.{IsFeasible};
-ghost use Rattle.report_rules.specs.Report.{counted, network_line, time_line, head_lines};
-ghost use Rattle.report_rules.specs.Report.{report_lines};
+ghost use Rattle.report_rules.specs.Report.{counted, network_line, head_lines, report_lines};
 
 use crate::foot::push_foot;
 use crate::materials::push_materials;
-use crate::measures::Measures;
 use crate::money::push_money;
-use crate::plant::Plant;
 use crate::units::push_units;
 use branch_tree::Network;
 use pgraph::Site;
@@ -75,30 +72,16 @@ fn push_network(text: &mut String, site: &Site<'_>, network: &Network) -> Result
     Ok(())
 }
 
-/// Appends for which time money is.
-fn push_time(text: &mut String, measures: &Measures) -> Result<(), AllocError>
-    ensures { OnOk result
-        (string_bytes text.new ≡ string_bytes text.old ++ time_line measures.now) }
-{
-    text.push_str("Money is for ")?;
-    measures.time().push_time(text)?;
-    text.push_str(": costs are above 0, incomes below.")?;
-    Ok(())
-}
-
 /// Appends the head and an empty line.
-fn push_head(text: &mut String, plant: &Plant<'_>, network: &Network) -> Result<(), AllocError>
-    requires known { (u : ℕ) → has network.now.units u ≡ true
-        → u < length plant.now.site.now.units }
+fn push_head(text: &mut String, site: &Site<'_>, network: &Network) -> Result<(), AllocError>
+    requires known { (u : ℕ) → has network.now.units u ≡ true → u < length site.now.units }
     ensures { OnOk result
         (string_bytes text.new ≡ string_bytes text.old
-        ++ printed (head_lines plant.now.measures.now plant.now.site.now network.now)) }
+        ++ printed (head_lines site.now network.now)) }
 {
     text.push_str("Rounded to 6 digits where needed; exact numbers: pns json\n")?;
-    push_network(text, plant.site, network)?;
-    text.push('\n')?;
-    push_time(text, plant.measures)?;
-    text.push_str("\n\n")?;
+    push_network(text, site, network)?;
+    text.push_str("\nMoney is for one year: costs are above 0, incomes below.\n\n")?;
     Ok(())
 }
 
@@ -106,21 +89,21 @@ fn push_head(text: &mut String, plant: &Plant<'_>, network: &Network) -> Result<
 pub(crate) fn push_report(
     alloc: Global,
     text: &mut String,
-    plant: &Plant<'_>,
+    site: &Site<'_>,
     network: &Network,
     marginals: &Marginals,
 ) -> Result<(), AllocError>
-    requires feasible { IsFeasible plant.now.site.now network.now }
+    requires feasible { IsFeasible site.now network.now }
     ensures { OnOk result
         (string_bytes text.new ≡ string_bytes text.old
-        ++ printed
-        (report_lines plant.now.measures.now plant.now.site.now network.now marginals.now)) }
+        ++ printed (report_lines site.now network.now marginals.now)) }
 {
-    push_head(text, plant, network)?;
-    push_units(alloc, text, plant, network, marginals)?;
-    push_materials(alloc, text, plant, network, marginals)?;
-    push_money(alloc, text, plant, network)?;
-    push_foot(text, plant.site.problem(), network)?;
+    let problem = site.problem();
+    push_head(text, site, network)?;
+    push_units(alloc, text, problem, network, marginals)?;
+    push_materials(alloc, text, site, network, marginals)?;
+    push_money(alloc, text, site, network)?;
+    push_foot(text, problem, network)?;
     Ok(())
 }
 
@@ -128,17 +111,15 @@ pub(crate) fn push_report(
 /// is `past`.
 pub fn report_of(
     alloc: Global,
-    plant: &Plant<'_>,
+    site: &Site<'_>,
     network: &Network,
     marginals: &Marginals,
 ) -> Result<Vec<u8>, AllocError>
-    requires feasible { IsFeasible plant.now.site.now network.now }
+    requires feasible { IsFeasible site.now network.now }
     ensures { IfOk result
-        (λ bytes. bytes.items
-        ≡ printed
-        (report_lines plant.now.measures.now plant.now.site.now network.now marginals.now)) }
+        (λ bytes. bytes.items ≡ printed (report_lines site.now network.now marginals.now)) }
 {
     let mut text = String::new(alloc);
-    push_report(alloc, &mut text, plant, network, marginals)?;
+    push_report(alloc, &mut text, site, network, marginals)?;
     Ok(text.into_bytes())
 }

@@ -16,10 +16,8 @@ ghost use Rattle.report_rules.specs.declared.amount.UnitAmount.TheVariants.{Inve
 ghost use Rattle.report_rules.specs.declared.amount.UnitAmount.TheVariants.{Total};
 ghost use Rattle.problem_rules.specs.Problem.{unit_at};
 
-use crate::cells::{push_headings, push_marginal, push_number, push_numbers, push_words};
+use crate::cells::{push_marginal, push_number, push_numbers, push_words};
 use crate::limits::{limit_words, unbounded_or};
-use crate::measures::Measures;
-use crate::plant::Plant;
 use crate::row::Row;
 use crate::tables::push_table_and_gap;
 use branch_tree::Network;
@@ -28,6 +26,18 @@ use pns_tables::size_at;
 use report_amounts::{Marginals, amount, share_of, size, unit_of, unit_sum};
 use report_rules::{Sort, UnitAmount};
 use std::alloc::{AllocError, Global};
+
+const HEADING: [&str; 9] = [
+    "unit",
+    "size",
+    "share %",
+    "limit",
+    "fixed",
+    "proportional",
+    "investment",
+    "total",
+    "marginal",
+];
 
 /// 1000000000 in millionths: a bound that stands for none.
 pub const NO_BOUND: i64 = 1_000_000_000_000_000;
@@ -180,48 +190,22 @@ fn unit_rows(
     Ok(rows)
 }
 
-/// The rows of the units, and that of their sums.
-fn all_rows(
-    alloc: Global,
-    problem: &Problem,
-    network: &Network,
-    marginals: &Marginals,
-) -> Result<Vec<Row>, AllocError>
-    requires { (u : ℕ) → has network.now.units u ≡ true → u < length problem.now.units }
-    ensures { IfOk result
-        (λ rows. rows.items ≡ unit_rows problem.now network.now marginals.now) }
-{
-    let mut rows = unit_rows(alloc, problem, network, marginals)?;
-    rows.push(all_units_row(alloc, problem, network)?)?;
-    Ok(rows)
-}
-
-fn unit_heading(alloc: Global, measures: &Measures) -> Result<Row, AllocError>
-    ensures { IfOk result (λ row. row ≡ unit_heading measures.now) }
-{
-    let costs = ["fixed", "proportional", "investment", "total", "marginal"];
-    let mut row = Row::of_words(alloc, &["unit", "size", "share %", "limit"])?;
-    push_headings(alloc, &mut row, &costs, measures.money())?;
-    Ok(row)
-}
-
 /// Appends the table of units and an empty line.
 pub(crate) fn push_units(
     alloc: Global,
     text: &mut String,
-    plant: &Plant<'_>,
+    problem: &Problem,
     network: &Network,
     marginals: &Marginals,
 ) -> Result<(), AllocError>
-    requires known { (u : ℕ) → has network.now.units u ≡ true
-        → u < length plant.now.site.now.units }
+    requires { (u : ℕ) → has network.now.units u ≡ true → u < length problem.now.units }
     ensures { OnOk result
         (string_bytes text.new ≡ string_bytes text.old
-        ++ printed
-        (unit_lines plant.now.measures.now plant.now.site.now network.now marginals.now)) }
+        ++ printed (unit_lines problem.now network.now marginals.now)) }
 {
-    let heading = unit_heading(alloc, plant.measures)?;
-    let rows = all_rows(alloc, plant.site.problem(), network, marginals)?;
+    let heading = Row::of_words(alloc, &HEADING)?;
+    let mut rows = unit_rows(alloc, problem, network, marginals)?;
+    rows.push(all_units_row(alloc, problem, network)?)?;
     let sorts = [
         Sort::Words,
         Sort::Numbers,

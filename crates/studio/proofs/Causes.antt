@@ -41,7 +41,7 @@ use Rattle.studio_rules.specs.Reading.{AreHeld, FileFault, GivesProblem, OnFile,
 use Rattle.studio_rules.specs.Reading.{file_limit}
 use Rattle.studio_rules.specs.Script.{ScriptFault, GivesScript, HasEditFault, OnScript}
 use Rattle.studio_rules.specs.Plan.{PlanFileFault, GivesPlan, OnPlan}
-use Rattle.studio_rules.specs.TreeFile.{TreeFault, GivesTree, TreeSays, OnTree, tree_limit}
+use Rattle.studio_rules.specs.TreeFile.{TreeFault, GivesTree, OnTree, tree_limit}
 use Rattle.studio_rules.specs.Max.{MaxWork}
 use Rattle.studio_rules.specs.Lint.{LintWork}
 use Rattle.studio_rules.specs.Axioms.{AxiomsWork, first_stranger}
@@ -49,23 +49,19 @@ use Rattle.studio_rules.specs.Listing.{ListingWork}
 use Rattle.studio_rules.specs.Migrate.{MigrateWork}
 use Rattle.studio_rules.specs.Edits.{EditWork, UndoWork}
 use Rattle.studio_rules.specs.Flows.{FlowsWork}
-use Rattle.studio_rules.specs.HeadedFile.{HeadedFault, GivesHeaded, OnHeaded}
+use Rattle.studio_rules.specs.HeadedFile.{AnyHead, HeadedFault, HeadedSays}
+use Rattle.studio_rules.specs.HeadedFile.{GivesHeaded, OnHeaded}
 use Rattle.studio_rules.specs.Check.{CheckWork}
 use Rattle.studio_rules.specs.Rankcheck.{RankFault, GivesRanking, OnRank, RankcheckWork}
 use Rattle.studio_rules.specs.Rank.{RankWork}
 use Rattle.studio_rules.specs.Alternates.{AlternatesWork}
 use Rattle.studio_rules.specs.Network.{OnNetwork}
 use Rattle.studio_rules.specs.Table.{TableWork}
-use Rattle.report_rules.specs.Measures.{measures_of}
 use Rattle.studio_rules.specs.Report.{ReportWork}
 use Rattle.studio_rules.specs.Json.{JsonWork}
-use Rattle.studio_rules.specs.RankReport.{RankReportWork, ReportsOn}
+use Rattle.studio_rules.specs.RankReport.{RankReportWork}
 use Rattle.studio_rules.specs.RankJson.{RankJsonWork}
-use Rattle.studio_rules.specs.RankGraph.{RankGraphWork}
 use Rattle.studio_rules.specs.TextFile.{by_kind, RankSays, EitherSays, OnEither}
-use Rattle.studio_rules.specs.RangesJson.{TableSays, AnySays, OnAny}
-use Rattle.range_rules.specs.Table.{is_table, read_table}
-use Rattle.range_rules.specs.declared.row.Row.{Row}
 use Rattle.rank_rules.specs.Headed.{is_ranking}
 use Rattle.studio_rules.specs.Graph.{PlantGraphWork, NetworkGraphWork}
 use Rattle.studio_rules.specs.Expand.{ExpandWork}
@@ -93,15 +89,15 @@ use Rattle.studio_rules.specs.Causes.{caused, FileCause, HasProblemFault, HasScr
 use Rattle.studio_rules.specs.Causes.{HasPlanFault, HasTreeFault, HasHeadedFault, HasRankFault}
 use Rattle.studio_rules.specs.Causes.{HasPartFault}
 use Rattle.studio_rules.specs.Causes.{NoCause, TokenCause, MigrationCause, NameCause, InFile}
-use Rattle.studio_rules.specs.Causes.{InScript, InPlan, InRank, InTree, InHeaded, InEither, InAny}
-use Rattle.studio_rules.specs.Causes.{InParts, HasTableFault, HasEitherFault}
+use Rattle.studio_rules.specs.Causes.{InScript, InPlan, InRank, InTree, InHeaded, InEither}
+use Rattle.studio_rules.specs.Causes.{InParts}
 use Rattle.studio_rules.specs.Causes.{AtNode, CauseOf}
 use Rattle.studio_rules.specs.Causes.{AreTold, EndsExactly}
 use Rattle.studio.proofs.Accepted.{no_fault, one_problem}
 use Rattle.studio.proofs.Statuses.{max_status, lint_status, names_status, flows_status}
 use Rattle.studio.proofs.Statuses.{check_status, rankcheck_status, split_status, table_status}
 use Rattle.studio.proofs.Statuses.{report_status, json_status, network_status, solve_status}
-use Rattle.studio.proofs.Statuses.{rank_report_status, rank_json_status, rank_graph_status}
+use Rattle.studio.proofs.Statuses.{rank_report_status, rank_json_status}
 use Rattle.studio.proofs.Statuses.{show_status, rank_status, search_status, plant_graph_status}
 use Rattle.studio.proofs.Statuses.{alternatives_status}
 use Rattle.studio.proofs.Statuses.{graph_status, periods_status, part_status, claim_status}
@@ -403,7 +399,7 @@ not_bad_rank p file t s given (inl h) = let a = given.0 in let b =
     h.1 in absurd (omega (arith, a, b))
 not_bad_rank p file t s given (inr h) = (rank_good p file t given).1 h.2
 
--- ---- a tree that may have a head, after which nothing is a cause
+-- ---- a tree that may have a head, and what follows it whatever it says
 
 headed_cause : (name : List ℕ) (p : Problem) (file : List ℕ) (s : Status) (lines : List (List ℕ))
     → HeadedFault name p file s lines → FileCause tree_limit BadTree (HasHeadedFault p) file s
@@ -431,21 +427,27 @@ check_plain : (p : Problem) (t : trees.HeadedCertificate) (s : Status) (lines : 
 check_plain p t s lines c h =
     elim (check_status p t s lines h) [ inl q ↦ subst Caused q c | inr q ↦ subst Caused q c ]
 
-module _ (held : List ℕ → Told) (name : List ℕ) (p : Problem) where
-  headed_only : Only (OnHeaded CheckWork held name p) (InHeaded held name p)
-  headed_only s lines c h =
-      no_behind tree_limit BadTree (HasHeadedFault p) (GivesHeaded p) (held name) s
-      (judged_only tree_limit BadTree (HasHeadedFault p) (GivesHeaded p) (HeadedFault name p)
-      (CheckWork p) (λ _ _. ⊥) (headed_cause name p) (check_plain p) (held name) s lines c
-      h)
+not_bad_headed : (p : Problem) (file : List ℕ) (t : trees.HeadedCertificate) (s : Status)
+    → GivesHeaded p file t → FileCause tree_limit BadTree (HasHeadedFault p) file s → ⊥
+not_bad_headed p file t s given (inl h) = let a = given.0 in let b =
+    h.1 in absurd (omega (arith, a, b))
+not_bad_headed p file t s given (inr h) = (headed_good p file t given).1 h.2
 
-  headed_always : IsSome (held name) → Always (OnHeaded CheckWork held name p)
-      (InHeaded held name p)
-  headed_always told status s lines cause h =
+module _ (work : Problem → trees.HeadedCertificate → Status → List (List ℕ) → Type 0)
+    (behind : Problem → Status → Type 0) (held : List ℕ → Told) (name : List ℕ)
+    (p : Problem) where
+  headed_only : ((t : trees.HeadedCertificate) → Only (work p t) (behind p))
+      → Only (OnHeaded work held name p) (InHeaded behind held name p)
+  headed_only works =
+      judged_only tree_limit BadTree (HasHeadedFault p) (GivesHeaded p) (HeadedFault name p)
+      (work p) (λ t s. behind p s) (headed_cause name p) works (held name)
+
+  headed_always : ((t : trees.HeadedCertificate) → Always (work p t) (behind p))
+      → IsSome (held name) → Always (OnHeaded work held name p) (InHeaded behind held name p)
+  headed_always works told =
       judged_always tree_limit BadTree (HasHeadedFault p) (GivesHeaded p) (HeadedFault name p)
-      (CheckWork p) (λ _ _. ⊥) (headed_cause name p) (headed_good p) (one_headed p)
-      (λ file t given u v ls none does. absurd none) (held name) told status s lines
-      (cause.0, cause.1, inl cause.2) h
+      (work p) (λ t s. behind p s) (headed_cause name p) (headed_good p) (one_headed p)
+      (λ file t given. works t) (held name) told
 
 -- ---- TREE, and what follows it whatever it claims
 
@@ -504,23 +506,24 @@ module _ (work : Problem → Claim → Tree → Status → List (List ℕ) → T
 
 -- ---- a tree or a ranking, after which nothing is a cause
 
-module _ (on_tree : Problem → Claim → Tree → Status → List (List ℕ) → Type 0)
+module _ (on_tree : Problem → trees.HeadedCertificate → Status → List (List ℕ) → Type 0)
     (on_rank : Problem → Text → Status → List (List ℕ) → Type 0) (p : Problem) where
-  module _ (tree_plain : (claim : Claim) (tree : Tree) (s : Status) (lines : List (List ℕ))
-      → Caused s → on_tree p claim tree s lines → ⊥)
+  module _ (tree_plain : (t : trees.HeadedCertificate) (s : Status) (lines : List (List ℕ))
+      → Caused s → on_tree p t s lines → ⊥)
       (rank_plain : (t : Text) (s : Status) (lines : List (List ℕ)) → Caused s
       → on_rank p t s lines → ⊥) where
     kind_cause : (kind : Bool) (name file : List ℕ) (s : Status) (lines : List (List ℕ))
         → Caused s
-        → by_kind kind (RankSays on_rank name p file s lines) (TreeSays on_tree name p file s lines)
+        → by_kind kind (RankSays on_rank name p file s lines)
+        (HeadedSays on_tree name p file s lines)
         → FileCause tree_limit BadTree
-        (λ bytes. by_kind kind (HasRankFault p bytes) (HasTreeFault p bytes)) file s
+        (λ bytes. by_kind kind (HasRankFault p bytes) (HasHeadedFault p bytes)) file s
     kind_cause true name file s lines c (inl h) = rank_cause name p file s lines h
     kind_cause true name file s lines c (inr (t, gives, does)) =
         absurd (rank_plain t s lines c does)
-    kind_cause false name file s lines c (inl h) = tree_cause name p file s lines h
-    kind_cause false name file s lines c (inr (claim, tree, gives, does)) =
-        absurd (tree_plain claim tree s lines c does)
+    kind_cause false name file s lines c (inl h) = headed_cause name p file s lines h
+    kind_cause false name file s lines c (inr (t, gives, does)) =
+        absurd (tree_plain t s lines c does)
 
     either_only : (held : List ℕ → Told) (name : List ℕ)
         → Only (OnEither on_tree on_rank held name p) (InEither held name p)
@@ -529,8 +532,9 @@ module _ (on_tree : Problem → Claim → Tree → Status → List (List ℕ) �
 
   kind_always : (kind : Bool) (name file : List ℕ) (status s : Status) (lines : List (List ℕ))
       → FileCause tree_limit BadTree
-      (λ bytes. by_kind kind (HasRankFault p bytes) (HasTreeFault p bytes)) file status
-      → by_kind kind (RankSays on_rank name p file s lines) (TreeSays on_tree name p file s lines)
+      (λ bytes. by_kind kind (HasRankFault p bytes) (HasHeadedFault p bytes)) file status
+      → by_kind kind (RankSays on_rank name p file s lines)
+      (HeadedSays on_tree name p file s lines)
       → s ≡ status
   kind_always true name file status s lines why (inl h) =
       one_cause tree_limit BadTree (HasRankFault p) file s status
@@ -538,10 +542,10 @@ module _ (on_tree : Problem → Claim → Tree → Status → List (List ℕ) �
   kind_always true name file status s lines why (inr (t, gives, does)) =
       absurd (not_bad_rank p file t status gives why)
   kind_always false name file status s lines why (inl h) =
-      one_cause tree_limit BadTree (HasTreeFault p) file s status
-      (tree_cause name p file s lines h) why
-  kind_always false name file status s lines why (inr (claim, tree, gives, does)) =
-      absurd (not_bad_tree p file claim tree status gives why)
+      one_cause tree_limit BadTree (HasHeadedFault p) file s status
+      (headed_cause name p file s lines h) why
+  kind_always false name file status s lines why (inr (t, gives, does)) =
+      absurd (not_bad_headed p file t status gives why)
 
   either_always : (held : List ℕ → Told) (name : List ℕ) → IsSome (held name)
       → Always (OnEither on_tree on_rank held name p) (InEither held name p)
@@ -786,71 +790,6 @@ module _ (p : Problem) (s : Status) (lines : List (List ℕ)) (c : Caused s) whe
       elim (claim_status budget inside outside p claim tree s lines h)
       [ inl q ↦ subst Caused q c | inr o ↦ stops_plain o ]
 
--- ---- a table of ranges, a tree or a ranking as an object
-
-not_bad_table : (p : Problem) (file : List ℕ) (rows : List Row) (s : Status)
-    → (length file ≤ tree_limit) → read_table p file ≡ Ok rows
-    → FileCause tree_limit BadTree (HasTableFault p) file s → ⊥
-not_bad_table p file rows s short read (inl h) = let b = h.1 in absurd (omega (arith, short, b))
-not_bad_table p file rows s short read (inr h) =
-    let e : ◌≡◌ {A = Result (List Row) trees.Fault} (Ok rows) (Err (h.2.0, h.2.1)) =
-    sym read ∙ h.2.2 in cc
-
-module _ (p : Problem) (name file : List ℕ) where
-  table_cause : (s : Status) (lines : List (List ℕ)) → Caused s → TableSays name p file s lines
-      → FileCause tree_limit BadTree (HasTableFault p) file s
-  table_cause Done lines c h = absurd c
-  table_cause BadTree lines c h = inr (refl, h.0, (h.1.0, h.1.1, h.1.2))
-  table_cause TooLong lines c h = inl (refl, h.0)
-  table_cause s lines c h = absurd h
-
-  table_always : (status s : Status) (lines : List (List ℕ))
-      → FileCause tree_limit BadTree (HasTableFault p) file status
-      → TableSays name p file s lines → s ≡ status
-  table_always status Done lines why h =
-      absurd (not_bad_table p file h.1.0 status h.0 h.1.1 why)
-  table_always status BadTree lines why h =
-      one_cause tree_limit BadTree (HasTableFault p) file BadTree status
-      (table_cause BadTree lines tt h) why
-  table_always status TooLong lines why h =
-      one_cause tree_limit BadTree (HasTableFault p) file TooLong status
-      (table_cause TooLong lines tt h) why
-  table_always status s lines why h = absurd h
-
-  any_cause : (kind : Bool) (s : Status) (lines : List (List ℕ)) → Caused s
-      → by_kind kind (TableSays name p file s lines)
-      (EitherSays JsonWork RankJsonWork name p file s lines)
-      → FileCause tree_limit BadTree
-      (λ bytes. by_kind kind (HasTableFault p bytes) (HasEitherFault p bytes)) file s
-  any_cause true s lines c h = table_cause s lines c h
-  any_cause false s lines c h =
-      kind_cause JsonWork RankJsonWork p
-      (λ claim its s lines c h. unclaimed_plain p s lines c (json_status p claim its s lines h))
-      (λ t s lines c h. unclaimed_plain p s lines c (rank_json_status p t s lines h))
-      (is_ranking file) name file s lines c h
-
-  any_kind_always : (kind : Bool) (status s : Status) (lines : List (List ℕ))
-      → FileCause tree_limit BadTree
-      (λ bytes. by_kind kind (HasTableFault p bytes) (HasEitherFault p bytes)) file status
-      → by_kind kind (TableSays name p file s lines)
-      (EitherSays JsonWork RankJsonWork name p file s lines)
-      → s ≡ status
-  any_kind_always true status s lines why h = table_always status s lines why h
-  any_kind_always false status s lines why h =
-      kind_always JsonWork RankJsonWork p (is_ranking file) name file status s lines why h
-
-any_only : (held : List ℕ → Told) (name : List ℕ) (p : Problem)
-    → Only (OnAny held name p) (InAny held name p)
-any_only held name p s lines c (file, is, said) =
-    (file, is, any_cause p name file (is_table file) s lines c said)
-
-any_always : (held : List ℕ → Told) (name : List ℕ) (p : Problem) → IsSome (held name)
-    → Always (OnAny held name p) (InAny held name p)
-any_always held name p told status s lines (file, is, why) (other, there, said) =
-    let same : other ≡ file = same_file (held name) file other told is there in
-    any_kind_always p name file (is_table file) status s lines why
-    (subst (λ (b : List ℕ). AnySays name p b s lines) same said)
-
 -- ---- all commands
 
 module _ (held : List ℕ → Told) where
@@ -877,15 +816,16 @@ module _ (held : List ℕ → Told) where
       file_only held file (OnScript UndoWork held script) (InScript held script)
       (script_only UndoWork (λ p es s lines h. h.0) held script)
   command_only (Checking file tree) =
-      file_only held file (OnHeaded CheckWork held tree) (InHeaded held tree)
-      (headed_only held tree)
+      file_only held file (OnHeaded CheckWork held tree) (InHeaded NoCause held tree)
+      (λ p. headed_only CheckWork NoCause held tree p (check_plain p))
   command_only (RankChecking file rank) =
       file_only held file (OnRank held rank) (InRank held rank) (rank_only held rank)
   command_only (Table file tree) =
-      file_only held file (OnTree (OnNetwork TableWork) held tree) (InTree NoCause held tree)
-      (λ p. tree_only (OnNetwork TableWork) NoCause held tree p
-      (λ claim its s lines c h. unclaimed_plain p s lines c
-      (network_status TableWork table_status p claim its s lines h)))
+      file_only held file (OnHeaded (AnyHead (OnNetwork TableWork)) held tree)
+      (InHeaded NoCause held tree)
+      (λ p. headed_only (AnyHead (OnNetwork TableWork)) NoCause held tree p
+      (λ t s lines c h. unclaimed_plain p s lines c
+      (network_status TableWork table_status p t.claim t.tree s lines h)))
   command_only (Splitting file tree) =
       file_only held file (OnTree SplitWork held tree) (InTree NoCause held tree)
       (λ p. tree_only SplitWork NoCause held tree p
@@ -896,33 +836,32 @@ module _ (held : List ℕ → Told) where
       (plan_only ExpandWork (λ p its s lines c h. subst Caused h.0 c) held plan)
   command_only (Drawing file) = file_only held file PlantGraphWork NoCause drawing_plain
   command_only (DrawingNetwork file tree) =
-      file_only held file (OnEither (OnNetwork NetworkGraphWork) RankGraphWork held tree)
-      (InEither held tree)
-      (λ p. either_only (OnNetwork NetworkGraphWork) RankGraphWork p
-      (λ claim its s lines c h. unclaimed_plain p s lines c
-      (network_status NetworkGraphWork graph_status p claim its s lines h))
-      (λ t s lines c h. unclaimed_plain p s lines c (rank_graph_status p t s lines h)) held tree)
-  command_only (Reporting file tree) = λ s lines c h.
-      file_only held file (OfSome (ReportsOn held tree)) (InEither held tree)
-      (λ p s lines c said. let ms = measures_of said.0 in
-      either_only (ReportWork ms) (RankReportWork ms) p
-      (λ claim its s lines c h. unclaimed_plain p s lines c
-      (report_status ms p claim its s lines h))
-      (λ t s lines c h. unclaimed_plain p s lines c (rank_report_status ms p t s lines h))
-      held tree s lines c said.1) s lines c (on_file (ReportsOn held tree) held file s lines h)
-  command_only (Json file tree) =
-      file_only held file (OnAny held tree) (InAny held tree) (any_only held tree)
-  command_only (Ranging file tree kind name budget) =
-      file_only held file (OnTree (StableWork kind name budget) held tree)
-      (InTree (NameCause kind name) held tree)
-      (λ p. tree_only (StableWork kind name budget) (NameCause kind name) held tree p
-      (name_only kind name budget p))
-  command_only (RangingAll file tree budget) =
-      file_only held file (OnTree (OnNetwork (RangesWork budget)) held tree)
+      file_only held file (OnTree (OnNetwork NetworkGraphWork) held tree)
       (InTree NoCause held tree)
-      (λ p. tree_only (OnNetwork (RangesWork budget)) NoCause held tree p
-      (λ claim its s lines c h. ranges_plain p s lines c
-      (table_of_ranges_status budget p claim its s lines h)))
+      (λ p. tree_only (OnNetwork NetworkGraphWork) NoCause held tree p
+      (λ claim its s lines c h. unclaimed_plain p s lines c
+      (network_status NetworkGraphWork graph_status p claim its s lines h)))
+  command_only (Reporting file tree) =
+      file_only held file (OnEither ReportWork RankReportWork held tree) (InEither held tree)
+      (λ p. either_only ReportWork RankReportWork p
+      (λ t s lines c h. unclaimed_plain p s lines c (report_status p t s lines h))
+      (λ t s lines c h. unclaimed_plain p s lines c (rank_report_status p t s lines h)) held tree)
+  command_only (Json file tree) =
+      file_only held file (OnEither JsonWork RankJsonWork held tree) (InEither held tree)
+      (λ p. either_only JsonWork RankJsonWork p
+      (λ t s lines c h. unclaimed_plain p s lines c (json_status p t s lines h))
+      (λ t s lines c h. unclaimed_plain p s lines c (rank_json_status p t s lines h)) held tree)
+  command_only (Ranging file tree kind name budget) =
+      file_only held file (OnHeaded (AnyHead (StableWork kind name budget)) held tree)
+      (InHeaded (NameCause kind name) held tree)
+      (λ p. headed_only (AnyHead (StableWork kind name budget)) (NameCause kind name) held tree p
+      (λ t. name_only kind name budget p t.claim t.tree))
+  command_only (RangingAll file tree budget) =
+      file_only held file (OnHeaded (AnyHead (OnNetwork (RangesWork budget))) held tree)
+      (InHeaded NoCause held tree)
+      (λ p. headed_only (AnyHead (OnNetwork (RangesWork budget))) NoCause held tree p
+      (λ t s lines c h. ranges_plain p s lines c
+      (table_of_ranges_status budget p t.claim t.tree s lines h)))
   command_only (Planning file plan budget) =
       file_only held file (OnPlan (PeriodsWork budget) held plan) (InPlan held plan)
       (plan_only (PeriodsWork budget)
@@ -948,11 +887,9 @@ module _ (held : List ℕ → Told) where
   command_only (Solving file budget) =
       file_only held file (SolveWork budget) NoCause
       (λ p s lines c h. stops_plain p s lines c (solve_status budget p s lines h))
-  command_only (Showing file budget) = λ s lines c h.
-      file_only held file (OfSome (ShowWork budget)) NoCause
-      (λ p s lines c said. stops_plain p s lines c
-      (show_status budget said.0 p s lines said.1)) s lines c
-      (on_file (ShowWork budget) held file s lines h)
+  command_only (Showing file budget) =
+      file_only held file (ShowWork budget) NoCause
+      (λ p s lines c h. stops_plain p s lines c (show_status budget p s lines h))
   command_only (Ranking file count budget) =
       file_only held file (RankWork count budget) NoCause
       (λ p s lines c h. stops_plain p s lines c (rank_status count budget p s lines h))
@@ -980,6 +917,16 @@ module _ (held : List ℕ → Told) where
       (λ p valid. tree_always work NoCause held tree p
       (λ claim nodes status s lines none h. absurd none) its) told
 
+  beside_headed : (file tree : List ℕ)
+      (work : Problem → trees.HeadedCertificate → Status → List (List ℕ) → Type 0)
+      → IsSome (held file) → IsSome (held tree)
+      → Always (OnFile (OnHeaded work held tree) held file)
+      (InFile (InHeaded NoCause held tree) held file)
+  beside_headed file tree work told its =
+      file_always held file (OnHeaded work held tree) (InHeaded NoCause held tree)
+      (λ p valid. headed_always work NoCause held tree p
+      (λ t status s lines none h. absurd none) its) told
+
   pub command_always : PartsAreReadOnce → (command : Command) → AreTold held command
       → Always (CommandAnswers held command) (CauseOf held command)
   command_always once (Max file) told = alone file MaxWork (told file refl)
@@ -1004,13 +951,13 @@ module _ (held : List ℕ → Told) where
       (λ p valid. script_always UndoWork (λ p es s lines h. h.0) held script p
       (told script (inr refl))) (told file (inl refl))
   command_always once (Checking file tree) told =
-      file_always held file (OnHeaded CheckWork held tree) (InHeaded held tree)
-      (λ p valid. headed_always held tree p (told tree (inr refl))) (told file (inl refl))
+      beside_headed file tree CheckWork (told file (inl refl)) (told tree (inr refl))
   command_always once (RankChecking file rank) told =
       file_always held file (OnRank held rank) (InRank held rank)
       (λ p valid. rank_always held rank p (told rank (inr refl))) (told file (inl refl))
   command_always once (Table file tree) told =
-      beside_tree file tree (OnNetwork TableWork) (told file (inl refl)) (told tree (inr refl))
+      beside_headed file tree (AnyHead (OnNetwork TableWork)) (told file (inl refl))
+      (told tree (inr refl))
   command_always once (Splitting file tree) told =
       beside_tree file tree SplitWork (told file (inl refl)) (told tree (inr refl))
   command_always once (Expanding file plan) told =
@@ -1019,27 +966,24 @@ module _ (held : List ℕ → Told) where
       (told plan (inr refl))) (told file (inl refl))
   command_always once (Drawing file) told = alone file PlantGraphWork (told file refl)
   command_always once (DrawingNetwork file tree) told =
-      file_always held file (OnEither (OnNetwork NetworkGraphWork) RankGraphWork held tree)
-      (InEither held tree)
-      (λ p valid. either_always (OnNetwork NetworkGraphWork) RankGraphWork p held tree
-      (told tree (inr refl))) (told file (inl refl))
-  command_always once (Reporting file tree) told = λ status s lines why h.
-      file_always held file (OfSome (ReportsOn held tree)) (InEither held tree)
-      (λ p valid status s lines why said. let ms = measures_of said.0 in
-      either_always (ReportWork ms) (RankReportWork ms) p held tree (told tree (inr refl)) status s
-      lines why said.1)
-      (told file (inl refl)) status s lines why (on_file (ReportsOn held tree) held file s lines h)
+      beside_tree file tree (OnNetwork NetworkGraphWork) (told file (inl refl))
+      (told tree (inr refl))
+  command_always once (Reporting file tree) told =
+      file_always held file (OnEither ReportWork RankReportWork held tree) (InEither held tree)
+      (λ p valid. either_always ReportWork RankReportWork p held tree (told tree (inr refl)))
+      (told file (inl refl))
   command_always once (Json file tree) told =
-      file_always held file (OnAny held tree) (InAny held tree)
-      (λ p valid. any_always held tree p (told tree (inr refl)))
+      file_always held file (OnEither JsonWork RankJsonWork held tree) (InEither held tree)
+      (λ p valid. either_always JsonWork RankJsonWork p held tree (told tree (inr refl)))
       (told file (inl refl))
   command_always once (Ranging file tree kind name budget) told =
-      file_always held file (OnTree (StableWork kind name budget) held tree)
-      (InTree (NameCause kind name) held tree)
-      (λ p valid. tree_always (StableWork kind name budget) (NameCause kind name) held tree p
-      (name_always kind name budget p) (told tree (inr refl))) (told file (inl refl))
+      file_always held file (OnHeaded (AnyHead (StableWork kind name budget)) held tree)
+      (InHeaded (NameCause kind name) held tree)
+      (λ p valid. headed_always (AnyHead (StableWork kind name budget)) (NameCause kind name) held
+      tree p (λ t. name_always kind name budget p t.claim t.tree) (told tree (inr refl)))
+      (told file (inl refl))
   command_always once (RangingAll file tree budget) told =
-      beside_tree file tree (OnNetwork (RangesWork budget)) (told file (inl refl))
+      beside_headed file tree (AnyHead (OnNetwork (RangesWork budget))) (told file (inl refl))
       (told tree (inr refl))
   command_always once (Planning file plan budget) told =
       file_always held file (OnPlan (PeriodsWork budget) held plan) (InPlan held plan)
@@ -1065,9 +1009,7 @@ module _ (held : List ℕ → Told) where
       (λ claim its. merge_always held p parts claim its once valid
       (λ name h. told name (inr (inr h)))) (told tree (inr (inl refl)))) (told file (inl refl))
   command_always once (Solving file budget) told = alone file (SolveWork budget) (told file refl)
-  command_always once (Showing file budget) told = λ status s lines why h.
-      alone file (OfSome (ShowWork budget)) (told file refl) status s lines why
-      (on_file (ShowWork budget) held file s lines h)
+  command_always once (Showing file budget) told = alone file (ShowWork budget) (told file refl)
   command_always once (Ranking file count budget) told =
       alone file (RankWork count budget) (told file refl)
   command_always once (Alternatives file count budget) told =

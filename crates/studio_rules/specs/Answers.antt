@@ -13,7 +13,7 @@ use Rattle.studio_rules.specs.Command.{Merging, Alternatives, RangingAll}
 use Rattle.problem_rules.specs.Generated.{generated}
 use Rattle.problem_rules.specs.Problem.{Problem}
 use Rattle.tree_rules.specs.Claim.{Network, network}
-use Rattle.tree_rules.specs.Accepted.{Tree}
+use Rattle.tree_text_rules.specs.Read.{HeadedCertificate}
 use Rattle.plan_rules.specs.Plan.{Plan}
 use Rattle.plan_rules.specs.Expanded.{expanded}
 use Rattle.stability_rules.specs.declared.spot.Spot.{Spot}
@@ -30,18 +30,19 @@ use Rattle.studio_rules.specs.Plan.{OnPlan, GivesPlan}
 use Rattle.studio_rules.specs.Expand.{ExpandWork}
 use Rattle.studio_rules.specs.Migrate.{MigrateWork}
 use Rattle.studio_rules.specs.Edits.{EditWork, UndoWork}
-use Rattle.studio_rules.specs.TreeFile.{OnTree, GivesTree, tree_limit}
-use Rattle.studio_rules.specs.HeadedFile.{OnHeaded}
+use Rattle.studio_rules.specs.TreeFile.{OnTree, tree_limit}
+use Rattle.studio_rules.specs.HeadedFile.{OnHeaded, GivesHeaded, AnyHead}
 use Rattle.studio_rules.specs.Check.{CheckWork}
 use Rattle.studio_rules.specs.Rankcheck.{OnRank}
 use Rattle.studio_rules.specs.Rank.{RankWork}
 use Rattle.studio_rules.specs.Alternates.{AlternatesWork}
 use Rattle.studio_rules.specs.Network.{OnNetwork}
 use Rattle.studio_rules.specs.Table.{TableWork}
+use Rattle.studio_rules.specs.Report.{ReportWork}
+use Rattle.studio_rules.specs.Json.{JsonWork}
 use Rattle.studio_rules.specs.TextFile.{OnEither}
-use Rattle.studio_rules.specs.RankReport.{ReportsOn}
-use Rattle.studio_rules.specs.RankGraph.{RankGraphWork}
-use Rattle.studio_rules.specs.RangesJson.{OnAny}
+use Rattle.studio_rules.specs.RankReport.{RankReportWork}
+use Rattle.studio_rules.specs.RankJson.{RankJsonWork}
 use Rattle.studio_rules.specs.Graph.{PlantGraphWork, NetworkGraphWork}
 use Rattle.studio_rules.specs.Split.{SplitWork}
 use Rattle.studio_rules.specs.Merge.{MergeWork}
@@ -65,9 +66,9 @@ use Rattle.studio_rules.specs.declared.status.Status.TheVariants.{UnknownName, B
 -- Other commands have none here.
 abbrev pub SearchAnswers : (List ℕ → Told) → Command → Status → List (List ℕ) → Type 0
 SearchAnswers held (Ranging file tree kind name budget) status lines =
-    OnFile (OnTree (StableWork kind name budget) held tree) held file status lines
+    OnFile (OnHeaded (AnyHead (StableWork kind name budget)) held tree) held file status lines
 SearchAnswers held (RangingAll file tree budget) status lines =
-    OnFile (OnTree (OnNetwork (RangesWork budget)) held tree) held file status lines
+    OnFile (OnHeaded (AnyHead (OnNetwork (RangesWork budget))) held tree) held file status lines
 SearchAnswers held (Planning file plan budget) status lines =
     OnFile (OnPlan (PeriodsWork budget) held plan) held file status lines
 SearchAnswers held (Parting file inside outside budget) status lines =
@@ -77,7 +78,7 @@ SearchAnswers held (PartingAgainst file inside outside budget tree) status lines
 SearchAnswers held (Solving file budget) status lines =
     OnFile (SolveWork budget) held file status lines
 SearchAnswers held (Showing file budget) status lines =
-    OnText (ShowWork budget) held file status lines
+    OnFile (ShowWork budget) held file status lines
 SearchAnswers held (Ranking file count budget) status lines =
     OnFile (RankWork count budget) held file status lines
 SearchAnswers held (Alternatives file count budget) status lines =
@@ -108,18 +109,18 @@ CommandAnswers held (Checking file tree) status lines =
 CommandAnswers held (RankChecking file rank) status lines =
     OnFile (OnRank held rank) held file status lines
 CommandAnswers held (Table file tree) status lines =
-    OnFile (OnTree (OnNetwork TableWork) held tree) held file status lines
+    OnFile (OnHeaded (AnyHead (OnNetwork TableWork)) held tree) held file status lines
 CommandAnswers held (Splitting file tree) status lines =
     OnFile (OnTree SplitWork held tree) held file status lines
 CommandAnswers held (Expanding file plan) status lines =
     OnFile (OnPlan ExpandWork held plan) held file status lines
 CommandAnswers held (Drawing file) status lines = OnFile PlantGraphWork held file status lines
 CommandAnswers held (DrawingNetwork file tree) status lines =
-    OnFile (OnEither (OnNetwork NetworkGraphWork) RankGraphWork held tree) held file status lines
+    OnFile (OnTree (OnNetwork NetworkGraphWork) held tree) held file status lines
 CommandAnswers held (Reporting file tree) status lines =
-    OnText (ReportsOn held tree) held file status lines
+    OnFile (OnEither ReportWork RankReportWork held tree) held file status lines
 CommandAnswers held (Json file tree) status lines =
-    OnFile (OnAny held tree) held file status lines
+    OnFile (OnEither JsonWork RankJsonWork held tree) held file status lines
 CommandAnswers held (Merging file tree parts) status lines =
     OnFile (OnTree (MergeWork held parts) held tree) held file status lines
 CommandAnswers held (Telling text) status lines = (status ≡ Done) × (text ≡ text_of lines)
@@ -259,8 +260,9 @@ PlanCanFinish budget held name p =
 -- nothing stops the range of the named spot, whatever network the file claims
 abbrev pub RangeCanFinish : SpotKind → List ℕ → ℕ → (List ℕ → Told) → List ℕ → Problem → Type 0
 RangeCanFinish kind word budget held name p =
-    (file : List ℕ) (w : Network) (tree : Tree) (spot : Spot) → AreHeld (held name) file
-    → GivesTree p file (network w) tree → spot_named p kind word ≡ Some spot
+    (file : List ℕ) (text : HeadedCertificate) (w : Network) (spot : Spot)
+    → AreHeld (held name) file → GivesHeaded p file text → text.claim ≡ network w
+    → spot_named p kind word ≡ Some spot
     → CanRange budget p spot w
 
 -- Nothing stops the search of the command before its end, whatever its files give. For `flows` the

@@ -38,7 +38,7 @@ check_page =
     codes "Ends with" ∷
     codes "  0   The whole text was printed." ∷
     codes "  1   refused claim WHY, refused head K WHY, or refused node N WHY: the tree" ∷
-    codes "      does not prove its claim on this plant. K counts lines of its head from" ∷
+    codes "      does not prove its claim on this plant. K counts the lines of its head from" ∷
     codes "      0. A tree with status 4 or 5 has open leaves and is refused (unknown or" ∷
     codes "      open): solve with a greater budget." ∷
     codes "  10  tree line L KIND: line L of TREE has a fault; pns help KIND explains it." ∷

@@ -38,8 +38,6 @@ pub mod PlanPages
 pub mod Printed
 pub mod ProgramPages
 pub mod Rank
-pub mod RangesJson
-pub mod RankGraph
 pub mod RankJson
 pub mod RankPages
 pub mod RankReport

@@ -139,13 +139,6 @@ TwoFilesSay work file second old new =
     Says (OnFile (work old.held second) old.held file) (λ other. (other ≡ file) ⊎ (other ≡ second))
     old new
 
--- the same of one whose work also goes by the bytes of the first
-abbrev pub TwoTextsSay : ((List ℕ → Told) → List ℕ → List ℕ → Problem → Status → List (List ℕ)
-    → Type 0) → List ℕ → List ℕ → ShelfState → ShelfState → Status → List ℕ → Type 0
-TwoTextsSay work file second old new =
-    Says (OnText (work old.held second) old.held file) (λ other. (other ≡ file) ⊎ (other ≡ second))
-    old new
-
 -- The status and lines of a command on a problem and a second file, of whose bytes `judged` speaks.
 abbrev pub OnSecond : (Problem → List ℕ → Status → List (List ℕ) → Type 0) → (List ℕ → Told)
     → List ℕ → Problem → Status → List (List ℕ) → Type 0

@@ -77,21 +77,16 @@ json_page =
     codes "pns json FILE TREE" ∷
     codes "Says what pns report says, as one JSON object for programs." ∷
     codes "  FILE  the plant, PNS_problem_v1" ∷
-    codes "  TREE  a tree text, as solve prints it, a rank text, as rank prints it, or a" ∷
-    codes "        table of pns stable FILE TREE" ∷
+    codes "  TREE  a tree text, as solve prints it, or a rank text, as rank prints it" ∷
     codes "Prints the keys verdict (proved, not finished or not proved, then with the node" ∷
-    codes "that fails and why) and claim; low and gap, the lower bound and the gap of pns" ∷
-    codes "report, a fraction here, or null; if the claim has a network, also counts," ∷
-    codes "payout_period, units, materials, money, paid_once and left_out. Each number is" ∷
-    codes "there twice: value has 17 digits, exact is a fraction; both are null if it" ∷
-    codes "overflows 128 bits. A line has one unit or one material." ∷
+    codes "that fails and why) and claim; of a tree low and gap, the lower bound and the" ∷
+    codes "gap of pns report, a fraction here, or null; if the claim has a network, also" ∷
+    codes "counts, payout_period, units, materials, money, paid_once and left_out. Each" ∷
+    codes "number is there twice: value has 17 digits, exact is a fraction; both are null" ∷
+    codes "if it overflows 128 bits. A line has one unit or one material." ∷
     codes "Of a rank text claim is ranking or alternatives, asked says how many were" ∷
     codes "wanted, and networks has place, cost, above, share_above, taken_in, left_out," ∷
     codes "idle of each. The keys from counts on are those of the best one." ∷
-    codes "Of a table claim is ranges, and ranges has kind, name, from, now and to of each" ∷
-    codes "row, from_limit, to_limit (true if that end is limit) and finished (false if an" ∷
-    codes "end is ?). An end that is no number is null. Nothing of a table is judged: run" ∷
-    codes "pns stable again for the proof." ∷
     codes "Ends with" ∷
     codes "  0   The whole text was printed. The verdict says what is proved." ∷
     codes "  1   refused claim WHY, refused network K WHY: as of pns report" ∷
@@ -109,7 +104,7 @@ graph_page =
     codes "Prints the maximal structure as a graph for Graphviz, with TREE also the network" ∷
     codes "of its claim. The program itself draws nothing." ∷
     codes "  FILE  the plant, PNS_problem_v1" ∷
-    codes "  TREE  a tree text, as solve prints it, or a rank text, as rank prints it" ∷
+    codes "  TREE  a tree text, as solve prints it" ∷
     codes "Prints DOT text. Raw materials are houses, products have a double line, units" ∷
     codes "are boxes. Arcs show rates that are not 1. With TREE they show flows, and are" ∷
     codes "wider for more flow; a unit shows its size and its costs, a material what is" ∷
@@ -118,13 +113,10 @@ graph_page =
     codes "material with more than four users is drawn at each of them, and so is another" ∷
     codes "with more than four users in the network. A pointer on a part shows its numbers" ∷
     codes "in FILE. Numbers with more than six digits show six, but always their whole" ∷
-    codes "part. Of a ranking the best network is drawn, and a table above it has all: what" ∷
-    codes "each costs, what that is above the best one, and the units that it takes in (+)" ∷
-    codes "and leaves out (-) against it." ∷
+    codes "part." ∷
     codes "Ends with" ∷
     codes "  0   The whole text was printed." ∷
-    codes "  1   refused claim WHY, refused network K WHY, with TREE only: as in pns help" ∷
-    codes "      report. A ranking without a network is refused as unknown." ∷
+    codes "  1   refused claim WHY, with TREE only: as in pns help report." ∷
     codes "  10  tree line L KIND: line L of TREE has a fault; pns help KIND explains it." ∷
     codes "      Print the text again. With TREE only." ∷
     codes "  2, 3, 6, 7, 8, 12, 20: see pns help status" ∷

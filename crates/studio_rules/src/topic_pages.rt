@@ -73,9 +73,6 @@ A tree, a ranking or a part has a line too many here, or ends too early: it was
 shortened or changed.
   Fault  a text without its last line
   Cure   print it again
-A table of ranges has five words on each line, up to an empty one.
-  Fault  price A 0 2
-  Cure   price A 0 2 limit
 ",
     ),
     (

@@ -16,8 +16,7 @@ pub fn copied_network(alloc: Global, network: &Network) -> Result<Network, Alloc
     Ok(Network::of(network.units(), sizes, network.d(), network.cost()))
 }
 
-/// A copy of an end.
-pub fn copied_end(alloc: Global, end: &End) -> Result<End, AllocError>
+fn copied_end(alloc: Global, end: &End) -> Result<End, AllocError>
     ensures { IfOk result (λ e. end_of e ≡ end_of end.now) }
 {
     match end {
@@ -43,8 +42,7 @@ fn copied_refutation(alloc: Global, ys: &Multipliers) -> Result<End, AllocError>
     Ok(End::Refuted(Multipliers::from_vec(numbers)))
 }
 
-/// A copy of the multipliers of a bound.
-pub fn copied_scaled(alloc: Global, scaled: &Scaled) -> Result<Scaled, AllocError>
+fn copied_scaled(alloc: Global, scaled: &Scaled) -> Result<Scaled, AllocError>
     ensures { IfOk result (λ s. s ≡ scaled.now) }
 {
     let numbers = scaled.numbers().to_vec(alloc)?;

@@ -21,7 +21,6 @@ mod splicing;
 mod waiting;
 
 pub use cert_check::OpenLeaf;
-pub use copies::{copied_end, copied_network, copied_scaled};
 pub use merging::merge;
 pub use open::{check_part, open_leaves};
 pub use part::Part;

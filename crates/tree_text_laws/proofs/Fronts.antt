@@ -279,7 +279,7 @@ module _ (p : Problem) (formed : IsWellFormed p) where
     | None ↦ Ok (record { what = []; number = number; behind = line ∷ lines })
   ]
 
-  -- and if a set may come too
+  -- and where a set may come too
   abbrev set_on : HeadLine → ℕ → Line → List Line → Option (Result Cover TreeKind)
       → Result (Taken Front) Fault
   set_on l number line lines o = elim o [

@@ -1,2 +1,1 @@
-pub mod LowLemmas
 pub mod LowerLemmas

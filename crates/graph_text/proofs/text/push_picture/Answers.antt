@@ -8,9 +8,7 @@ use Rattle.pns_rules.specs.Shape.{Shape, shape_of}
 use Rattle.pns_rules.specs.Structure.{mats}
 use Rattle.flow_rules.specs.Net.{net_of, materials_of}
 use Rattle.pns_tables.proofs.FlowLemmas.{materials_are, mats_known}
-use Rattle.problem_rules.specs.Problem.{Problem}
-use Rattle.report_rules.specs.Graph.{head_lines, total_lines, list_lines, material_line, unit_lines}
-use Rattle.report_rules.specs.Graph.{last_lines}
+use Rattle.report_rules.specs.Graph.{head_lines, total_lines, material_line, unit_lines, last_lines}
 use Rattle.graph_text.specs.Kept.{picture_of}
 use Rattle.graph_text.proofs.Lines.{parts_printed}
 use Rattle.graph_text.proofs.text.push_picture.Goals as goal
@@ -44,18 +42,15 @@ returns c =
           below_from (length p.units) set c.units-units.ensures.known;
     }))
     ∙ ap (λ (us : List ℕ). listed (length p.units) (has us)) c.units-units.ensures.same in
-    parts_printed head_lines (total_lines p d.network) (list_lines p c.args.networks.now)
+    parts_printed head_lines (total_lines p d.network)
     (map (material_line (picture_of d)) (materials_of (net_of p) (has d.units)))
     (flat_map (unit_lines (picture_of d)) (listed (length p.units) (has d.units))) last_lines
     (string_bytes c.args.text.now) (string_bytes c.push_head.new.text)
-    (string_bytes c.push_total.new.text) (string_bytes c.push_list.new.text)
-    (string_bytes c.push_materials.new.text) (string_bytes c.push_units.new.text)
-    (string_bytes c.push_str.new.self) c.in_ok-push_head.ensures c.in_ok-push_total.ensures
-    (c.in_ok-push_list.ensures
-    ∙ ap (λ (q : Problem). string_bytes c.push_total.new.text
-    ++ printed (list_lines q c.args.networks.now)) c.problem.ensures.same)
+    (string_bytes c.push_total.new.text) (string_bytes c.push_materials.new.text)
+    (string_bytes c.push_units.new.text) (string_bytes c.push_str.new.self)
+    c.in_ok-push_head.ensures c.in_ok-push_total.ensures
     (c.in_ok-push_materials.ensures
-    ∙ ap (λ (js : List ℕ). string_bytes c.push_list.new.text
+    ∙ ap (λ (js : List ℕ). string_bytes c.push_total.new.text
     ++ printed (map (material_line (picture_of d)) js)) materials)
     (c.in_ok-push_units.ensures
     ∙ ap (λ (us : List ℕ). string_bytes c.push_materials.new.text

@@ -15,8 +15,8 @@ graph_of-requires-clause-known c u h =
 pub returns-in-Some : goal.returns-in-Some
 returns-in-Some c =
     let p = c.args.site.now in
-    graph_told (λ v. v.items) p (option_map (λ n. n.now) c.args.network) c.args.networks.now
-    (has c.in-Some.units) c.graph_of.result
+    graph_told (λ v. v.items) p (option_map (λ n. n.now) c.args.network) (has c.in-Some.units)
+    c.graph_of.result
     (maximal_from (shape c.graph.result.now) (shape_of p) c.empty.result c.in-Some.units
     c.graph.ensures.same c.empty.ensures c.in-Some.ensures.union c.in-Some.ensures.structure)
     c.graph_of.ensures
@@ -24,8 +24,7 @@ returns-in-Some c =
 pub returns-in-None : goal.returns-in-None
 returns-in-None c =
     let p = c.args.site.now in
-    empty_told (λ v. v.items) p (option_map (λ n. n.now) c.args.network) c.args.networks.now
-    c.empty_graph.result
+    empty_told (λ v. v.items) p (option_map (λ n. n.now) c.args.network) c.empty_graph.result
     (none_from (shape c.graph.result.now) (shape_of p) c.empty.result c.graph.ensures.same
     c.empty.ensures c.in-None.ensures.none)
     c.empty_graph.ensures

@@ -18,7 +18,7 @@ pub returns-in-Ok-drawn : goal.returns-in-Ok-drawn
 returns-in-Ok-drawn g c =
     let Q : Status → List ℕ → Type 0 = Tells (PlantGraphWork c.args.problem.now) in
     let told =
-    subst (λ (p : Problem). (lines : List (List ℕ)) × AreGraphLines p None [] lines
+    subst (λ (p : Problem). (lines : List (List ℕ)) × AreGraphLines p None lines
     × (c.in-Ok-drawn.bytes.items ≡ text_of lines)) c.of-site.ensures c.in-Ok-drawn.ensures in
     Ends-map _ Q c.args.out.now _ _
     (only_in Q Done c.deref.result.now (told.0, told.1, c.deref.ensures.value ∙ told.2))

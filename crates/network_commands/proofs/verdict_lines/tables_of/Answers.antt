@@ -10,28 +10,25 @@ use Rattle.network_commands.proofs.verdict_lines.tables_of.Goals as goal
 
 pub returns-in-Network : goal.returns-in-Network
 returns-in-Network c =
-    let p = c.args.plant.now.site.now in
-    let ms = c.args.plant.now.measures.now in
+    let p = c.args.site.now in
     subst
     (λ (k : Claim). IfOk c.network_text.result (λ bytes. (m : Marginals) × AreClaimMarginals p k m
-    × (bytes.items ≡ text_of (tables_of ms p m k c.args.tree.now c.args.verdict))))
+    × (bytes.items ≡ text_of (tables_of p m k c.args.tree.now c.args.verdict))))
     (sym (ap claim_of c.in-Network.is)) c.network_text.ensures
 
 pub returns-in-Infeasible : goal.returns-in-Infeasible
 returns-in-Infeasible c =
-    let p = c.args.plant.now.site.now in
-    let ms = c.args.plant.now.measures.now in
+    let p = c.args.site.now in
     subst
     (λ (k : Claim). IfOk c.clash_text.result (λ bytes. (m : Marginals) × AreClaimMarginals p k m
-    × (bytes.items ≡ text_of (tables_of ms p m k c.args.tree.now c.args.verdict))))
+    × (bytes.items ≡ text_of (tables_of p m k c.args.tree.now c.args.verdict))))
     (sym (ap claim_of c.in-Infeasible.is))
     (IfOk-weaker c.clash_text.result _ _ (λ bytes is. (None, tt, is)) c.clash_text.ensures)
 
 pub returns-in-Unknown : goal.returns-in-Unknown
 returns-in-Unknown c =
-    let p = c.args.plant.now.site.now in
-    let ms = c.args.plant.now.measures.now in
+    let p = c.args.site.now in
     subst
     (λ (k : Claim). (m : Marginals) × AreClaimMarginals p k m
-    × (c.new.result.items ≡ text_of (tables_of ms p m k c.args.tree.now c.args.verdict)))
+    × (c.new.result.items ≡ text_of (tables_of p m k c.args.tree.now c.args.verdict)))
     (sym (ap claim_of c.in-Unknown.is)) (None, tt, c.new.ensures.items)

@@ -7,8 +7,7 @@ use Rattle.network_commands.proofs.verdict_lines.verdict_text.Goals as goal
 
 pub returns : goal.returns
 returns c =
-    let p = c.args.plant.now.site.now in
-    let ms = c.args.plant.now.measures.now in
+    let p = c.args.site.now in
     let claim = claim_of c.args.claim.now in
     let told = c.in_ok-tables.ensures in
     let first : c.in_ok-bytes.bytes.items ≡ first_line p claim c.args.verdict ++ 10 ∷ [] =
@@ -16,9 +15,9 @@ returns c =
     ∙ ap (λ (p : Problem). first_line p claim c.args.verdict ++ 10 ∷ [])
     c.problem.ensures.same in
     let tables : c.deref.result.now
-    ≡ text_of (tables_of ms p told.0 claim c.args.tree.now c.args.verdict) =
+    ≡ text_of (tables_of p told.0 claim c.args.tree.now c.args.verdict) =
     c.deref.ensures.value ∙ told.2 in (
-      verdict_lines ms p told.0 claim c.args.tree.now c.args.verdict,
+      verdict_lines p told.0 claim c.args.tree.now c.args.verdict,
       (told.0, told.1, refl),
       c.in_ok-extend_from_slice.ensures.items ∙ (λ i. first i ++ tables i),
     )

@@ -1,9 +1,10 @@
 use Rattle.std.proofs.Common.{◌≡◌, sym, subst, ℕ, List}
+use Rattle.studio_rules.specs.TextFile.{EitherSays, OnEither}
 use Rattle.studio_rules.specs.Ending.{Says, Tells}
 use Rattle.studio_rules.specs.declared.status.Status.{Status}
 use Rattle.endings.proofs.Ending.{Ends-map, Ends-from, Says-told}
 use Rattle.command_files.proofs.Seconds.{long-faults}
-use Rattle.report_commands.specs.Works.{FormSays, OnForm}
+use Rattle.report_commands.specs.Works.{TreeWork, RankWork}
 use Rattle.report_commands.proofs.Works.{of_long}
 use Rattle.report_commands.proofs.call.say_file.Goals as goal
 
@@ -15,8 +16,10 @@ returns-in-Ok-clause-ends g c =
     let name = c.args.wanted.now.name.now in
     let p = c.args.problem.now in
     let file = c.in-Ok.bytes.items in
-    let E : List ℕ → Status → List (List ℕ) → Type 0 = FormSays form name p in
-    let O : Status → List (List ℕ) → Type 0 = OnForm form old.held name p in
+    let E : List ℕ → Status → List (List ℕ) → Type 0 =
+    EitherSays (TreeWork form) (RankWork form) name p in
+    let O : Status → List (List ℕ) → Type 0 =
+    OnEither (TreeWork form) (RankWork form) old.held name p in
     let Q : Status → List ℕ → Type 0 = Says O (λ other. other ≡ name) old new in
     Ends-from (Tells (E c.deref.result.now)) Q c.args.out.now _ _ _ c.in-Ok.ensures.silent
     (Says-told (E c.deref.result.now) O (λ other. other ≡ name) old new
@@ -25,7 +28,7 @@ returns-in-Ok-clause-ends g c =
       c.in-Ok.ensures.whole,
       subst (λ (b : List ℕ). E b s lines) c.deref.ensures.value h,
     )))
-    (c.say_any.ensures name)
+    (c.say_either.ensures name)
 
 pub returns-in-Err-clause-ends : goal.returns-in-Err-clause-ends
 returns-in-Err-clause-ends g c =
@@ -35,8 +38,9 @@ returns-in-Err-clause-ends g c =
     let name = c.args.wanted.now.name.now in
     let p = c.args.problem.now in
     let Q : Status → List ℕ → Type 0 =
-    Says (OnForm form old.held name p) (λ other. other ≡ name) old new in
+    Says (OnEither (TreeWork form) (RankWork form) old.held name p) (λ other. other ≡ name) old
+    new in
     Ends-map _ Q c.args.out.now _ _
-    (long-faults (FormSays form name p) old new name 268435456
-    (λ file lines h. of_long name p file form lines h))
+    (long-faults (EitherSays (TreeWork form) (RankWork form) name p) old new name 268435456
+    (λ file lines h. of_long form name p file lines h))
     c.in-Err.ensures.told

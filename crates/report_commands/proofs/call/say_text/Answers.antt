@@ -1,11 +1,12 @@
 use Rattle.std.proofs.Common.{◌≡◌, ℕ, List}
 use Rattle.studio_rules.specs.Reading.{TwoFilesSay}
+use Rattle.studio_rules.specs.TextFile.{OnEither, EitherSays}
 use Rattle.studio_rules.specs.Ending.{Says}
 use Rattle.studio_rules.specs.declared.status.Status.{Status}
 use Rattle.endings.proofs.Ending.{Ends-map, Ends-from}
 use Rattle.command_files.proofs.Seconds.{on_both-faults, on_both-work}
 use Rattle.endings.proofs.Keeping.{keeps_through}
-use Rattle.report_commands.specs.Works.{FormSays, OnForm}
+use Rattle.report_commands.specs.Works.{TreeWork, RankWork}
 use Rattle.report_commands.proofs.call.say_text.Goals as goal
 
 pub returns-in-Ok-clause-ends : goal.returns-in-Ok-clause-ends
@@ -17,12 +18,12 @@ returns-in-Ok-clause-ends g c =
     let form = c.args.wanted.now.form in
     let name = c.args.wanted.now.name.now in
     let P : Status → List ℕ → Type 0 =
-    Says (OnForm form mid.held name c.in-Ok.problem)
+    Says (OnEither (TreeWork form) (RankWork form) mid.held name c.in-Ok.problem)
     (λ other. other ≡ name) mid new in
     let Q : Status → List ℕ → Type 0 =
-    TwoFilesSay (OnForm form) file name old new in
+    TwoFilesSay (OnEither (TreeWork form) (RankWork form)) file name old new in
     Ends-from P Q c.args.out.now _ _ _ c.in-Ok.ensures.silent
-    (on_both-work (FormSays form name) file name old mid new
+    (on_both-work (EitherSays (TreeWork form) (RankWork form) name) file name old mid new
     c.in-Ok.problem c.in-Ok.ensures.problem (c.problem_of.ensures.keeps.held name)
     c.problem_of.ensures.keeps.later) c.say_file.ensures.ends
 
@@ -34,9 +35,9 @@ returns-in-Err-clause-ends g c =
     let form = c.args.wanted.now.form in
     let name = c.args.wanted.now.name.now in
     let Q : Status → List ℕ → Type 0 =
-    TwoFilesSay (OnForm form) file name old new in
+    TwoFilesSay (OnEither (TreeWork form) (RankWork form)) file name old new in
     Ends-map _ Q c.args.out.now _ _
-    (on_both-faults (FormSays form name) file name old new)
+    (on_both-faults (EitherSays (TreeWork form) (RankWork form) name) file name old new)
     c.in-Err.ensures.told
 
 pub returns-in-Ok-clause-keeps : goal.returns-in-Ok-clause-keeps

@@ -1,14 +1,9 @@
 use Rattle.std.proofs.Common.{◌≡◌, ◌∷◌, [], ◌∙◌, ap, refl, sym, subst, ℕ, Bool, List, codes}
-use Rattle.problem_rules.specs.Problem.{Problem}
 use Rattle.tree_rules.specs.Claim.{Network}
 use Rattle.rank_rules.specs.Text.{ranking_of}
 use Rattle.report_rules.specs.Marginal.{AreFirstMarginals}
-use Rattle.report_rules.specs.RankLow.{best_claim}
-use Rattle.report_rules.specs.RankVerdict.{low_of}
 use Rattle.report_tables.specs.First.{IsFirstFeasible}
-use Rattle.json_rules.specs.Json.{member}
 use Rattle.json_rules.specs.Facts.{text_member}
-use Rattle.json_rules.specs.Lower.{bound_json, gap_between}
 use Rattle.json_rules.specs.Ranked.{lines_behind}
 use Rattle.studio_rules.specs.Lines.{text_of}
 use Rattle.studio_rules.specs.RankJson.{rank_verdict_word, claim_word, rank_json_lines}
@@ -42,16 +37,6 @@ returns c =
     ∙ ap (λ (distinct : Bool). text_member (codes "claim") (claim_word distinct))
     c.is_distinct.ensures) in
     let p = c.args.site.now in
-    let low : c.in_ok-low.low ≡ member (codes "low") (bound_json p (low_of c.args.verdict)) =
-    c.in_ok-low.ensures
-    ∙ (λ i. member (codes "low") (bound_json (c.problem.ensures.same i) (c.low_of-known.ensures i)))
-    in
-    let gap : c.in_ok-gap.gap
-    ≡ member (codes "gap") (gap_between (best_claim c.args.ranking.now.networks)
-    (low_of c.args.verdict)) =
-    c.in_ok-gap.ensures
-    ∙ (λ i. member (codes "gap") (gap_between (best_claim (c.networks-networks.ensures i))
-    (c.low_of-known.ensures i))) in
     let m = c.in_ok-marginals.marginals in (
       rank_json_lines p m (ranking_of c.args.ranking.now) c.args.verdict,
       (
@@ -63,7 +48,7 @@ returns c =
       c.in_ok-bytes.ensures
           ∙ (λ i. text_of
           (lines_behind
-          (stated i ∷ c.in_ok-node.ensures i ∷ c.in_ok-why.ensures i ∷ claimed i ∷ low i ∷ gap i
+          (stated i ∷ c.in_ok-node.ensures i ∷ c.in_ok-why.ensures i ∷ claimed i
           ∷ c.in_ok-asked.ensures i ∷ c.in_ok-listed.ensures i ∷ [])
           p m (c.networks-networks.ensures i))),
     )

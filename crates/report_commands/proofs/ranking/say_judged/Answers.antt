@@ -7,37 +7,37 @@ use Rattle.studio_rules.specs.Ending.{Ends, Tells, Only, OrMemory}
 use Rattle.studio_rules.specs.declared.status.Status.{Status}
 use Rattle.studio_rules.specs.declared.status.Status.TheVariants.{BadClaim, Memory}
 use Rattle.endings.proofs.Ending.{Ends-map, Ends-told, only_in, only_or_memory_in, one_line}
-use Rattle.report_commands.specs.Works.{VerdictWork, RankLines}
+use Rattle.report_commands.specs.Works.{RankWork, RankLines}
 use Rattle.report_commands.proofs.Works.{done, refused}
 use Rattle.report_commands.proofs.ranking.say_judged.Goals as goal
 
 pub returns-in-Ok : goal.returns-in-Ok
 returns-in-Ok g c =
-    let reader = c.args.reader in
+    let form = c.args.form in
     let p = c.args.site.now in
     let t = c.args.ranking.now in
     let verdict = c.in-Ok.verdict in
-    Ends-told c.text_of.result (λ v. v.items) (VerdictWork reader p t)
-    (RankLines reader p (ranking_of t) verdict) c.args.out.now _ _
-    (λ lines says. done reader p t verdict lines c.in-Ok.ensures.verdict says) c.text_of.ensures
+    Ends-told c.text_of.result (λ v. v.items) (RankWork form p t)
+    (RankLines form p (ranking_of t) verdict) c.args.out.now _ _
+    (λ lines says. done form p t verdict lines c.in-Ok.ensures.verdict says) c.text_of.ensures
     c.say_told.ensures
 
 pub returns-in-Err-Network : goal.returns-in-Err-Network
 returns-in-Err-Network g c =
-    let reader = c.args.reader in
+    let form = c.args.form in
     let p = c.args.site.now in
     let t = c.args.ranking.now in
-    let Q : Status → List ℕ → Type 0 = Tells (VerdictWork reader p t) in
+    let Q : Status → List ℕ → Type 0 = Tells (RankWork form p t) in
     let fails : NetworkIsFault p (ranking_of t) c.in-Err-Network.number c.in-Err-Network.why =
     (rw c.in-Err-Network.field-0-is at c.in-Err-Network.ensures.unjudged) in
     let told : List ℕ = network_line c.in-Err-Network.number c.in-Err-Network.why in
     let said : Ends (OrMemory (Only BadClaim (line told))) c.args.out.now c.say_network.new.out
-    c.say_network.result = c.say_network.ensures in
+    c.say_network.result = (rw c.in-Err-Network.field-0-is at c.say_network.ensures) in
     Ends-map (OrMemory (Only BadClaim (line told))) Q c.args.out.now c.say_network.new.out
     c.say_network.result
     (only_or_memory_in Q BadClaim (line told) (
       told ∷ [],
-      refused reader p t c.in-Err-Network.number c.in-Err-Network.why fails,
+      refused form p t c.in-Err-Network.number c.in-Err-Network.why fails,
       one_line told,
     ) ([], inl refl, refl))
     said
@@ -45,6 +45,6 @@ returns-in-Err-Network g c =
 pub returns-in-Err-Memory : goal.returns-in-Err-Memory
 returns-in-Err-Memory g c =
     let Q : Status → List ℕ → Type 0 =
-    Tells (VerdictWork c.args.reader c.args.site.now c.args.ranking.now) in
+    Tells (RankWork c.args.form c.args.site.now c.args.ranking.now) in
     Ends-map _ Q c.args.out.now _ _ (only_in Q Memory (line (codes "memory")) ([], inl refl, refl))
     c.say_memory.ensures

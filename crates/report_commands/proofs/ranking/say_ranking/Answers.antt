@@ -30,7 +30,7 @@ returns-in-Err-At g c name =
     (rw c.in-Err-At.field-0-is at c.in-Err-At.ensures.fault) in
     let told : List ℕ = tree_fault_line c.in-Err-At.line c.in-Err-At.kind in
     let said : Ends (OrMemory (Only BadTree (line told))) c.args.out.now c.say_tree_fault.new.out
-    c.say_tree_fault.result = c.say_tree_fault.ensures in
+    c.say_tree_fault.result = (rw c.in-Err-At.field-0-is at c.say_tree_fault.ensures) in
     Ends-map (OrMemory (Only BadTree (line told))) Q c.args.out.now c.say_tree_fault.new.out
     c.say_tree_fault.result
     (only_or_memory_in Q BadTree (line told) (

@@ -1,5 +1,4 @@
-use Rattle.std.proofs.Common.{◌≡◌, ◌++◌, ◌∷◌, [], ◌∙◌, ap, refl, sym, subst, List}
-use Rattle.problem_rules.specs.Problem.{Problem}
+use Rattle.std.proofs.Common.{◌≡◌, ◌++◌, ◌∷◌, [], ◌∙◌, ap, refl, sym, subst, List, length}
 use Rattle.tree_rules.specs.Claim.{Network}
 use Rattle.rank_rules.specs.Text.{ranking_of}
 use Rattle.report_rules.specs.Marginal.{AreFirstMarginals}
@@ -12,33 +11,32 @@ use Rattle.report_commands.proofs.report.rank_report.Goals as goal
 
 pub first_marginals-requires : goal.first_marginals-requires
 first_marginals-requires c =
-    let p = c.args.plant.now.site.now in
-    let r = c.args.ranking.now in
-    subst (λ (ws : List Network). IsFirstFeasible p ws) (sym c.networks-networks.ensures)
-    (first_feasible r.distinct p r.networks c.requires.listed)
+    subst (λ (ws : List Network). IsFirstFeasible c.args.site.now ws)
+    (sym c.networks-networks.ensures)
+    (first_feasible c.args.ranking.now.distinct c.args.site.now c.args.ranking.now.networks
+    c.requires.listed)
 
 pub ranking_of-requires-clause-feasible : goal.ranking_of-requires-clause-feasible
 ranking_of-requires-clause-feasible c =
-    let p = c.args.plant.now.site.now in
-    let r = c.args.ranking.now in
-    subst (λ (ws : List Network). IsFirstFeasible p ws) (sym c.networks-networks.ensures)
-    (first_feasible r.distinct p r.networks c.requires.listed)
+    subst (λ (ws : List Network). IsFirstFeasible c.args.site.now ws)
+    (sym c.networks-networks.ensures)
+    (first_feasible c.args.ranking.now.distinct c.args.site.now c.args.ranking.now.networks
+    c.requires.listed)
 
 pub returns : goal.returns
 returns c =
-    let p = c.args.plant.now.site.now in
-    let ms = c.args.plant.now.measures.now in
+    let p = c.args.site.now in
     let t = c.args.ranking.now in
     let m = c.in_ok-marginals.marginals in
     let first : c.in_ok-bytes.bytes.items
-    ≡ rank_first_line p (ranking_of t) c.args.verdict ++ 10 ∷ [] =
+    ≡ rank_first_line t.distinct t.count (length t.networks) c.args.verdict ++ 10 ∷ [] =
     c.in_ok-bytes.ensures
-    ∙ ap (λ (q : Problem). rank_first_line q (ranking_of t) c.args.verdict ++ 10 ∷ [])
-    c.problem.ensures.same in
-    let tables : c.deref.result.now ≡ text_of (ranking_lines ms p m t.networks) =
+    ∙ (λ i. rank_first_line (c.asked_of.ensures.distinct i) (c.asked_of.ensures.count i)
+    (c.found_in.ensures i) c.args.verdict ++ 10 ∷ []) in
+    let tables : c.deref.result.now ≡ text_of (ranking_lines p m t.networks) =
     c.deref.ensures.value ∙ c.in_ok-tables.ensures
-    ∙ ap (λ (ws : List Network). text_of (ranking_lines ms p m ws)) c.networks-networks.ensures in (
-      rank_report_lines ms p m (ranking_of t) c.args.verdict,
+    ∙ ap (λ (ws : List Network). text_of (ranking_lines p m ws)) c.networks-networks.ensures in (
+      rank_report_lines p m (ranking_of t) c.args.verdict,
       (
         m,
         subst (λ (ws : List Network). AreFirstMarginals p ws m) c.networks-networks.ensures

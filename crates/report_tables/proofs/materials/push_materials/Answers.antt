@@ -1,4 +1,4 @@
-use Rattle.std.proofs.Common.{◌≡◌, ◌++◌, ◌∙◌, string_bytes}
+use Rattle.std.proofs.Common.{◌≡◌, ◌++◌, ◌∷◌, [], ◌∙◌, string_bytes}
 use Rattle.pns_problem.specs.Printing.{printed}
 use Rattle.report_rules.specs.Report.{table_and_gap, material_sorts, material_rows}
 use Rattle.report_tables.proofs.materials.push_materials.Goals as goal
@@ -6,8 +6,9 @@ use Rattle.report_tables.proofs.materials.push_materials.Goals as goal
 pub returns : goal.returns
 returns c =
     let rows : c.deref.result.now
-    ≡ material_rows c.args.plant.now.site.now c.args.network.now c.args.marginals.now =
-    c.deref.ensures.value ∙ c.in_ok-rows.ensures in
+    ≡ material_rows c.args.site.now c.args.network.now c.args.marginals.now =
+    c.deref.ensures.value ∙ c.in_ok-push.ensures.items
+    ∙ (λ i. c.in_ok-rows.ensures i ++ c.in_ok-all_materials_row.ensures i ∷ []) in
     c.in_ok-push_table_and_gap.ensures
     ∙ (λ i. string_bytes c.args.text.now
     ++ printed (table_and_gap material_sorts (c.in_ok-heading.ensures i) (rows i)))

@@ -5,7 +5,7 @@ use Rattle.report_tables.proofs.money.push_money.Goals as goal
 
 pub returns : goal.returns
 returns c =
-    let rows : c.deref.result.now ≡ money_rows c.args.plant.now.site.now c.args.network.now =
+    let rows : c.deref.result.now ≡ money_rows c.args.site.now c.args.network.now =
     c.deref.ensures.value ∙ c.in_ok-rows.ensures in
     c.in_ok-push_table_and_gap.ensures
     ∙ (λ i. string_bytes c.args.text.now

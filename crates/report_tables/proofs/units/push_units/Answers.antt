@@ -1,21 +1,14 @@
-use Rattle.std.proofs.Common.{◌≡◌, ◌<◌, ◌++◌, ◌∙◌, sym, ap, subst, length, string_bytes}
-use Rattle.problem_rules.specs.Problem.{Problem}
+use Rattle.std.proofs.Common.{◌≡◌, ◌++◌, ◌∷◌, [], ◌∙◌, string_bytes}
 use Rattle.pns_problem.specs.Printing.{printed}
 use Rattle.report_rules.specs.Report.{table_and_gap, unit_sorts, unit_rows}
 use Rattle.report_tables.proofs.units.push_units.Goals as goal
 
-pub all_rows-requires : goal.all_rows-requires
-all_rows-requires c u h =
-    subst (λ (p : Problem). u < length p.units) (sym c.problem.ensures.same)
-    (c.requires.known u h)
-
 pub returns : goal.returns
 returns c =
-    let w = c.args.network.now in
-    let m = c.args.marginals.now in
-    let rows : c.deref.result.now ≡ unit_rows c.args.plant.now.site.now w m =
-    c.deref.ensures.value ∙ c.in_ok-rows.ensures
-    ∙ ap (λ (p : Problem). unit_rows p w m) c.problem.ensures.same in
+    let rows : c.deref.result.now
+    ≡ unit_rows c.args.problem.now c.args.network.now c.args.marginals.now =
+    c.deref.ensures.value ∙ c.in_ok-push.ensures.items
+    ∙ (λ i. c.in_ok-rows.ensures i ++ c.in_ok-all_units_row.ensures i ∷ []) in
     c.in_ok-push_table_and_gap.ensures
     ∙ (λ i. string_bytes c.args.text.now
     ++ printed (table_and_gap unit_sorts (c.in_ok-heading.ensures i) (rows i)))

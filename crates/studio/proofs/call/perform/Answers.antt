@@ -232,14 +232,14 @@ ranges-requires g c =
 pub returns-in-RangingAll-clause-ends : goal.returns-in-RangingAll-clause-ends
 returns-in-RangingAll-clause-ends g c =
     let old = g.F.Shelf.state c.args.shelf.now in
-    let new = g.F.Shelf.state c.ranges-in-RangingAll.new.shelf in
+    let new = g.F.Shelf.state c.ranges.new.shelf in
     let Q : Status → List ℕ → Type 0 = CommandSays old new (command_view c.args.command) in
     Ends-map
     (CommandSays old new
     (RangingAll c.in-RangingAll.file.now c.in-RangingAll.tree.now c.in-RangingAll.budget)) Q
     c.args.out.now _ _
     (λ s t h. subst (λ (v : Command). CommandSays old new v s t)
-    (sym (ap command_view c.in-RangingAll.is)) h) c.ranges-in-RangingAll.ensures.ends
+    (sym (ap command_view c.in-RangingAll.is)) h) c.ranges.ensures.ends
 
 pub periods-requires : goal.periods-requires
 periods-requires g c =

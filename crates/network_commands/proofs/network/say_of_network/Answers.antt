@@ -1,0 +1,43 @@
+use Rattle.std.proofs.Common.{◌≡◌, ℕ, List}
+use Rattle.studio_rules.specs.Reading.{TwoFilesSay}
+use Rattle.studio_rules.specs.TreeFile.{OnTree, TreeSays}
+use Rattle.studio_rules.specs.Network.{OnNetwork}
+use Rattle.network_commands.specs.Texts.{TextWork}
+use Rattle.studio_rules.specs.Ending.{Says}
+use Rattle.studio_rules.specs.declared.status.Status.{Status}
+use Rattle.endings.proofs.Ending.{Ends-map, Ends-from}
+use Rattle.command_files.proofs.Seconds.{on_both-faults, on_both-work}
+use Rattle.endings.proofs.Keeping.{keeps_through}
+use Rattle.network_commands.proofs.network.say_of_network.Goals as goal
+
+pub returns-in-Ok-clause-ends : goal.returns-in-Ok-clause-ends
+returns-in-Ok-clause-ends g c =
+    let old = g.F.Shelf.state c.args.shelf.now in
+    let mid = g.F.Shelf.state c.problem_of.new.shelf in
+    let new = g.F.Shelf.state c.say_tree.new.shelf in
+    let file = c.args.file.now in
+    let tree = c.args.tree.now in
+    let P : Status → List ℕ → Type 0 =
+    Says (OnTree (OnNetwork (TextWork c.args.what)) mid.held tree c.in-Ok.problem)
+    (λ other. other ≡ tree) mid new in
+    let Q : Status → List ℕ → Type 0 =
+    TwoFilesSay (OnTree (OnNetwork (TextWork c.args.what))) file tree old new in
+    Ends-from P Q c.args.out.now _ _ _ c.in-Ok.ensures.silent
+    (on_both-work (TreeSays (OnNetwork (TextWork c.args.what)) tree) file tree old mid new
+    c.in-Ok.problem c.in-Ok.ensures.problem (c.problem_of.ensures.keeps.held tree)
+    c.problem_of.ensures.keeps.later) c.say_tree.ensures.ends
+
+pub returns-in-Err-clause-ends : goal.returns-in-Err-clause-ends
+returns-in-Err-clause-ends g c =
+    let old = g.F.Shelf.state c.args.shelf.now in
+    let new = g.F.Shelf.state c.problem_of.new.shelf in
+    let file = c.args.file.now in
+    let tree = c.args.tree.now in
+    let Q : Status → List ℕ → Type 0 =
+    TwoFilesSay (OnTree (OnNetwork (TextWork c.args.what))) file tree old new in
+    Ends-map _ Q c.args.out.now _ _
+    (on_both-faults (TreeSays (OnNetwork (TextWork c.args.what)) tree) file tree old new)
+    c.in-Err.ensures.told
+
+pub returns-in-Ok-clause-keeps : goal.returns-in-Ok-clause-keeps
+returns-in-Ok-clause-keeps g c = keeps_through _ _ _ c.in-Ok.ensures.keeps c.say_tree.ensures.keeps

@@ -1,9 +1,0 @@
-use crate::measures::Measures;
-use pgraph::Site;
-
-/// A problem with its graph, and the units of measure that its text names.
-#[derive(Clone, Copy)]
-pub struct Plant<'a> {
-    pub site: &'a Site<'a>,
-    pub measures: &'a Measures,
-}
