@@ -42,6 +42,7 @@ _pns() {
         stable:3) _pns_words 'price fix proportional' ;;
         list:2) _pns_words 'start' ;;
         solve:2 | show:2 | stable:5 | periods:3 | trial:3 | rank:3 | alternatives:3 | part:4) _pns_words '10k 100k 1M' ;;
+        graph:3) _pns_words 'network' ;;
     esac
 }
 complete -F _pns pns

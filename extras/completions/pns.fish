@@ -56,6 +56,7 @@ complete -c pns -n '__fish_seen_subcommand_from json; and test (count (commandli
 complete -c pns -n '__fish_seen_subcommand_from json; and test (count (commandline -opc)) -eq 3' -F
 complete -c pns -n '__fish_seen_subcommand_from graph; and test (count (commandline -opc)) -eq 2' -k -a '(__fish_complete_suffix .pns)'
 complete -c pns -n '__fish_seen_subcommand_from graph; and test (count (commandline -opc)) -eq 3' -F
+complete -c pns -n '__fish_seen_subcommand_from graph; and test (count (commandline -opc)) -eq 4' -k -a 'network'
 complete -c pns -n '__fish_seen_subcommand_from stable; and test (count (commandline -opc)) -eq 2' -k -a '(__fish_complete_suffix .pns)'
 complete -c pns -n '__fish_seen_subcommand_from stable; and test (count (commandline -opc)) -eq 3' -F
 complete -c pns -n '__fish_seen_subcommand_from stable; and test (count (commandline -opc)) -eq 4' -k -a 'price fix proportional'

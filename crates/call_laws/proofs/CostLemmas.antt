@@ -1,69 +1,114 @@
 -- Proofs of one problem claim one cost.
-use Rattle.std.proofs.Common.{◌≡◌, ℕ, true, false, List, Some, ℤ, ◌*ℤ◌, ◌≤ℤ◌, refl}
+use Rattle.std.proofs.Common.{◌≡◌, ℕ, Bool, true, false, List, Some, ℤ, ◌*ℤ◌, ◌≤ℤ◌, refl}
 use Rattle.std.proofs.Common.{subst, arith, inl, inr}
 use Rattle.std.proofs.lemmas.Int.{ints}
 use Rattle.number_sets.specs.Sets.{has}
 use Rattle.text_rules.specs.Outside.{Told}
 use Rattle.problem_rules.specs.Problem.{Problem}
+use Rattle.pns_rules.specs.Shape.{shape_of}
+use Rattle.pns_rules.specs.Structure.{IsStructure, IsAllowed}
 use Rattle.tree_rules.specs.Claim.{Network, Claim, network, infeasible, unknown, size_in}
-use Rattle.tree_rules.specs.Claim.{claimed_cost, IsAtLeast, IsFeasible}
+use Rattle.tree_rules.specs.Claim.{claimed_cost, IsAtLeast, IsFeasible, ClaimPasses}
+use Rattle.tree_rules.specs.Costs.{CostsEnough}
+use Rattle.tree_rules.specs.Known.{KnowsClaim}
 use Rattle.tree_rules.specs.Accepted.{Tree}
 use Rattle.tree_rules.specs.Tail.{Tail, whole, spent, past}
 use Rattle.studio_rules.specs.Reading.{GivesProblem, OnFile}
-use Rattle.studio_rules.specs.Solve.{Holds, AreTextOf, Solves, SolveWork, status_of}
+use Rattle.studio_rules.specs.Solve.{Holds, AreTextOf, AreHeadedTextOf, SolveWork, status_of}
 use Rattle.studio_rules.specs.declared.status.Status.{Status}
 use Rattle.studio_rules.specs.declared.status.Status.TheVariants.{Done}
 use Rattle.studio.proofs.Accepted.{is_held, one_problem}
-use Rattle.call_laws.specs.Costs.{OneCost, SolvesAgree}
+use Rattle.call_laws.specs.Costs.{ClaimSame, HasProof, OneCost, PrintsClaim, SolvesAgree}
 
 pub antisym : (x y : ℤ) → x ≤ℤ y → y ≤ℤ x → x ≡ y
 antisym x y l r = omega (arith, ints, l, r)
 
--- each feasible network costs what a proof claims, or more
-pub claims_no_more : (p : Problem) (claim : Claim) (tree : Tree) → Solves p claim tree
-    → (w : Network) → IsFeasible p w → IsAtLeast (claimed_cost claim) w.cost w.d
-claims_no_more p claim tree solves w feasible =
+-- what a proof says of its claim
+pub record IsBest (p : Problem) (claim : Claim) : Type 0 where
+  pub passes : ClaimPasses false p claim
+  pub known : KnowsClaim p claim
+  pub feasible : (w : Network) → claim ≡ network w → IsFeasible p w
+  pub least : (s : ℕ → Bool) → IsStructure (shape_of p) s → IsAllowed (shape_of p) s
+      → CostsEnough p (claimed_cost claim) s
+
+pub is_best : (p : Problem) (claim : Claim) → HasProof p claim → IsBest p claim
+is_best p claim (inl (tree, solves)) =
+    record {
+      passes = solves.proved.accepted.claimed;
+      known = solves.proved.of_claim;
+      feasible = solves.feasible;
+      least = solves.least;
+    }
+is_best p claim (inr (head, tree, solves)) =
+    record {
+      passes = solves.proved.accepted.claimed;
+      known = solves.proved.of_claim;
+      feasible = solves.feasible;
+      least = solves.least;
+    }
+
+-- each feasible network costs what is claimed, or more
+pub claims_no_more : (p : Problem) (claim : Claim) → IsBest p claim → (w : Network)
+    → IsFeasible p w → IsAtLeast (claimed_cost claim) w.cost w.d
+claims_no_more p claim best w feasible =
     subst (λ (n : ℤ). IsAtLeast (claimed_cost claim) n w.d) feasible.cost_is
-    (solves.least (has w.units) feasible.structure feasible.allowed (size_in w) w.d feasible.flows)
+    (best.least (has w.units) feasible.structure feasible.allowed (size_in w) w.d feasible.flows)
 
 -- something is claimed
-pub not_unknown : (p : Problem) (tree : Tree) → Solves p unknown tree → ⊥
-not_unknown p tree solves = let e : false ≡ true = solves.proved.accepted.claimed in cc
+not_unknown : (p : Problem) → IsBest p unknown → ⊥
+not_unknown p best = let e : false ≡ true = best.passes in cc
+
+same_claims : (p : Problem) (claim other : Claim) → IsBest p claim → IsBest p other
+    → ClaimSame claim other
+same_claims p (network v) (network w) one two =
+    antisym (w.cost *ℤ v.d) (v.cost *ℤ w.d)
+    (claims_no_more p (network w) two v (one.feasible v refl))
+    (claims_no_more p (network v) one w (two.feasible w refl))
+same_claims p (network v) infeasible one two =
+    claims_no_more p infeasible two v (one.feasible v refl)
+same_claims p (network v) unknown one two = not_unknown p two
+same_claims p infeasible (network w) one two =
+    absurd (claims_no_more p infeasible one w (two.feasible w refl))
+same_claims p infeasible infeasible one two = refl
+same_claims p infeasible unknown one two = absurd (not_unknown p two)
+same_claims p unknown other one two = not_unknown p one
 
 pub one_cost : OneCost
-one_cost p (network v) (network w) tree grown one two =
-    antisym (w.cost *ℤ v.d) (v.cost *ℤ w.d)
-    (claims_no_more p (network w) grown two v (one.feasible v refl))
-    (claims_no_more p (network v) tree one w (two.feasible w refl))
-one_cost p (network v) infeasible tree grown one two =
-    claims_no_more p infeasible grown two v (one.feasible v refl)
-one_cost p (network v) unknown tree grown one two = not_unknown p grown two
-one_cost p infeasible (network w) tree grown one two =
-    absurd (claims_no_more p infeasible tree one w (two.feasible w refl))
-one_cost p infeasible infeasible tree grown one two = refl
-one_cost p infeasible unknown tree grown one two = absurd (not_unknown p grown two)
-one_cost p unknown other tree grown one two = not_unknown p tree one
+one_cost p claim other one two =
+    same_claims p claim other (is_best p claim one) (is_best p other two)
 
 -- ---- of a call of `solve`
 
 -- the proof that it prints with status 0
 pub record Proof (p : Problem) (lines : List (List ℕ)) : Type 0 where
   pub claim : Claim
-  pub tree : Tree
-  pub solves : Solves p claim tree
-  pub text : AreTextOf p (record { claim = claim; tree = tree; tail = whole }) lines
+  pub proof : HasProof p claim
+  pub text : PrintsClaim p claim lines
 
 pub solved : (budget : ℕ) (p : Problem) (lines : List (List ℕ)) → SolveWork budget p Done lines
     → Proof p lines
-solved budget p lines (c, e, holds, text) = at c.claim c.tree c.tail e holds text
+solved budget p lines (inl (c, e, holds, text)) = at c.claim c.tree c.tail e holds text
   where
     at : (claim : Claim) (tree : Tree) (tail : Tail) → Done ≡ status_of tail
         → Holds budget p claim tree tail
         → AreTextOf p (record { claim = claim; tree = tree; tail = tail }) lines → Proof p lines
     at claim tree whole e holds text =
-        record { claim = claim; tree = tree; solves = holds; text = text }
+        record { claim = claim; proof = inl (tree, holds); text = inl (tree, text) }
     at claim tree (spent next options) e holds text = cc
     at claim tree (past node nonbasic place) e holds text = cc
+solved budget p lines (inr (c, e, is_whole, solves, text)) =
+    record {
+      claim = c.claim;
+      proof = inr (c.head, c.tree, solves);
+      text = inr (
+        c.head,
+        c.tree,
+        subst
+            (λ (t : Tail). AreHeadedTextOf p
+            (record { claim = c.claim; head = c.head; tree = c.tree; tail = t }) lines)
+            is_whole text,
+      );
+    }
 
 -- the problem of a call on a file that ends with status 0, and what the call does with it
 pub on_file : (work : Problem → Status → List (List ℕ) → Type 0) (held : List ℕ → Told)
@@ -90,7 +135,7 @@ solves_agree held later file bytes budget other one two is first keeps second =
       first = x.claim;
       second = y.claim;
       gives = a.1;
-      first_prints = (x.tree, x.text);
-      second_prints = (y.tree, y.text);
-      same = one_cost a.0 x.claim y.claim x.tree y.tree x.solves y.solves;
+      first_prints = x.text;
+      second_prints = y.text;
+      same = one_cost a.0 x.claim y.claim x.proof y.proof;
     }

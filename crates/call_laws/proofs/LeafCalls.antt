@@ -319,8 +319,12 @@ module _ (stand : OpenLeavesStand) (proper : ValidIsProper) (formed : ValidIsWel
       (f, is, inl fault) kept number inside outside before behind splits status lines parts bad =
       absurd fault
   spent_leaves_are_nodes solving splitting parting file tree bytes here there last budget solved
-      (f, is, inr (p, gives, (c, e, holds, are))) kept number inside outside before behind splits
-      status lines parts bad =
+      (f, is, inr (p, gives, inr (c, e, is_whole, solves, are))) kept number inside outside before
+      behind splits status lines parts bad =
+      let never : Spent ≡ Done = e in cc
+  spent_leaves_are_nodes solving splitting parting file tree bytes here there last budget solved
+      (f, is, inr (p, gives, inl (c, e, holds, are))) kept number inside outside before behind
+      splits status lines parts bad =
       let given : GivesProblem bytes p =
       subst (λ (b : List ℕ). GivesProblem b p) (is_held (solving file) bytes f here is) gives in
       let trunk = given_work (OnTree SplitWork splitting tree) splitting file bytes p Done

@@ -26,8 +26,9 @@ use Rattle.tree_rules.specs.Leaf.{bounded, refuted}
 use Rattle.tree_rules.specs.Accepted.{Tree}
 use Rattle.tree_rules.specs.Known.{KnowsClaim}
 use Rattle.tree_rules.specs.Tail.{Tail, whole, spent, past}
-use Rattle.tree_text_rules.specs.Spelling.{unit_name, network_lines, end_line}
-use Rattle.tree_text_rules.specs.Spelling.{tree_lines, tail_lines, tree_text_lines}
+use Rattle.tree_text_rules.specs.Line.{Token, file_type as tree_type}
+use Rattle.tree_text_rules.specs.Spelling.{unit_name, network_lines, end_line, claim_lines}
+use Rattle.tree_text_rules.specs.Spelling.{front_lines, tree_lines, tail_lines, tree_text_lines}
 use Rattle.rank_rules.specs.Networks.{cost_of, network_at, numbered, IsListed as IsRankListed}
 use Rattle.rank_rules.specs.Networks.{last_cost, to_undercut, IsNoCheaper, ArePassing}
 use Rattle.rank_rules.specs.Ranked.{IsRanked}
@@ -42,12 +43,13 @@ use Rattle.studio_rules.specs.Reading.{GivesProblem, OnFile}
 use Rattle.studio_rules.specs.Axioms.{units_named, first_stranger}
 use Rattle.studio_rules.specs.Flows.{FlowsWork, FlowNamesSay, UnitsSay, FlowsSay}
 use Rattle.studio_rules.specs.Listing.{ListingWork}
-use Rattle.studio_rules.specs.Solve.{SolveWork, Solves, Holds, status_of}
+use Rattle.studio_rules.specs.Solve.{SolveWork, Holds, status_of}
 use Rattle.studio_rules.specs.Rank as ranks
 use Rattle.studio_rules.specs.Rankcheck.{AreBest}
 use Rattle.call_laws.specs.OptimumLaws.{TellNetwork, FlowsTell, SolveTells, RankTells}
 use Rattle.call_laws.specs.OptimumLaws.{IsSameCost, ListedCostEnough, IsReached}
 use Rattle.call_laws.specs.OptimumLaws.{OptimumIsListed, FirstIsOptimal}
+use Rattle.call_laws.proofs.CostLemmas.{IsBest, is_best}
 use Rattle.call_laws.proofs.Given.{is_held, given_work}
 use Rattle.call_laws.proofs.UnitNames.{set_of_names}
 use Rattle.call_laws.proofs.ListedLines.{listed_structure, has_line}
@@ -57,48 +59,51 @@ use Rattle.call_laws.proofs.ListedLines.{listed_structure, has_line}
 -- a claim that is proved, and its lines
 record IsSolved (p : Problem) (lines : List (List ℕ)) : Type 0 where
   claim : Claim
-  tree : Tree
-  solves : Solves p claim tree
+  best : IsBest p claim
   tells : SolveTells lines (claimed_cost claim)
   names : (w : Network) → claim ≡ network w
       → TellNetwork (drop 1 lines) (map (unit_name p) w.units) (cost_of w)
 
-claim_tells : (p : Problem) (claim : Claim) (tree : Tree) (tail : Tail) (lines : List (List ℕ))
-    → Solves p claim tree → lines ≡ spelled (tree_text_lines p claim tree tail) → IsSolved p lines
-claim_tells p (network w) tree tail lines solves e =
+-- the lines of the claim come after the first
+claim_tells : (p : Problem) (claim : Claim) (rest : List (List Token)) (lines : List (List ℕ))
+    → IsBest p claim → lines ≡ spelled ((tree_type ∷ []) ∷ (claim_lines p claim ++ rest))
+    → IsSolved p lines
+claim_tells p (network w) rest lines best e =
     let told : TellNetwork (drop 1 lines) (map (unit_name p) w.units) (cost_of w) =
-    (w.sizes, spelled (tree_lines p tree ++ tail_lines p tail), ap (drop 1) e) in
+    (w.sizes, spelled rest, ap (drop 1) e) in
     record {
       claim = network w;
-      tree = tree;
-      solves = solves;
+      best = best;
       tells = (map (unit_name p) w.units, told);
       names = λ v same. let one : w ≡ v = cc in
           subst (λ (x : Network). TellNetwork (drop 1 lines) (map (unit_name p) x.units)
           (cost_of x)) one told;
     }
-claim_tells p infeasible tree tail lines solves e = record {
+claim_tells p infeasible rest lines best e = record {
   claim = infeasible;
-  tree = tree;
-  solves = solves;
-  tells = (spelled (tree_lines p tree ++ tail_lines p tail), ap (drop 1) e);
+  best = best;
+  tells = (spelled rest, ap (drop 1) e);
   names = λ v same. cc;
 }
-claim_tells p unknown tree tail lines solves e = let never = solves.proved.accepted.claimed in
-    absurd cc
+claim_tells p unknown rest lines best e = let never = best.passes in absurd cc
 
 solved_by_tail : (budget : ℕ) (p : Problem) (claim : Claim) (tree : Tree) (tail : Tail)
     (lines : List (List ℕ)) → Done ≡ status_of tail → Holds budget p claim tree tail → lines
     ≡ spelled (tree_text_lines p claim tree tail) → IsSolved p lines
 solved_by_tail budget p claim tree whole lines done holds e =
-    claim_tells p claim tree whole lines holds e
+    claim_tells p claim (tree_lines p tree ++ tail_lines p whole) lines
+    (is_best p claim (inl (tree, holds))) e
 solved_by_tail budget p claim tree (spent next options) lines done holds e = cc
 solved_by_tail budget p claim tree (past node nonbasic place) lines done holds e = cc
 
 solved_work : (budget : ℕ) (p : Problem) (lines : List (List ℕ)) → SolveWork budget p Done lines
     → IsSolved p lines
-solved_work budget p lines (c, done, holds, are) =
+solved_work budget p lines (inl (c, done, holds, are)) =
     solved_by_tail budget p c.claim c.tree c.tail lines done holds are.text
+solved_work budget p lines (inr (c, done, is_whole, solves, are)) =
+    claim_tells p c.claim (front_lines p c.head ++ (tree_lines p c.tree ++ tail_lines p c.tail))
+    lines
+    (is_best p c.claim (inr (c.head, c.tree, solves))) are.text
 
 -- ---- flows
 
@@ -315,7 +320,7 @@ module _ (well : ValidIsWellFormed) where
           let r = solved_work budget p solved work in
           let enough : CostsEnough p (claimed_cost r.claim) (has f.units) =
           subst (λ (us : List ℕ). CostsEnough p (claimed_cost r.claim) (has us)) (sym one)
-          (r.solves.least (has s.1.units) s.1.listed.meets s.1.listed.allowed) in
+          (r.best.least (has s.1.units) s.1.listed.meets s.1.listed.allowed) in
           let told = flows_tell p f.units (claimed_cost r.claim) flowed enough f.says in
           (told.0, claimed_cost r.claim, told.1, r.tells, told.2)
 
@@ -335,12 +340,12 @@ module _ (well : ValidIsWellFormed) where
       → IsReached held file solved listed
   reached held file bytes count p solved listed is given work end r w e =
       let formed : IsWellFormed p = (well p).0 given.valid in
-      let feasible : IsFeasible p w = r.solves.feasible w e in
+      let feasible : IsFeasible p w = r.best.feasible w e in
       let set : IsSet (length p.units) w.units =
-      subst (λ (c : Claim). KnowsClaim p c) e r.solves.proved.of_claim in
+      subst (λ (c : Claim). KnowsClaim p c) e r.best.known in
       let enough : CostsEnough p (Some (cost_of w)) (has w.units) =
       subst (λ (c : Claim). CostsEnough p (claimed_cost c) (has w.units)) e
-      (r.solves.least (has w.units) feasible.structure feasible.allowed) in
+      (r.best.least (has w.units) feasible.structure feasible.allowed) in
       record {
         names = map (unit_name p) w.units;
         cost = cost_of w;
@@ -423,18 +428,18 @@ module _ (p : Problem) (valid : IsValid p) (solved : List (List ℕ)) (r : IsSol
       (subst (λ (vs : List Network). ArePassing false p [] vs) is are.best.pass).0 in
       let enough : CostsEnough p (claimed_cost claim) (has w.units) =
       subst (λ (c : Claim). CostsEnough p (claimed_cost c) (has w.units)) e
-      (r.solves.least (has w.units) feasible.structure feasible.allowed) in
+      (r.best.least (has w.units) feasible.structure feasible.allowed) in
       feasible_enough p (claimed_cost claim) w enough feasible.flows feasible.cost_is
 
   by_both : (claim : Claim) → r.claim ≡ claim → (ws : List Network) → t.networks ≡ ws
       → IsSameCost (first_cost ws) (claimed_cost claim)
   by_both (network v) e [] is = absurd
       (none_feasible p valid t are.lists.proves are.lists.kind_is are.best v is
-      (r.solves.feasible v e))
+      (r.best.feasible v e))
   by_both (network v) e (w ∷ ws) is = (
     no_less (network v) e w ws is,
     first_no_more p valid t are.lists.proves are.lists.kind_is are.best v
-        (r.solves.feasible v e) w ws is,
+        (r.best.feasible v e) w ws is,
   )
   by_both infeasible e [] is = (tt, tt)
   by_both infeasible e (w ∷ ws) is = (no_less infeasible e w ws is, tt)

@@ -11,17 +11,16 @@ use Rattle.plan_rules.specs.Plan.{Plan}
 use Rattle.plan_rules.specs.Read as plans
 use Rattle.plan_laws.specs.Laws.{ExpandedIsValid}
 use Rattle.tree_rules.specs.Claim.{Claim, network, infeasible, unknown}
-use Rattle.tree_rules.specs.Accepted.{Tree}
 use Rattle.design_rules.specs.Folded.{folded}
 use Rattle.studio_rules.specs.Expand.{ExpandWork}
 use Rattle.studio_rules.specs.Lines.{text_of}
 use Rattle.studio_rules.specs.Periods.{PeriodsWork}
 use Rattle.studio_rules.specs.Plan.{GivesPlan, OnPlan}
 use Rattle.studio_rules.specs.Reading.{LongFile, OnFile, file_limit}
-use Rattle.studio_rules.specs.Solve.{Solves, SolveWork}
+use Rattle.studio_rules.specs.Solve.{SolveWork}
 use Rattle.studio_rules.specs.declared.status.Status.{Status}
 use Rattle.studio_rules.specs.declared.status.Status.TheVariants.{Done, BadProblem, TooLong}
-use Rattle.call_laws.specs.Costs.{ClaimSame, OneCost}
+use Rattle.call_laws.specs.Costs.{ClaimSame, HasProof, OneCost}
 use Rattle.call_laws.specs.Periods.{ReadIsPlan, IsExpanded, ExpandedIsRead, PlansClaim, Certifies}
 use Rattle.call_laws.specs.Periods.{PeriodsAreCertified}
 use Rattle.studio.proofs.Accepted.{is_held, one_problem}
@@ -84,21 +83,21 @@ module _ (plans_read : ReadIsPlan) (valid : ExpandedIsValid) (canonical : Canoni
 
 module _ (reads : ExpandedIsRead) (one : OneCost) where
   -- the cost of a proof, compared with what `periods` prints
-  plans_claim : (other : ℕ) (p : Problem) (plan : Plan) (claim : Claim) (tree : Tree)
-      (lines : List (List ℕ)) → Solves (expanded p plan) claim tree
-      → PeriodsWork other p plan Done lines → PlansClaim p plan claim lines
-  plans_claim other p plan claim tree lines solves (inl least) =
+  plans_claim : (other : ℕ) (p : Problem) (plan : Plan) (claim : Claim) (lines : List (List ℕ))
+      → HasProof (expanded p plan) claim → PeriodsWork other p plan Done lines
+      → PlansClaim p plan claim lines
+  plans_claim other p plan claim lines proof (inl least) =
       of claim (one (expanded p plan)
-      (network least.network_of) claim least.tree tree least.solves solves)
+      (network least.network_of) claim (inl (least.tree, least.solves)) proof)
     where
       of : (claim : Claim) → ClaimSame (network least.network_of) claim
           → PlansClaim p plan claim lines
       of (network v) same = (folded p plan least.network_of, least.design, same, least.text)
       of infeasible same = absurd same
       of unknown same = absurd same
-  plans_claim other p plan claim tree lines solves (inr none) =
+  plans_claim other p plan claim lines proof (inr none) =
       subst (λ (c : Claim). PlansClaim p plan c lines)
-      (sym (one (expanded p plan) infeasible claim none.tree tree none.solves solves))
+      (sym (one (expanded p plan) infeasible claim (inl (none.tree, none.solves)) proof))
       (none.none, none.text)
 
   pub periods_are_certified : PeriodsAreCertified
@@ -127,7 +126,6 @@ module _ (reads : ExpandedIsRead) (one : OneCost) where
             plan = e.plan;
             claim = proof.claim;
             gives = e.gives;
-            solve_prints = (proof.tree, proof.text);
-            periods_prints = plans_claim other e.plant e.plan proof.claim proof.tree planned
-                proof.solves works;
+            solve_prints = proof.text;
+            periods_prints = plans_claim other e.plant e.plan proof.claim planned proof.proof works;
           }

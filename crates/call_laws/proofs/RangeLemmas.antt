@@ -23,7 +23,6 @@ use Rattle.script_rules.specs.Printed.{script_text}
 use Rattle.script_rules.specs.Read.{read_script}
 use Rattle.tree_rules.specs.Claim.{Network, Claim, network, infeasible, unknown, CostOver, size_in}
 use Rattle.tree_rules.specs.Claim.{claimed_cost, IsAtLeast, IsFeasible}
-use Rattle.tree_rules.specs.Accepted.{Tree}
 use Rattle.stability_rules.specs.declared.spot.Spot.{Spot}
 use Rattle.stability_rules.specs.declared.spot.SpotKind.{SpotKind}
 use Rattle.stability_rules.specs.declared.side.Side.{Side}
@@ -36,42 +35,43 @@ use Rattle.studio_rules.specs.Edits.{EditWork}
 use Rattle.studio_rules.specs.Lines.{text_of}
 use Rattle.studio_rules.specs.Reading.{GivesProblem, file_limit}
 use Rattle.studio_rules.specs.Script.{ScriptFault, ScriptSays}
-use Rattle.studio_rules.specs.Solve.{Solves, SolveWork}
+use Rattle.studio_rules.specs.Solve.{SolveWork}
 use Rattle.studio_rules.specs.Stable.{spot_named, NamedWork, StableWork}
-use Rattle.studio_rules.specs.TreeFile.{OnTree, GivesTree}
+use Rattle.studio_rules.specs.HeadedFile.{AnyHead, OnHeaded}
 use Rattle.studio_rules.specs.declared.status.Status.{Status}
 use Rattle.studio_rules.specs.declared.status.Status.TheVariants.{Done, BadClaim}
 use Rattle.studio_rules.specs.declared.status.Status.TheVariants.{BadEdit, TooLong, UnknownName}
-use Rattle.call_laws.specs.Costs.{cost_of, ClaimsCost, PrintsClaim, PrintsCost}
+use Rattle.call_laws.specs.Costs.{cost_of, ClaimsCost, HasProof, PrintsClaim, PrintsCost}
 use Rattle.call_laws.specs.Ranges.{setting, SettingsSetSpots, ValuesAreEdited, BestIsClaimed}
 use Rattle.call_laws.specs.Ranges.{EditedCosts, RangeIsSolved, RangesAreSolved}
 use Rattle.studio.proofs.Accepted.{is_held, no_fault, one_problem}
-use Rattle.call_laws.proofs.CostLemmas.{antisym, claims_no_more, solved, on_file}
+use Rattle.call_laws.proofs.CostLemmas.{antisym, IsBest, is_best, claims_no_more, solved, on_file}
 use Rattle.call_laws.proofs.SpotLemmas.{spot_known}
 use Rattle.call_laws.proofs.ScriptLengths.{script-le}
 
 -- ---- the claim
 
 -- a proof claims a cost that no structure undercuts, if the proof claims no more
-claims : (p : Problem) (claim : Claim) (tree : Tree) (much : CostOver) → Solves p claim tree
+claims : (p : Problem) (claim : Claim) (much : CostOver) → IsBest p claim
     → IsAtLeast (claimed_cost claim) much.cost much.d → IsLeast p much → ClaimsCost claim much
-claims p (network n) tree much solves low least =
-    let f = solves.feasible n refl in
+claims p (network n) much proved low least =
+    let f = proved.feasible n refl in
     let high : (much.cost *ℤ n.d) ≤ℤ (n.cost *ℤ much.d) =
     subst (λ (c : ℤ). (much.cost *ℤ n.d) ≤ℤ (c *ℤ much.d)) f.cost_is
     (least (has n.units) f.structure f.allowed (size_in n) n.d f.flows) in
     antisym (n.cost *ℤ much.d) (much.cost *ℤ n.d) low high
-claims p infeasible tree much solves low least = low
-claims p unknown tree much solves low least = low
+claims p infeasible much proved low least = low
+claims p unknown much proved low least = low
 
 pub best_is_claimed : BestIsClaimed
-best_is_claimed p spot known w feasible v best claim tree solves =
+best_is_claimed p spot known w feasible v best claim proof =
+    let proved = is_best (valued p spot v) claim proof in
     let shape = sym (shape_stays p spot known v) in
     let structure = subst (λ (g : Shape). IsStructure g (has w.units)) shape feasible.structure in
     let allowed = subst (λ (g : Shape). IsAllowed g (has w.units)) shape feasible.allowed in
     let flows = flows_to p spot known v (has w.units) (size_in w) w.d feasible.flows in
-    claims (valued p spot v) claim tree (cost_of (repriced p spot w v)) solves
-    (solves.least (has w.units) structure allowed (size_in w) w.d flows) best
+    claims (valued p spot v) claim (cost_of (repriced p spot w v)) proved
+    (proved.least (has w.units) structure allowed (size_in w) w.d flows) best
 
 -- ---- the edit
 
@@ -155,8 +155,7 @@ module _ (edits : ValuesAreEdited) (best : BestIsClaimed) (stays : ValuedIsValid
   costs q much lines unknown same prints = absurd same
 
   edited_costs : (v : ℤ) → IsAllowedValue spot v → (much : CostOver)
-      → ((claim : Claim) (tree : Tree) → Solves (valued p spot v) claim tree
-      → ClaimsCost claim much)
+      → ((claim : Claim) → HasProof (valued p spot v) claim → ClaimsCost claim much)
       → EditedCosts bytes (setting kind name v) (valued p spot v) much
   edited_costs v allowed much told held later file script edited status changed lines budget is
       script_held edits_to kept solves =
@@ -172,7 +171,7 @@ module _ (edits : ValuesAreEdited) (best : BestIsClaimed) (stays : ValuedIsValid
       sym s.1.reads ∙ reads in cc in
       let x = solved budget q lines (subst
       (λ (r : Problem). SolveWork budget r Done lines) same s.2) in
-      costs q much lines x.claim (told x.claim x.tree x.solves) (x.tree, x.text)
+      costs q much lines x.claim (told x.claim x.proof) x.text
 
   module _ (w : Network) (feasible : IsFeasible p w) where
     inside : (from to : ℤ) (below above : Option Network) → IsRange p spot w from to below above
@@ -194,28 +193,30 @@ module _ (edits : ValuesAreEdited) (best : BestIsClaimed) (stays : ValuedIsValid
     outside side end None ends = tt
     outside side end (Some n) ends =
         edited_costs (beyond side end) ends.0 (cost_of n)
-        (λ claim tree solves. claims (valued p spot (beyond side end)) claim tree
-        (cost_of n) solves
-        (claims_no_more (valued p spot (beyond side end)) claim tree solves n ends.1.feasible)
+        (λ claim proof.
+        let proved = is_best (valued p spot (beyond side end)) claim proof in
+        claims (valued p spot (beyond side end)) claim (cost_of n) proved
+        (claims_no_more (valued p spot (beyond side end)) claim proved n ends.1.feasible)
         ends.1.least)
 
 module _ (edits : ValuesAreEdited) (best : BestIsClaimed) (stays : ValuedIsValid)
     (canonical : CanonicalReads) where
   pub ranges_are_solved : RangesAreSolved
   ranges_are_solved held file bytes tree kind name budget ranged is said =
-      let read = on_file (λ p. OnTree (StableWork kind name budget) held tree p) held file bytes
+      let read =
+      on_file (λ p. OnHeaded (AnyHead (StableWork kind name budget)) held tree p) held file bytes
       ranged is said in
       on_tree read.0 read.1 read.2
     where
       on_tree : (p : Problem) → GivesProblem bytes p
-          → OnTree (StableWork kind name budget) held tree p Done ranged
+          → OnHeaded (AnyHead (StableWork kind name budget)) held tree p Done ranged
           → RangeIsSolved EditedCosts held bytes tree kind name ranged
-      on_tree p given (text, told, inl fault) = absurd fault
-      on_tree p given (text, told, inr (claim, nodes, gives, work)) =
+      on_tree p given (its, told, inl fault) = absurd fault
+      on_tree p given (its, told, inr (text, gives, work)) =
           by (spot_named p kind name) refl work
         where
           by : (o : Option Spot) → spot_named p kind name ≡ o
-              → NamedWork o budget p claim nodes Done ranged
+              → NamedWork o budget p text.claim text.tree Done ranged
               → RangeIsSolved EditedCosts held bytes tree kind name ranged
           by None e does = let d : Done ≡ UnknownName = does.0 in cc
           by (Some spot) e (inl refused) = let d : Done ≡ BadClaim = refused.0 in cc
@@ -228,13 +229,7 @@ module _ (edits : ValuesAreEdited) (best : BestIsClaimed) (stays : ValuedIsValid
                   range = record { from = from; to = to; below = below; above = above };
                   gives = given;
                   spot_is = e;
-                  claimed = (
-                    text,
-                    nodes,
-                    told,
-                    subst
-                        (λ (c : Claim). GivesTree p text c nodes) of_w.0 gives,
-                  );
+                  claimed = (its, text, told, gives, of_w.0);
                   printed = are;
                 };
                 inside = inside edits best stays canonical bytes p given kind name spot e w of_w.1

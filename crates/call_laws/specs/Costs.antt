@@ -1,14 +1,15 @@
 -- The cost of the claim of a proof: all proofs of one problem claim networks of one cost, or all
--- that no network has flows.
-use Rattle.std.specs.Prelude.{◌≡◌, ℕ, ◌*ℤ◌, List, Some}
+-- that no network has flows. A proof is a tree, with a head or without one.
+use Rattle.std.specs.Prelude.{◌≡◌, ◌⊎◌, ℕ, ◌*ℤ◌, List, Some}
 use Rattle.text_rules.specs.Outside.{Told}
 use Rattle.problem_rules.specs.Problem.{Problem}
 use Rattle.tree_rules.specs.Claim.{Network, Claim, network, infeasible, CostOver}
 use Rattle.tree_rules.specs.Accepted.{Tree}
 use Rattle.tree_rules.specs.Tail.{whole}
+use Rattle.head_rules.specs.Head.{HeadLine}
 use Rattle.studio_rules.specs.Command.{Solving}
 use Rattle.studio_rules.specs.Reading.{GivesProblem}
-use Rattle.studio_rules.specs.Solve.{AreTextOf, Solves}
+use Rattle.studio_rules.specs.Solve.{AreTextOf, AreHeadedTextOf, Solves, SolvesBy}
 use Rattle.studio_rules.specs.declared.status.Status.TheVariants.{Done}
 use Rattle.studio_rules.specs.Answers.{CommandAnswers}
 
@@ -33,17 +34,25 @@ ClaimSame (network v) claim = ClaimsCost claim (cost_of v)
 ClaimSame infeasible claim = claim ≡ infeasible
 ClaimSame claim other = ⊥
 
+-- a tree proves the claim, with a head or without one
+abbrev pub HasProof : Problem → Claim → Type 0
+HasProof p claim =
+    ((tree : Tree) × Solves p claim tree)
+    ⊎ ((head : List HeadLine) × (tree : Tree) × SolvesBy p claim head tree)
+
 abbrev pub OneCost : Type 0
 OneCost =
-    (p : Problem) (claim other : Claim) (tree grown : Tree) → Solves p claim tree
-    → Solves p other grown → ClaimSame claim other
+    (p : Problem) (claim other : Claim) → HasProof p claim → HasProof p other
+    → ClaimSame claim other
 
 -- ---- of two calls of `solve`
 
--- the lines are the text of a whole tree with this claim, and read as it
+-- the lines are the text of a whole tree with this claim, and read as it; the tree may have a head
 abbrev pub PrintsClaim : Problem → Claim → List (List ℕ) → Type 0
 PrintsClaim p claim lines =
-    (tree : Tree) × AreTextOf p (record { claim = claim; tree = tree; tail = whole }) lines
+    ((tree : Tree) × AreTextOf p (record { claim = claim; tree = tree; tail = whole }) lines)
+    ⊎ ((head : List HeadLine) × (tree : Tree)
+    × AreHeadedTextOf p (record { claim = claim; head = head; tree = tree; tail = whole }) lines)
 
 -- they claim a network of this cost
 pub record PrintsCost (p : Problem) (much : CostOver) (lines : List (List ℕ)) : Type 0 where

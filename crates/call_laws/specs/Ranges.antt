@@ -12,7 +12,7 @@ use Rattle.edit_rules.specs.Fault.{checks, AreClear}
 use Rattle.edit_rules.specs.Formed.{IsFormed}
 use Rattle.script_rules.specs.Printed.{script_text}
 use Rattle.tree_rules.specs.Claim.{Network, Claim, network, CostOver, IsFeasible}
-use Rattle.tree_rules.specs.Accepted.{Tree}
+use Rattle.tree_text_rules.specs.Read.{HeadedCertificate}
 use Rattle.stability_rules.specs.declared.spot.Spot.{Spot}
 use Rattle.stability_rules.specs.declared.spot.SpotKind.{SpotKind}
 use Rattle.stability_rules.specs.declared.spot.SpotKind.TheVariants.{Price, Fix, Proportional}
@@ -23,13 +23,12 @@ use Rattle.studio_rules.specs.Command.{Editing, Solving, Ranging}
 use Rattle.studio_rules.specs.Lines.{text_of}
 use Rattle.studio_rules.specs.Printed.{spelled}
 use Rattle.studio_rules.specs.Reading.{AreHeld, GivesProblem}
-use Rattle.studio_rules.specs.TreeFile.{GivesTree}
-use Rattle.studio_rules.specs.Solve.{Solves}
+use Rattle.studio_rules.specs.HeadedFile.{GivesHeaded}
 use Rattle.studio_rules.specs.Stable.{spot_named, range_lines}
 use Rattle.studio_rules.specs.declared.status.Status.{Status}
 use Rattle.studio_rules.specs.declared.status.Status.TheVariants.{Done}
 use Rattle.studio_rules.specs.Answers.{CommandAnswers}
-use Rattle.call_laws.specs.Costs.{cost_of, ClaimsCost, PrintsCost}
+use Rattle.call_laws.specs.Costs.{cost_of, ClaimsCost, HasProof, PrintsCost}
 
 -- ---- the edit
 
@@ -71,7 +70,7 @@ abbrev pub BestIsClaimed : Type 0
 BestIsClaimed =
     (p : Problem) (spot : Spot) → KnowsSpot p spot → (w : Network) → IsFeasible p w → (v : ℤ)
     → IsBestAt p spot w v
-    → (claim : Claim) (tree : Tree) → Solves (valued p spot v) claim tree
+    → (claim : Claim) → HasProof (valued p spot v) claim
     → ClaimsCost claim (cost_of (repriced p spot w v))
 
 -- ---- the calls
@@ -91,7 +90,8 @@ EditedCosts bytes edit q much =
 -- the file gives a tree that claims the network
 abbrev pub TreeClaims : (List ℕ → Told) → List ℕ → Problem → Network → Type 0
 TreeClaims held tree p w =
-    (text : List ℕ) × (nodes : Tree) × AreHeld (held tree) text × GivesTree p text (network w) nodes
+    (file : List ℕ) × (text : HeadedCertificate) × AreHeld (held tree) file
+    × GivesHeaded p file text × (text.claim ≡ network w)
 
 -- a range, and what is beyond its ends
 pub record Range : Type 0 where

@@ -5,7 +5,8 @@
 //! it gives the first that does, counted from 0, and why. [`judge_line`] judges one line by what is
 //! known at its place. No judgement depends on how the line was
 //! found: a charge is formed anew, a step is judged as in a tree, and what can be of use of a unit
-//! is computed. Each is exact, by the definitions of `head_rules`. No call takes memory.
+//! is computed. Each is exact, by the definitions of `head_rules`. [`judge_line`] judges one line,
+//! for those who look for lines. No call takes memory.
 //!
 //! Modules: `known`; `charged` forms the charge of a line, `sizes` tests the size of a cap, `trim`
 //! computes what can be of use; `line` judges one line, and `head` all of them.

@@ -19,7 +19,7 @@ A FILE is a plant. Answers go to standard output, faults to standard error.
   show FILE [BUDGET]             the same for people: what is proved, in tables
   check FILE TREE                does the tree prove what it claims?
   report FILE TREE               the network of TREE; for programs: table, json
-  graph FILE, graph FILE TREE    the plant, and the network in it, for Graphviz
+  graph FILE, graph FILE TREE [network]   for Graphviz: the plant, or a network
   rank FILE N [BUDGET]           N best networks; see alternatives, rankcheck
   stable FILE TREE [BUDGET]      how far each price and each cost may move
   edit FILE SCRIPT               the plant after edits; the way back: undo

@@ -45,11 +45,11 @@ pub fn report_page() -> &'static [u8]
 {
     b"pns report FILE TREE
 Says what the tree proves, and shows the network of its claim to people: units,
-materials and money in one year.
+materials and money in one year. Headings have the units of measure of FILE.
   FILE  the plant, PNS_problem_v1
   TREE  a tree text, as solve prints it, or a rank text, as rank prints it
 Prints a line that begins with PROVED (check accepts the tree), NOT FINISHED
-(nodes are open) or NOT PROVED (node N fails, and why); then a table of units,
+(nodes are open) or NOT PROVED (node N or head K fails, why); a table of units,
 one of materials and one of sums. Costs are above 0, incomes below; numbers with
 more than 6 digits show 6. limit names the bound that an amount is at: max, min,
 fixed (both), idle (built, but of size 0), or UNBOUNDED?, at 1000000000.
@@ -94,6 +94,7 @@ report, a fraction here, or null; if the claim has a network, also counts,
 payout_period, units, materials, money, paid_once and left_out. Each number is
 there twice: value has 17 digits, exact is a fraction; both are null if it
 overflows 128 bits. A line has one unit or one material.
+Of a tree with a head the key head has the line of it that fails, or null.
 Of a rank text claim is ranking or alternatives, asked says how many were
 wanted, and networks has place, cost, above, share_above, taken_in, left_out,
 idle of each. The keys from counts on are those of the best one.
@@ -118,9 +119,10 @@ pub fn graph_page() -> &'static [u8]
     ensures { result.now ≡ text_of graph_page }
 {
     b"pns graph FILE
-pns graph FILE TREE
+pns graph FILE TREE [network]
 Prints the maximal structure as a graph for Graphviz, with TREE also the network
-of its claim. The program itself draws nothing.
+of its claim. With the word network after TREE only the network is in the graph.
+The program itself draws nothing.
   FILE  the plant, PNS_problem_v1
   TREE  a tree text, as solve prints it, or a rank text, as rank prints it
 Prints DOT text. Raw materials are houses, products have a double line, units

@@ -5,12 +5,13 @@
 //!
 //! `report_commands` reads the files.
 //!
-//! Modules: `head`, the verdict and the claim; `text`, the whole; `call`, from the tree to the
-//! text.
+//! Modules: `head`, the verdict and the claim; `text`, the whole; `headed`, that of a tree that may
+//! have a head; `call`, from the tree to the text.
 #![tactic(auto)]
 
 mod call;
 mod head;
+mod headed;
 mod text;
 
 pub use call::say_stated;

@@ -34,7 +34,7 @@ fn network_text(
 }
 
 /// The object that begins with the members of the head.
-fn text_behind(
+pub(crate) fn text_behind(
     alloc: Global,
     head: &[Json],
     site: &Site<'_>,

@@ -1,3 +1,4 @@
 mod GraphLines
+mod HeadLemmas
 mod Refusals
 mod TableLines

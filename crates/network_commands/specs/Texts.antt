@@ -10,4 +10,4 @@ use Rattle.studio_rules.specs.Table.{TableWork}
 
 abbrev pub TextWork : NetworkText → Problem → Network → Status → List (List ℕ) → Type 0
 TextWork texts.Table = TableWork
-TextWork texts.Graph = NetworkGraphWork
+TextWork (texts.Graph scene) = NetworkGraphWork scene

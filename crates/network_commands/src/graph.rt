@@ -3,9 +3,10 @@ ghost use Rattle.std.specs.Prelude.{◌≡◌, ◌<◌, ◌^◌, [], ℕ, List, 
 ghost use Rattle.std.specs.Prelude.{length, option_map};
 ghost use Rattle.number_sets.specs.Sets.{has};
 ghost use Rattle.tree_rules.specs.Claim.{IsFeasible};
+ghost use Rattle.report_rules.specs.Graph.{graph_lines};
 ghost use Rattle.studio_rules.specs.Lines.{text_of};
 ghost use Rattle.studio_rules.specs.Reading.{FileSays};
-ghost use Rattle.studio_rules.specs.Graph.{AreGraphLines, PlantGraphWork};
+ghost use Rattle.studio_rules.specs.Graph.{AreGraphLines, AreSceneLines, PlantGraphWork};
 ghost use Rattle.studio_rules.specs.Ending.{Ends, Tells};
 ghost use Rattle.studio_rules.specs.Keeps.{Keeps};
 
@@ -18,7 +19,7 @@ use pgraph::{Graph, Site};
 use pns_io::{Outputs, Shelf, Sink};
 use pns_problem::Problem;
 use std::alloc::{AllocError, Global};
-use studio_rules::Status;
+use studio_rules::{Scene, Status};
 use unit_sets::UnitSet;
 
 /// The graph of the maximal structure, with the network in it if one is given, and with these
@@ -41,22 +42,27 @@ fn drawn(
     }
 }
 
-/// The graph with the network in it.
-pub(crate) fn network_graph(
+/// The graph of the network's own units, with these networks as a table if there are any.
+fn drawn_alone(
     alloc: Global,
     site: &Site<'_>,
     network: &Network,
+    networks: &[Network],
 ) -> Result<Vec<u8>, AllocError>
     requires feasible { IsFeasible site.now network.now }
-    ensures { IfOk result (λ bytes. (lines : List (List ℕ))
-        × AreGraphLines site.now (Some network.now) [] lines × (bytes.items ≡ text_of lines)) }
+    requires few { length networks.now < 2 ^ 32 }
+    ensures { IfOk result
+        (λ bytes. bytes.items ≡ text_of
+        (graph_lines site.now (Some network.now) networks.now (has network.now.units))) }
 {
-    drawn(alloc, site, Some(network), &[])
+    graph_of(alloc, site, Some(network), networks, network.units())
 }
 
-/// The graph with the first network of a list in it, and the list as a table.
+/// The graph of this scene with the first network of a list in it, and the list as a table if it
+/// is not empty.
 pub fn list_graph(
     alloc: Global,
+    scene: Scene,
     site: &Site<'_>,
     first: &Network,
     networks: &[Network],
@@ -64,10 +70,27 @@ pub fn list_graph(
     requires feasible { IsFeasible site.now first.now }
     requires few { length networks.now < 2 ^ 32 }
     ensures { IfOk result (λ bytes. (lines : List (List ℕ))
-        × AreGraphLines site.now (Some first.now) networks.now lines
+        × AreSceneLines scene site.now first.now networks.now lines
         × (bytes.items ≡ text_of lines)) }
 {
-    drawn(alloc, site, Some(first), networks)
+    match scene {
+        Scene::Plant => drawn(alloc, site, Some(first), networks),
+        Scene::Network => drawn_alone(alloc, site, first, networks),
+    }
+}
+
+/// The graph of this scene with the network in it.
+pub(crate) fn network_graph(
+    alloc: Global,
+    scene: Scene,
+    site: &Site<'_>,
+    network: &Network,
+) -> Result<Vec<u8>, AllocError>
+    requires feasible { IsFeasible site.now network.now }
+    ensures { IfOk result (λ bytes. (lines : List (List ℕ))
+        × AreSceneLines scene site.now network.now [] lines × (bytes.items ≡ text_of lines)) }
+{
+    list_graph(alloc, scene, site, network, &[])
 }
 
 fn say_plant<K: Sink, E: Sink>(alloc: Global, out: &mut Outputs<K, E>, problem: &Problem) -> Status

@@ -9,11 +9,13 @@
 //!
 //! Modules: `claim`, which gives the network of a claim or refuses it; `network`, the text of the
 //! network of a claim; `table` and `graph`; `report`, the report of a tree; `verdict_lines`, its
-//! text. For `report`, and for `graph` with a tree, `report_commands` reads the files.
+//! text, and `headed`, that of a tree that may have a head. For `report`, and for `graph` with a
+//! tree, `report_commands` reads the files.
 #![tactic(auto)]
 
 mod claim;
 pub mod graph;
+mod headed;
 mod network;
 mod report;
 pub mod table;
@@ -21,6 +23,7 @@ mod verdict_lines;
 
 pub use claim::{network_of, say_refused};
 pub use graph::list_graph;
+pub use headed::headed_report_text;
 pub use network::{NetworkText, say_claimed};
 pub use report::say_reported;
 pub use verdict_lines::{push_gap_behind, push_low_words, verdict_text};

@@ -17,15 +17,15 @@ use pgraph::{Graph, Site};
 use pns_io::{Outputs, Sink};
 use pns_problem::Problem;
 use std::alloc::{AllocError, Global};
-use studio_rules::Status;
+use studio_rules::{Scene, Status};
 
 /// Which text of a network is printed.
 #[derive(Clone, Copy, Debug, PartialEq, Eq)]
 pub enum NetworkText {
     /// Its units and its materials as tables for a spreadsheet.
     Table,
-    /// The graph with the network in it, for Graphviz.
-    Graph,
+    /// The graph of this scene with the network in it, for Graphviz.
+    Graph(Scene),
 }
 
 /// The text, whole.
@@ -41,7 +41,7 @@ fn text_of(
 {
     match what {
         NetworkText::Table => tables(alloc, site, network),
-        NetworkText::Graph => network_graph(alloc, site, network),
+        NetworkText::Graph(scene) => network_graph(alloc, scene, site, network),
     }
 }
 

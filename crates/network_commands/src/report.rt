@@ -1,18 +1,18 @@
 //! The report of a tree.
 ghost use Rattle.std.specs.Prelude.{◌<◌, ◌^◌, length};
-ghost use Rattle.branch_tree.specs.View.{claim_of};
+ghost use Rattle.tree_reading.specs.Said.{said_by};
 ghost use Rattle.studio_rules.specs.Report.{ReportWork};
 ghost use Rattle.studio_rules.specs.Ending.{Ends, Tells};
 
 use crate::claim::say_refused;
-use crate::verdict_lines::verdict_text;
-use branch_tree::{Claim, Tree};
-use endings::say::{say_memory, say_told};
+use crate::headed::headed_report_text;
+use endings::say::{say_memory, say_text};
 use pns_io::{Outputs, Sink};
 use report_tables::Plant;
 use std::alloc::Global;
 use studio_rules::Status;
-use verdicts::{Unjudged, verdict_of};
+use tree_reading::Headed;
+use verdicts::Unjudged;
 
 /// Prints what the tree proves of the claim, and its network if it has one, or the bounds that
 /// clash; or the first line of the claim that fails.
@@ -20,17 +20,15 @@ pub fn say_reported<K: Sink, E: Sink>(
     alloc: Global,
     out: &mut Outputs<K, E>,
     plant: &Plant<'_>,
-    claim: &Claim,
-    tree: &Tree,
+    text: &Headed,
 ) -> Status
-    requires few { length tree.now < 2 ^ 32 }
+    requires few { length text.now.tree < 2 ^ 32 }
     ensures { Ends
-        (Tells
-        (ReportWork plant.now.measures.now plant.now.site.now (claim_of claim.now) tree.now))
-        out.old out.new result }
+        (Tells (ReportWork plant.now.measures.now plant.now.site.now (said_by text.now))) out.old
+        out.new result }
 {
-    match verdict_of(alloc, plant.site, claim, tree) {
-        Ok(verdict) => say_told(out, verdict_text(alloc, plant, claim, tree, verdict)),
+    match headed_report_text(alloc, plant, &text.claim, &text.head, &text.tree) {
+        Ok(bytes) => say_text(out, &bytes, Status::Done),
         Err(Unjudged::Claim(why)) => say_refused(alloc, out, why),
         Err(Unjudged::Memory) => say_memory(out),
     }

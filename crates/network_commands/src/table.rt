@@ -3,7 +3,7 @@ ghost use Rattle.std.specs.Prelude.{◌≡◌, ℕ, List, IfOk};
 ghost use Rattle.tree_rules.specs.Claim.{IsFeasible};
 ghost use Rattle.studio_rules.specs.Lines.{text_of};
 ghost use Rattle.studio_rules.specs.Reading.{TwoFilesSay};
-ghost use Rattle.studio_rules.specs.TreeFile.{OnTree};
+ghost use Rattle.studio_rules.specs.HeadedFile.{AnyHead, OnHeaded};
 ghost use Rattle.studio_rules.specs.Network.{OnNetwork};
 ghost use Rattle.studio_rules.specs.Table.{AreTables, TableWork};
 ghost use Rattle.studio_rules.specs.Ending.{Ends, Says};
@@ -11,13 +11,14 @@ ghost use Rattle.studio_rules.specs.Keeps.{Keeps};
 
 use crate::network::{NetworkText, say_claimed};
 use branch_tree::Network;
-use command_files::{problem_of, tree_of};
+use command_files::{headed_of, problem_of};
 use pgraph::Site;
 use pns_io::{Outputs, Shelf, Sink};
 use pns_problem::Problem;
 use pns_tables::{material_table, unit_table};
 use std::alloc::{AllocError, Global};
 use studio_rules::Status;
+use tree_reading::Headed;
 
 /// The two tables, with an empty line between them.
 pub(crate) fn tables(
@@ -45,13 +46,17 @@ fn say_tree<F: Shelf, K: Sink, E: Sink>(
     out: &mut Outputs<K, E>,
 ) -> Status
     ensures ends { Ends
-        (Says (OnTree (OnNetwork TableWork) (F.state shelf.old).held name.now problem.now)
+        (Says
+        (OnHeaded (AnyHead (OnNetwork TableWork)) (F.state shelf.old).held name.now problem.now)
         (λ other. other ≡ name.now) (F.state shelf.old) (F.state shelf.new)) out.old out.new
         result }
     ensures keeps { Keeps (F.state shelf.old) (F.state shelf.new) }
 {
-    match tree_of(alloc, shelf, out, name, problem) {
-        Ok((claim, tree)) => say_claimed(alloc, NetworkText::Table, out, problem, claim, &tree),
+    match headed_of(alloc, shelf, out, name, problem) {
+        Ok(text) => {
+            let Headed { claim, tree, .. } = text;
+            say_claimed(alloc, NetworkText::Table, out, problem, claim, &tree)
+        }
         Err(status) => status,
     }
 }
@@ -66,8 +71,8 @@ pub fn table<F: Shelf, K: Sink, E: Sink>(
     out: &mut Outputs<K, E>,
 ) -> Status
     ensures ends { Ends
-        (TwoFilesSay (OnTree (OnNetwork TableWork)) file.now tree.now (F.state shelf.old)
-        (F.state shelf.new)) out.old out.new result }
+        (TwoFilesSay (OnHeaded (AnyHead (OnNetwork TableWork))) file.now tree.now
+        (F.state shelf.old) (F.state shelf.new)) out.old out.new result }
     ensures keeps { Keeps (F.state shelf.old) (F.state shelf.new) }
 {
     match problem_of(alloc, shelf, out, file) {

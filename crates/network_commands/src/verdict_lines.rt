@@ -36,7 +36,12 @@ fn push_least(text: &mut String, problem: &Problem, network: &Network) -> Result
     Ok(())
 }
 
-fn push_proved(text: &mut String, problem: &Problem, claim: &Claim) -> Result<(), AllocError>
+/// Appends that the claim is proved.
+pub(crate) fn push_proved(
+    text: &mut String,
+    problem: &Problem,
+    claim: &Claim,
+) -> Result<(), AllocError>
     ensures { OnOk result
         (string_bytes text.new ≡ string_bytes text.old
         ++ proved_line problem.now (claim_of claim.now)) }
@@ -125,7 +130,8 @@ fn push_unfinished(
     }
 }
 
-fn push_failing(text: &mut String, node: u32, why: Why) -> Result<(), AllocError>
+/// Appends which node fails first, and why.
+pub(crate) fn push_failing(text: &mut String, node: u32, why: Why) -> Result<(), AllocError>
     ensures { OnOk result (string_bytes text.new ≡ string_bytes text.old ++ failing_line node why) }
 {
     text.push_str("NOT PROVED: node ")?;
@@ -191,7 +197,11 @@ fn clash_text(
 }
 
 /// The tables of the network, with its marginals.
-fn network_text(alloc: Global, plant: &Plant<'_>, network: &Network) -> Result<Vec<u8>, AllocError>
+pub(crate) fn network_text(
+    alloc: Global,
+    plant: &Plant<'_>,
+    network: &Network,
+) -> Result<Vec<u8>, AllocError>
     requires feasible { IsFeasible plant.now.site.now network.now }
     ensures { IfOk result
         (λ bytes. (m : Marginals) × AreMarginals plant.now.site.now network.now.units m

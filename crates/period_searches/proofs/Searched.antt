@@ -19,7 +19,7 @@ use Rattle.design_rules.specs.Folded.{folded}
 use Rattle.design_laws.specs.Laws.{LeastNetworkIsLeastDesign, NoNetworkIsNoDesign}
 use Rattle.studio_rules.specs.declared.status.Status.{Status}
 use Rattle.studio_rules.specs.declared.status.Status.TheVariants.{Done, Spent, Past}
-use Rattle.studio_rules.specs.Solve.{Solves, SolveWork}
+use Rattle.studio_rules.specs.Solve.{Solves, PlainWork}
 use Rattle.searches.specs.Found.{certificate_of, CertificateSays, FoundSays}
 use Rattle.searches.proofs.FoundTexts.{solves, holds}
 use Rattle.studio_rules.specs.DesignText.{design_lines}
@@ -81,25 +81,25 @@ module _ (optimal : AcceptedIsOptimal) (budget : ℕ) (p : Problem) (plan : Plan
       record { claim = claim_with best; tree = tree; tail = tails.spent next options } in
       let told : CertificateSays q c s lines =
       some_is (λ d. CertificateSays q d s lines) said.0 c (sym said.1) said.2 in
-      let work : SolveWork budget q Spent lines = (
+      let work : PlainWork budget q Spent lines = (
         c,
         refl,
         holds optimal q valid' budget (found.Spent best tree next options) h c refl,
         told.1,
       ) in
       subst (λ t. PeriodsWork budget p plan t lines) (sym told.0)
-      (subst (λ r. SolveWork budget r Spent lines) whole work)
+      (subst (λ r. PlainWork budget r Spent lines) whole work)
   stopped_text (found.Past best tree node nonbasic place) h not none s lines said =
       let c : Certificate =
       record { claim = claim_with best; tree = tree; tail = tails.past node nonbasic place } in
       let told : CertificateSays q c s lines =
       some_is (λ d. CertificateSays q d s lines) said.0 c (sym said.1) said.2 in
-      let work : SolveWork budget q Past lines = (
+      let work : PlainWork budget q Past lines = (
         c,
         refl,
         holds optimal q valid' budget (found.Past best tree node nonbasic place) h c refl,
         told.1,
       ) in
       subst (λ t. PeriodsWork budget p plan t lines) (sym told.0)
-      (subst (λ r. SolveWork budget r Past lines) whole work)
+      (subst (λ r. PlainWork budget r Past lines) whole work)
   stopped_text found.Memory h not none s lines said = absurd cc

@@ -7,4 +7,4 @@
 
 mod words;
 
-pub use words::{say_head, say_node, tell_node, why_word};
+pub use words::{line_word, say_head, say_node, tell_node, why_word};

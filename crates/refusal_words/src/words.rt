@@ -77,7 +77,8 @@ pub fn tell_node<K: Sink, E: Sink>(
     }
 }
 
-fn line_word(why: LineWhy) -> &'static str
+/// The word for the cause of a line at the head of a tree.
+pub fn line_word(why: LineWhy) -> &'static str
     ensures { result.now ≡ line_word why }
 {
     match why {

@@ -1,10 +1,10 @@
 -- What is printed of a tree or of a ranking, in each form.
-use Rattle.std.proofs.Common.{◌≡◌, ◌∷◌, [], Some, true, false, refl, inl, sym, subst, Bool, ℕ, List}
+use Rattle.std.proofs.Common.{◌≡◌, ◌∷◌, [], true, false, refl, inl, sym, subst, Bool, ℕ, List}
 use Rattle.std.proofs.Common.{length, arith}
 use Rattle.std.specs.Borrow.{Bor}
 use Rattle.problem_rules.specs.Problem.{Problem}
-use Rattle.tree_rules.specs.Accepted.{Tree}
-use Rattle.tree_rules.specs.Claim.{Claim, Network}
+use Rattle.tree_rules.specs.Claim.{Network}
+use Rattle.tree_text_rules.specs.Read.{HeadedCertificate}
 use Rattle.rank_rules.specs.Headed.{is_ranking}
 use Rattle.rank_rules.specs.Networks.{ArePassing}
 use Rattle.rank_rules.specs.Ranked.{NetworkIsFault}
@@ -21,7 +21,7 @@ use Rattle.report_commands.specs.declared.form.Form.TheVariants.{Report, Json, G
 use Rattle.report_commands.specs.declared.form.Reader.{Reader}
 use Rattle.report_commands.specs.declared.form.Reader.TheVariants.{People, Programs}
 use Rattle.studio_rules.specs.Network.{OnNetwork}
-use Rattle.studio_rules.specs.Graph.{AreGraphLines, NetworkGraphWork}
+use Rattle.studio_rules.specs.Graph.{AreSceneLines, NetworkGraphWork}
 use Rattle.studio_rules.specs.RankGraph.{DrawsFirst}
 use Rattle.studio_rules.specs.Json.{JsonWork}
 use Rattle.studio_rules.specs.RankJson.{RankJsonWork}
@@ -30,7 +30,9 @@ use Rattle.studio_rules.specs.Reading.{IsLong}
 use Rattle.studio_rules.specs.RankWords.{network_line}
 use Rattle.studio_rules.specs.Report.{ReportWork}
 use Rattle.studio_rules.specs.TextFile.{by_kind, RankSays, EitherSays}
-use Rattle.studio_rules.specs.TreeFile.{TreeSays, tree_limit}
+use Rattle.studio_rules.specs.TreeFile.{tree_limit}
+use Rattle.studio_rules.specs.HeadedFile.{HeadedSays}
+use Rattle.studio_rules.specs.declared.scene.Scene.{Scene}
 use Rattle.studio_rules.specs.declared.status.Status.{Status}
 use Rattle.studio_rules.specs.declared.status.Status.TheVariants.{Done, BadClaim, TooLong}
 
@@ -42,22 +44,18 @@ first_feasible distinct p (w ∷ ws) h = h.0
 
 -- of a tree, in the form that is wanted
 pub as_report : (form : Form) (ms : Bor Measures) → form ≡ Report ms → (p : Problem)
-    (claim : Claim) (tree : Tree) (s : Status) (lines : List (List ℕ))
-    → ReportWork ms.now p claim tree s lines → TreeWork form p claim tree s lines
-as_report form ms e p claim tree s lines h =
-    subst (λ (f : Form). TreeWork f p claim tree s lines) (sym e) h
+    (t : HeadedCertificate) (s : Status) (lines : List (List ℕ))
+    → ReportWork ms.now p t s lines → TreeWork form p t s lines
+as_report form ms e p t s lines h = subst (λ (f : Form). TreeWork f p t s lines) (sym e) h
 
-pub as_json : (form : Form) → form ≡ Json → (p : Problem) (claim : Claim) (tree : Tree)
-    (s : Status) (lines : List (List ℕ)) → JsonWork p claim tree s lines
-    → TreeWork form p claim tree s lines
-as_json form e p claim tree s lines h =
-    subst (λ (f : Form). TreeWork f p claim tree s lines) (sym e) h
+pub as_json : (form : Form) → form ≡ Json → (p : Problem) (t : HeadedCertificate) (s : Status)
+    (lines : List (List ℕ)) → JsonWork p t s lines → TreeWork form p t s lines
+as_json form e p t s lines h = subst (λ (f : Form). TreeWork f p t s lines) (sym e) h
 
-pub as_graph : (form : Form) → form ≡ Graph → (p : Problem) (claim : Claim) (tree : Tree)
-    (s : Status) (lines : List (List ℕ)) → OnNetwork NetworkGraphWork p claim tree s lines
-    → TreeWork form p claim tree s lines
-as_graph form e p claim tree s lines h =
-    subst (λ (f : Form). TreeWork f p claim tree s lines) (sym e) h
+pub as_graph : (form : Form) (scene : Scene) → form ≡ Graph scene → (p : Problem)
+    (t : HeadedCertificate) (s : Status) (lines : List (List ℕ))
+    → OnNetwork (NetworkGraphWork scene) p t.claim t.tree s lines → TreeWork form p t s lines
+as_graph form scene e p t s lines h = subst (λ (f : Form). TreeWork f p t s lines) (sym e) h
 
 -- of a ranking with its verdict
 pub done : (reader : Reader) (p : Problem) (t : Text) (verdict : RankVerdict)
@@ -77,11 +75,12 @@ none_of [] e = refl
 none_of (w ∷ ws) e = absurd (omega arith)
 
 -- the first of some networks is drawn
-pub draws_first : (p : Problem) (w : Network) (rest ws : List Network) (lines : List (List ℕ))
-    → ws ≡ w ∷ rest → AreGraphLines p (Some w) ws lines → DrawsFirst p ws lines
-draws_first p w rest ws lines e h =
-    subst (λ (vs : List Network). DrawsFirst p vs lines) (sym e)
-    (subst (λ (vs : List Network). AreGraphLines p (Some w) vs lines) e h)
+pub draws_first : (scene : Scene) (p : Problem) (w : Network) (rest ws : List Network)
+    (lines : List (List ℕ)) → ws ≡ w ∷ rest → AreSceneLines scene p w ws lines
+    → DrawsFirst scene p ws lines
+draws_first scene p w rest ws lines e h =
+    subst (λ (vs : List Network). DrawsFirst scene p vs lines) (sym e)
+    (subst (λ (vs : List Network). AreSceneLines scene p w vs lines) e h)
 
 module _ (form : Form) (name : List ℕ) (p : Problem) (file : List ℕ) where
   -- of a ranking, and of a tree
@@ -90,14 +89,14 @@ module _ (form : Form) (name : List ℕ) (p : Problem) (file : List ℕ) where
       → EitherSays (TreeWork form) (RankWork form) name p file s lines
   of_ranking e s lines h =
       subst (λ (kind : Bool). by_kind kind (RankSays (RankWork form) name p file s lines)
-      (TreeSays (TreeWork form) name p file s lines)) (sym e) h
+      (HeadedSays (TreeWork form) name p file s lines)) (sym e) h
 
   pub of_tree : is_ranking file ≡ false → (s : Status) (lines : List (List ℕ))
-      → TreeSays (TreeWork form) name p file s lines
+      → HeadedSays (TreeWork form) name p file s lines
       → EitherSays (TreeWork form) (RankWork form) name p file s lines
   of_tree e s lines h =
       subst (λ (kind : Bool). by_kind kind (RankSays (RankWork form) name p file s lines)
-      (TreeSays (TreeWork form) name p file s lines)) (sym e) h
+      (HeadedSays (TreeWork form) name p file s lines)) (sym e) h
 
 module _ (name : List ℕ) (p : Problem) (file : List ℕ) where
   -- of a table, and of any other text
@@ -125,16 +124,17 @@ module _ (name : List ℕ) (p : Problem) (file : List ℕ) where
       → AnySays name p file s lines → FormSays form name p file s lines
   in_json form e s lines h = subst (λ (f : Form). FormSays f name p file s lines) (sym e) h
 
-  pub in_graph : (form : Form) → form ≡ Graph → (s : Status) (lines : List (List ℕ))
-      → EitherSays (TreeWork Graph) (RankWork Graph) name p file s lines
+  pub in_graph : (form : Form) (scene : Scene) → form ≡ Graph scene → (s : Status)
+      (lines : List (List ℕ))
+      → EitherSays (TreeWork (Graph scene)) (RankWork (Graph scene)) name p file s lines
       → FormSays form name p file s lines
-  in_graph form e s lines h = subst (λ (f : Form). FormSays f name p file s lines) (sym e) h
+  in_graph form scene e s lines h = subst (λ (f : Form). FormSays f name p file s lines) (sym e) h
 
   -- of a file above the limit
   long_kind : (form : Form) (kind : Bool) (lines : List (List ℕ))
       → IsLong name tree_limit file lines
       → by_kind kind (RankSays (RankWork form) name p file TooLong lines)
-      (TreeSays (TreeWork form) name p file TooLong lines)
+      (HeadedSays (TreeWork form) name p file TooLong lines)
   long_kind form true lines h = inl h
   long_kind form false lines h = inl h
 
@@ -148,4 +148,4 @@ module _ (name : List ℕ) (p : Problem) (file : List ℕ) where
       → FormSays form name p file TooLong lines
   of_long (Report ms) lines h = long_kind (Report ms) (is_ranking file) lines h
   of_long Json lines h = long_any (is_table file) lines h
-  of_long Graph lines h = long_kind Graph (is_ranking file) lines h
+  of_long (Graph scene) lines h = long_kind (Graph scene) (is_ranking file) lines h

@@ -2,6 +2,7 @@
 ghost use Rattle.std.specs.Prelude.{◌≡◌};
 ghost use Rattle.report_commands.specs.Works.{OnForm};
 ghost use Rattle.studio_rules.specs.Reading.{TwoFilesSay, TwoTextsSay};
+ghost use Rattle.studio_rules.specs.HeadedFile.{AnyHead};
 ghost use Rattle.studio_rules.specs.Network.{OnNetwork};
 ghost use Rattle.studio_rules.specs.Graph.{NetworkGraphWork};
 ghost use Rattle.studio_rules.specs.Report.{ReportWork};
@@ -20,7 +21,7 @@ use pns_io::{Outputs, Shelf, Sink};
 use pns_problem::Problem;
 use report_tables::Measures;
 use std::alloc::Global;
-use studio_rules::Status;
+use studio_rules::{Scene, Status};
 
 /// The most bytes of a file that has a tree, a ranking or a table.
 const TEXT_LIMIT: u64 = 268_435_456;
@@ -148,23 +149,34 @@ pub fn json<F: Shelf, K: Sink, E: Sink>(
     say_text(alloc, file, &wanted, shelf, out)
 }
 
-/// Prints the graph of the plant of the one file for Graphviz, with the network in it that the tree
-/// of the other file claims, or with the first network of a ranking and a table of all.
+/// A graph that is wanted: of this scene, with the network of the file of this name.
+#[derive(Clone, Copy)]
+pub struct Drawing<'a> {
+    pub text: &'a str,
+    pub scene: Scene,
+}
+
+/// Prints for Graphviz the graph of the plant of the one file, with the network in it that the tree
+/// of the other file claims, or with the first network of a ranking and a table of all; or the
+/// graph of that network alone.
 pub fn graph<F: Shelf, K: Sink, E: Sink>(
     alloc: Global,
     file: &str,
-    text: &str,
+    drawing: Drawing<'_>,
     shelf: &mut F,
     out: &mut Outputs<K, E>,
 ) -> Status
     ensures ends { Ends
-        (TwoFilesSay (OnEither (OnNetwork NetworkGraphWork) RankGraphWork) file.now text.now
-        (F.state shelf.old) (F.state shelf.new)) out.old out.new result }
+        (TwoFilesSay
+        (OnEither (AnyHead (OnNetwork (NetworkGraphWork drawing.entry.scene)))
+        (RankGraphWork drawing.entry.scene))
+        file.now drawing.entry.text.now (F.state shelf.old) (F.state shelf.new)) out.old out.new
+        result }
     ensures keeps { Keeps (F.state shelf.old) (F.state shelf.new) }
 {
     let wanted = Wanted {
-        form: Form::Graph,
-        name: text,
+        form: Form::Graph(drawing.scene),
+        name: drawing.text,
     };
     say_text(alloc, file, &wanted, shelf, out)
 }

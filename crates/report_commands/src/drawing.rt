@@ -12,23 +12,25 @@ use pns_io::{Outputs, Sink};
 use rank_check::judge_networks;
 use ranked_tree::RankText;
 use std::alloc::Global;
-use studio_rules::Status;
+use studio_rules::{Scene, Status};
 use tree_rules::Why;
 
-/// Prints the graph with the first network in it, and all as a table; or that there is none.
+/// Prints the graph of this scene with the first network in it, and all as a table; or that there
+/// is none.
 fn say_first<K: Sink, E: Sink>(
     alloc: Global,
+    scene: Scene,
     out: &mut Outputs<K, E>,
     site: &Site<'_>,
     ranking: &RankText,
 ) -> Status
     requires listed { ArePassing ranking.now.distinct site.now [] ranking.now.networks }
-    ensures { Ends (Tells (RankGraphWork site.now ranking.now)) out.old out.new result }
+    ensures { Ends (Tells (RankGraphWork scene site.now ranking.now)) out.old out.new result }
 {
     ranking.is_counted();
     let networks = ranking.networks();
     match networks.split_first() {
-        Some((first, _)) => say_told(out, list_graph(alloc, site, first, networks)),
+        Some((first, _)) => say_told(out, list_graph(alloc, scene, site, first, networks)),
         None => say_refused(alloc, out, Why::Unknown),
     }
 }
@@ -36,15 +38,16 @@ fn say_first<K: Sink, E: Sink>(
 /// The same, or the first network that fails.
 pub(crate) fn say_drawn<K: Sink, E: Sink>(
     alloc: Global,
+    scene: Scene,
     out: &mut Outputs<K, E>,
     site: &Site<'_>,
     ranking: &RankText,
 ) -> Status
-    ensures { Ends (Tells (RankGraphWork site.now ranking.now)) out.old out.new result }
+    ensures { Ends (Tells (RankGraphWork scene site.now ranking.now)) out.old out.new result }
 {
     ranking.is_counted();
     match judge_networks(site, ranking.is_distinct(), ranking.networks()) {
-        Ok(()) => say_first(alloc, out, site, ranking),
+        Ok(()) => say_first(alloc, scene, out, site, ranking),
         Err((number, why)) => say_network(alloc, out, number, why),
     }
 }

@@ -1,4 +1,5 @@
 use report_tables::Measures;
+use studio_rules::Scene;
 
 /// What is printed of a tree or of a ranking.
 #[derive(Clone, Copy)]
@@ -7,8 +8,8 @@ pub enum Form<'a> {
     Report(&'a Measures),
     /// The same for programs.
     Json,
-    /// Its network in the graph of the plant.
-    Graph,
+    /// Its network in the graph of this scene.
+    Graph(Scene),
 }
 
 /// For whom it is printed what a ranking proves.

@@ -6,9 +6,10 @@
 //!
 //! Of a tree they print what `network_commands` and `json_commands` print. Of a ranking `report`
 //! and `json` print what its tree proves, a table of its networks, and the facts of the first;
-//! `graph` prints the graph with the first in it and the table. In `studio_rules`, `TextFile` has
-//! what is a ranking, and `RankReport`, `RankJson` and `RankGraph` have the lines of one. `json`
-//! also prints a table of ranges, of which nothing is judged (`RangesJson`).
+//! `graph` prints the graph with the first in it, or of the first alone, and the table. In
+//! `studio_rules`, `TextFile` has what is a ranking, and `RankReport`, `RankJson` and `RankGraph`
+//! have the lines of one. `json` also prints a table of ranges, of which nothing is judged
+//! (`RangesJson`).
 //!
 //! Modules: `form`, which of them is printed; `words`, the first line of a ranking; `first`, the
 //! marginals of its first network; `report` and `object`, two texts of a ranking; `drawing`, its

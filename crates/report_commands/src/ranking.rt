@@ -117,7 +117,7 @@ fn say_ranked<K: Sink, E: Sink>(
             say_judged(alloc, Reader::People(measures), out, &site, ranking)
         }
         Form::Json => say_judged(alloc, Reader::Programs, out, &site, ranking),
-        Form::Graph => say_drawn(alloc, out, &site, ranking),
+        Form::Graph(scene) => say_drawn(alloc, scene, out, &site, ranking),
     }
 }
 

@@ -2,7 +2,7 @@
 ghost use Rattle.std.specs.Prelude.{◌≤◌, ℕ, List, length};
 ghost use Rattle.report_commands.specs.Works.{TreeWork, RankWork, FormSays};
 ghost use Rattle.studio_rules.specs.RangesJson.{AnySays};
-ghost use Rattle.studio_rules.specs.TreeFile.{TreeSays};
+ghost use Rattle.studio_rules.specs.HeadedFile.{HeadedSays};
 ghost use Rattle.studio_rules.specs.TextFile.{EitherSays};
 ghost use Rattle.studio_rules.specs.Ending.{Ends, Tells};
 
@@ -22,9 +22,10 @@ use rank_text::is_ranking;
 use report_tables::Plant;
 use std::alloc::Global;
 use studio_rules::Status;
-use tree_reading::{TreeFault, read_tree};
+use tree_reading::{Headed, TreeFault, read_headed};
 
-/// Prints the claim and the tree of the bytes of a file in this form, or their first fault.
+/// Prints the tree of the bytes of a file in this form, with the head that it may have, or their
+/// first fault.
 fn say_tree<K: Sink, E: Sink>(
     alloc: Global,
     form: Form<'_>,
@@ -34,11 +35,11 @@ fn say_tree<K: Sink, E: Sink>(
 ) -> Status
     requires { length bytes.now ≤ 268435456 }
     ensures { (name : List ℕ)
-        → Ends (Tells (TreeSays (TreeWork form.entry) name problem.now bytes.now)) out.old out.new
+        → Ends (Tells (HeadedSays (TreeWork form.entry) name problem.now bytes.now)) out.old out.new
         result }
 {
-    match read_tree(alloc, problem, bytes) {
-        Ok((claim, tree, _)) => match form {
+    match read_headed(alloc, problem, bytes) {
+        Ok(text) => match form {
             Form::Report(measures) => {
                 let Ok(graph) = Graph::of(alloc, problem) else {
                     return say_memory(out);
@@ -48,10 +49,13 @@ fn say_tree<K: Sink, E: Sink>(
                     site: &site,
                     measures,
                 };
-                say_reported(alloc, out, &plant, &claim, &tree)
+                say_reported(alloc, out, &plant, &text)
             }
-            Form::Json => say_stated(alloc, out, problem, &claim, &tree),
-            Form::Graph => say_claimed(alloc, NetworkText::Graph, out, problem, claim, &tree),
+            Form::Json => say_stated(alloc, out, problem, &text),
+            Form::Graph(scene) => {
+                let Headed { claim, tree, .. } = text;
+                say_claimed(alloc, NetworkText::Graph(scene), out, problem, claim, &tree)
+            }
         },
         Err(TreeFault::At { line, kind }) => {
             let source = Source {
@@ -118,6 +122,6 @@ pub(crate) fn say_any<K: Sink, E: Sink>(
     match form {
         Form::Report(measures) => say_either(alloc, Form::Report(measures), out, problem, bytes),
         Form::Json => say_object(alloc, out, problem, bytes),
-        Form::Graph => say_either(alloc, Form::Graph, out, problem, bytes),
+        Form::Graph(scene) => say_either(alloc, Form::Graph(scene), out, problem, bytes),
     }
 }

@@ -4,6 +4,7 @@ pub mod Clash
 pub mod Decimal
 pub mod Drawn
 pub mod Graph
+pub mod HeadedVerdict
 pub mod Lower
 pub mod Marginal
 pub mod Measures

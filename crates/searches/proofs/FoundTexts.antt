@@ -24,7 +24,7 @@ use Rattle.studio_rules.specs.Printed.{spelled, OneAnswer}
 use Rattle.studio_rules.specs.declared.status.Status.{Status}
 use Rattle.studio_rules.specs.declared.status.Status.TheVariants.{Done, Spent, Past}
 use Rattle.endings.proofs.Printing.{spelled_text}
-use Rattle.studio_rules.specs.Solve.{AreTextOf, Solves, Holds, status_of, SolveWork}
+use Rattle.studio_rules.specs.Solve.{AreTextOf, Solves, Holds, status_of, PlainWork}
 use Rattle.studio_rules.specs.Summary.{SummaryWork}
 use Rattle.searches.specs.Found.{certificate_of, CertificateSays, FoundSays}
 
@@ -117,7 +117,7 @@ module _ (optimal : AcceptedIsOptimal) (p : Problem) (valid : IsValid p) where
   holds budget found.Memory h c e = absurd cc
 
   pub found_solves : (budget : ℕ) (f : Found) → IsFound p first_node budget f
-      → (s : Status) (lines : List (List ℕ)) → FoundSays p f s lines → SolveWork budget p s lines
+      → (s : Status) (lines : List (List ℕ)) → FoundSays p f s lines → PlainWork budget p s lines
   found_solves budget f h s lines said =
       (said.0, said.2.0, holds budget f h said.0 said.1, said.2.1)
 

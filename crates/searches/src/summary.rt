@@ -13,7 +13,7 @@ ghost use Rattle.studio_rules.specs.Lines.{text_of};
 ghost use Rattle.studio_rules.specs.Ending.{Ends, Tells};
 
 use crate::certificate::say_found;
-use crate::solve::search_all;
+use crate::search::search_all;
 use abb_search::Found;
 use branch_tree::{Network, Tree};
 use endings::line::push_unit_names;

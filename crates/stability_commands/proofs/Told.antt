@@ -15,7 +15,7 @@ use Rattle.tree_text_rules.specs.Spelling.{tree_text, tree_text_lines}
 use Rattle.abb_search.specs.declared.outcome.Found.{Found}
 use Rattle.abb_search.specs.declared.outcome.Found.TheVariants as founds
 use Rattle.abb_search.specs.Found.{IsFound}
-use Rattle.studio_rules.specs.Solve.{status_of, SolveWork}
+use Rattle.studio_rules.specs.Solve.{status_of, PlainWork}
 use Rattle.searches.specs.Found.{certificate_of}
 use Rattle.searches.proofs.FoundTexts.{CanPrint, can_print, found_solves, are_text}
 use Rattle.stability_rules.specs.declared.spot.Spot.{Spot}
@@ -97,7 +97,7 @@ module _ (p : Problem) (spot : Spot) (w : Network) (budget : ℕ) where
         → SpotWork spot budget p w s lines
     spent_told best tree next options h s lines said =
         let f : Found = founds.Spent best tree next options in
-        let work : SolveWork budget q s said.0 =
+        let work : PlainWork budget q s said.0 =
         found_solves optimal q valid budget f h s said.0 said.1 in
         let is : s ≡ Spent = said.1.2.0
         ∙ some_is (λ (d : Certificate). status_of d.tail ≡ Spent) _ said.1.0 said.1.1 refl in
@@ -106,7 +106,7 @@ module _ (p : Problem) (spot : Spot) (w : Network) (budget : ℕ) where
           said.0,
           allowed,
           wants,
-          subst (λ (t : Status). SolveWork budget q t said.0) is work,
+          subst (λ (t : Status). PlainWork budget q t said.0) is work,
           said.2,
         )
 
@@ -119,7 +119,7 @@ module _ (p : Problem) (spot : Spot) (w : Network) (budget : ℕ) where
         lines → SpotWork spot budget p w s lines
     past_told best tree node nonbasic place h s lines said =
         let f : Found = founds.Past best tree node nonbasic place in
-        let work : SolveWork budget q s said.0 =
+        let work : PlainWork budget q s said.0 =
         found_solves optimal q valid budget f h s said.0 said.1 in
         let is : s ≡ Past = said.1.2.0
         ∙ some_is (λ (d : Certificate). status_of d.tail ≡ Past) _ said.1.0 said.1.1 refl in
@@ -129,6 +129,6 @@ module _ (p : Problem) (spot : Spot) (w : Network) (budget : ℕ) where
           said.0,
           allowed,
           wants,
-          subst (λ (t : Status). SolveWork budget q t said.0) is work,
+          subst (λ (t : Status). PlainWork budget q t said.0) is work,
           said.2,
         ))

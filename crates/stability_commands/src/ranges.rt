@@ -3,7 +3,7 @@ ghost use Rattle.std.specs.Prelude.{◌≡◌, ◌≤◌};
 ghost use Rattle.tree_rules.specs.Claim.{IsFeasible};
 ghost use Rattle.branch_tree.specs.View.{claim_of};
 ghost use Rattle.studio_rules.specs.Reading.{TwoFilesSay};
-ghost use Rattle.studio_rules.specs.TreeFile.{OnTree};
+ghost use Rattle.studio_rules.specs.HeadedFile.{AnyHead, OnHeaded};
 ghost use Rattle.studio_rules.specs.Network.{OnNetwork};
 ghost use Rattle.studio_rules.specs.StableTable.{RangesWork};
 ghost use Rattle.studio_rules.specs.Ending.{Ends, Says, Tells};
@@ -13,7 +13,7 @@ use crate::cells::TableFault;
 use crate::stable::say_not_best;
 use crate::table::table_of;
 use branch_tree::{Claim, Network, Tree};
-use command_files::{problem_of, tree_of};
+use command_files::{headed_of, problem_of};
 use endings::say::{say_memory, say_text};
 use network_commands::network_of;
 use pgraph::{Graph, Site};
@@ -22,6 +22,7 @@ use pns_problem::Problem;
 use progress::{Effort, Watch};
 use std::alloc::Global;
 use studio_rules::Status;
+use tree_reading::Headed;
 
 /// The tree of a call, and what its searches may take.
 #[derive(Drop)]
@@ -85,13 +86,17 @@ fn say_tree<F: Shelf, K: Sink, E: Sink, W: Watch>(
     requires some { 1 ≤ asked.effort.budget }
     ensures ends { Ends
         (Says
-        (OnTree (OnNetwork (RangesWork asked.entry.effort.budget)) (F.state shelf.old).held
-        asked.entry.tree.now problem.now) (λ other. other ≡ asked.entry.tree.now)
-        (F.state shelf.old) (F.state shelf.new)) out.old out.new result }
+        (OnHeaded (AnyHead (OnNetwork (RangesWork asked.entry.effort.budget)))
+        (F.state shelf.old).held asked.entry.tree.now problem.now)
+        (λ other. other ≡ asked.entry.tree.now) (F.state shelf.old) (F.state shelf.new)) out.old
+        out.new result }
     ensures keeps { Keeps (F.state shelf.old) (F.state shelf.new) }
 {
-    match tree_of(alloc, shelf, out, asked.tree, problem) {
-        Ok(claimed) => say_claimed(alloc, out, problem, claimed, asked.effort),
+    match headed_of(alloc, shelf, out, asked.tree, problem) {
+        Ok(text) => {
+            let Headed { claim, tree, .. } = text;
+            say_claimed(alloc, out, problem, (claim, tree), asked.effort)
+        }
         Err(status) => status,
     }
 }
@@ -107,8 +112,9 @@ pub fn ranges<F: Shelf, K: Sink, E: Sink, W: Watch>(
 ) -> Status
     requires some { 1 ≤ asked.effort.budget }
     ensures ends { Ends
-        (TwoFilesSay (OnTree (OnNetwork (RangesWork asked.entry.effort.budget))) file.now
-        asked.entry.tree.now (F.state shelf.old) (F.state shelf.new)) out.old out.new result }
+        (TwoFilesSay (OnHeaded (AnyHead (OnNetwork (RangesWork asked.entry.effort.budget))))
+        file.now asked.entry.tree.now (F.state shelf.old) (F.state shelf.new)) out.old out.new
+        result }
     ensures keeps { Keeps (F.state shelf.old) (F.state shelf.new) }
 {
     match problem_of(alloc, shelf, out, file) {

@@ -8,7 +8,7 @@ ghost use Rattle.tree_rules.specs.Accepted.{first_node};
 ghost use Rattle.branch_tree.specs.View.{claim_of};
 ghost use Rattle.abb_search.specs.Found.{IsFound};
 ghost use Rattle.studio_rules.specs.Reading.{TwoFilesSay};
-ghost use Rattle.studio_rules.specs.TreeFile.{OnTree};
+ghost use Rattle.studio_rules.specs.HeadedFile.{AnyHead, OnHeaded};
 ghost use Rattle.studio_rules.specs.Network.{OnNetwork};
 ghost use Rattle.stability_rules.specs.Spot.{KnowsSpot, IsAllowedValue, valued};
 ghost use Rattle.stability.specs.Refusal.{IsRefusal};
@@ -23,7 +23,7 @@ ghost use Rattle.studio_rules.specs.Keeps.{Keeps};
 use crate::text::{print_not_best, print_past_cost, print_range, print_stopped};
 use abb_search::Found;
 use branch_tree::{Claim, Network, Tree};
-use command_files::{problem_of, tree_of};
+use command_files::{headed_of, problem_of};
 use endings::say::{say_memory, say_printed, tell};
 use messages::{Notes, unknown_material, unknown_unit};
 use network_commands::network_of;
@@ -38,6 +38,7 @@ use stability_rules::SpotKind;
 use std::alloc::Global;
 use studio_rules::Status;
 use tree_laws::accepted_is_optimal;
+use tree_reading::Headed;
 use tree_text::PrintFault;
 
 /// The spot of this kind and name. It is `None` if and only if the problem has no such material or
@@ -279,13 +280,14 @@ fn say_tree<F: Shelf, K: Sink, E: Sink, W: Watch>(
     requires few { effort.budget ≤ 1000000 }
     ensures ends { Ends
         (Says
-        (OnTree (StableWork kind name.now effort.budget) (F.state shelf.old).held file.now
-        problem.now) (λ other. other ≡ file.now) (F.state shelf.old) (F.state shelf.new)) out.old
-        out.new result }
+        (OnHeaded (AnyHead (StableWork kind name.now effort.budget)) (F.state shelf.old).held
+        file.now problem.now) (λ other. other ≡ file.now) (F.state shelf.old) (F.state shelf.new))
+        out.old out.new result }
     ensures keeps { Keeps (F.state shelf.old) (F.state shelf.new) }
 {
-    match tree_of(alloc, shelf, out, file, problem) {
-        Ok((claim, tree)) => {
+    match headed_of(alloc, shelf, out, file, problem) {
+        Ok(text) => {
+            let Headed { claim, tree, .. } = text;
             let spot = spot_named(problem, kind, name);
             let notes = unknown_name(alloc, problem, kind, name);
             say_named(alloc, out, problem, claim, &tree, spot, effort, &notes)
@@ -310,8 +312,8 @@ pub fn stable<F: Shelf, K: Sink, E: Sink, W: Watch>(
     requires some { 1 ≤ effort.budget }
     requires few { effort.budget ≤ 1000000 }
     ensures ends { Ends
-        (TwoFilesSay (OnTree (StableWork kind name.now effort.budget)) file.now tree.now
-        (F.state shelf.old) (F.state shelf.new)) out.old out.new result }
+        (TwoFilesSay (OnHeaded (AnyHead (StableWork kind name.now effort.budget))) file.now
+        tree.now (F.state shelf.old) (F.state shelf.new)) out.old out.new result }
     ensures keeps { Keeps (F.state shelf.old) (F.state shelf.new) }
 {
     match problem_of(alloc, shelf, out, file) {

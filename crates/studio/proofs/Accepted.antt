@@ -16,7 +16,7 @@ use Rattle.head_laws.specs.Laws.{EmptyHeadProves, PassingTreeHasNoFaultBy}
 use Rattle.tree_text_laws.specs.Laws.{PlainTextsAreHeaded}
 use Rattle.tree_rules.specs.Tail.{Tail, whole, spent, past}
 use Rattle.tree_text_rules.specs.Read as trees
-use Rattle.studio_rules.specs.Solve.{Holds, status_of}
+use Rattle.studio_rules.specs.Solve.{Holds, status_of, SolveWork}
 use Rattle.studio_rules.specs.Lines.{text_of}
 use Rattle.studio_rules.specs.declared.status.Status.{Status}
 use Rattle.studio_rules.specs.declared.status.Status.TheVariants.{Done, Refused, BadProblem}
@@ -46,7 +46,7 @@ pub one_problem : (file : List ℕ) (p q : Problem) → GivesProblem file p → 
     → q ≡ p
 one_problem file p q given other = let e : Ok q ≡ Ok p = sym other.reads ∙ given.reads in cc
 
--- the certificate of a text with status 0
+-- the certificate of a plain text with status 0
 proves : (budget : ℕ) (p : Problem) (claim : Claim) (tree : Tree) (tail : Tail)
     → Done ≡ status_of tail → Holds budget p claim tree tail → IsAccepted p first_node claim tree
 proves budget p claim tree whole e holds = holds.proved.accepted
@@ -84,43 +84,62 @@ module _ (laws : HeadLaws) where
   abbrev without_head : trees.Certificate → trees.HeadedCertificate
   without_head c = record { claim = c.claim; head = []; tree = c.tree; tail = c.tail }
 
+  -- a text that reads as a certificate which is accepted
+  read_headed : (p : Problem) (c : trees.HeadedCertificate) (name file : List ℕ) (s : Status)
+      (lines : List (List ℕ)) → trees.read_headed_text p file ≡ Ok c
+      → IsAcceptedBy p c.claim c.head c.tree → HeadedSays CheckWork name p file s lines
+      → IsAcceptedOrLong name file s lines
+  read_headed p c name file TooLong lines reads accepted (inl fault) =
+      inr (fault.0, refl, fault.1)
+  read_headed p c name file BadTree lines reads accepted (inl fault) =
+      let e : ◌≡◌ {A = Result trees.HeadedCertificate trees.Fault} (Ok c)
+      (Err (fault.1.0, fault.1.1)) = sym reads ∙ fault.1.2 in cc
+  read_headed p c name file s lines reads accepted (inl fault) = absurd fault
+  read_headed p c name file s lines reads accepted (inr (t, given, work)) =
+      let same : ◌≡◌ {A = Result trees.HeadedCertificate trees.Fault} (Ok c) (Ok t) =
+      sym reads ∙ given.1 in
+      let one : c ≡ t = cc in
+      checked p t name file s lines given.0
+      (subst (λ (d : trees.HeadedCertificate). IsAcceptedBy p d.claim d.head d.tree) one accepted)
+      work
+
   pub read : (p : Problem) → IsValid p → (c : trees.Certificate) (name file : List ℕ) (s : Status)
       (lines : List (List ℕ)) → trees.read_text p file ≡ Ok c
       → IsAccepted p first_node c.claim c.tree → HeadedSays CheckWork name p file s lines
       → IsAcceptedOrLong name file s lines
-  read p valid c name file TooLong lines reads accepted (inl fault) = inr (fault.0, refl, fault.1)
-  read p valid c name file BadTree lines reads accepted (inl fault) =
-      let e : ◌≡◌ {A = Result trees.HeadedCertificate trees.Fault} (Ok (without_head c))
-      (Err (fault.1.0, fault.1.1)) =
-      sym (laws.plain p valid file c reads) ∙ fault.1.2 in cc
-  read p valid c name file s lines reads accepted (inl fault) = absurd fault
-  read p valid c name file s lines reads accepted (inr (t, given, work)) =
-      let same : Ok (without_head c) ≡ Ok t = sym (laws.plain p valid file c reads) ∙ given.1 in
-      let one : without_head c ≡ t = cc in
-      checked p t name file s lines given.0
-      (subst (λ (d : trees.HeadedCertificate). IsAcceptedBy p d.claim d.head d.tree) one
-      ((laws.empty false p first_node c.claim c.tree).0 accepted))
-      work
+  read p valid c name file s lines reads accepted judged =
+      read_headed p (without_head c) name file s lines (laws.plain p valid file c reads)
+      ((laws.empty false p first_node c.claim c.tree).0 accepted) judged
+
+  -- what `solve` prints with status 0
+  read_solved : (budget : ℕ) (p : Problem) → IsValid p → (solved : List (List ℕ)) (name : List ℕ)
+      (s : Status) (lines : List (List ℕ)) → SolveWork budget p Done solved
+      → HeadedSays CheckWork name p (text_of solved) s lines
+      → IsAcceptedOrLong name (text_of solved) s lines
+  read_solved budget p valid solved name s lines (inl (c, e, holds, are)) judged =
+      read p valid c name (text_of solved) s lines are.reads
+      (proves budget p c.claim c.tree c.tail e holds) judged
+  read_solved budget p valid solved name s lines (inr (c, e, is_whole, solves, are)) judged =
+      read_headed p c name (text_of solved) s lines are.reads solves.proved.accepted judged
 
   pub solved_is_accepted : SolvedIsAccepted
   solved_is_accepted held file tree bytes budget solved is (f, there, inl fault) text s lines said =
       absurd fault
   solved_is_accepted held file tree bytes budget solved is
-      (f, there, inr (p, given, (c, e, holds, are))) text s lines (g, again, inl fault) =
+      (f, there, inr (p, given, work)) text s lines (g, again, inl fault) =
       let same : g ≡ f = is_held (held file) bytes g is again
       ∙ sym (is_held (held file) bytes f is there) in
       absurd
       (no_fault file f p s lines given
       (subst (λ (b : List ℕ). FileFault file b s lines) same fault))
   solved_is_accepted held file tree bytes budget solved is
-      (f, there, inr (p, given, (c, e, holds, are))) text s lines
+      (f, there, inr (p, given, work)) text s lines
       (g, again, inr (q, gives, (t, told, judged))) =
       let same : g ≡ f = is_held (held file) bytes g is again
       ∙ sym (is_held (held file) bytes f is there) in
       let one : q ≡ p =
       one_problem f p q given (subst (λ (b : List ℕ). GivesProblem b q) same gives) in
       let the_text : t ≡ text_of solved = is_held (held tree) (text_of solved) t text told in
-      read p given.valid c tree (text_of solved) s lines are.reads
-      (proves budget p c.claim c.tree c.tail e holds)
+      read_solved budget p given.valid solved tree s lines work
       (subst (λ (b : List ℕ). HeadedSays CheckWork tree p b s lines) the_text
       (subst (λ (r : Problem). HeadedSays CheckWork tree r t s lines) one judged))

@@ -41,7 +41,7 @@ use Rattle.studio_rules.specs.Reading.{AreHeld, FileFault, GivesProblem, OnFile,
 use Rattle.studio_rules.specs.Reading.{file_limit}
 use Rattle.studio_rules.specs.Script.{ScriptFault, GivesScript, HasEditFault, OnScript}
 use Rattle.studio_rules.specs.Plan.{PlanFileFault, GivesPlan, OnPlan}
-use Rattle.studio_rules.specs.TreeFile.{TreeFault, GivesTree, TreeSays, OnTree, tree_limit}
+use Rattle.studio_rules.specs.TreeFile.{TreeFault, GivesTree, OnTree, tree_limit}
 use Rattle.studio_rules.specs.Max.{MaxWork}
 use Rattle.studio_rules.specs.Lint.{LintWork}
 use Rattle.studio_rules.specs.Axioms.{AxiomsWork, first_stranger}
@@ -49,7 +49,8 @@ use Rattle.studio_rules.specs.Listing.{ListingWork}
 use Rattle.studio_rules.specs.Migrate.{MigrateWork}
 use Rattle.studio_rules.specs.Edits.{EditWork, UndoWork}
 use Rattle.studio_rules.specs.Flows.{FlowsWork}
-use Rattle.studio_rules.specs.HeadedFile.{HeadedFault, GivesHeaded, OnHeaded}
+use Rattle.studio_rules.specs.HeadedFile.{AnyHead, HeadedFault, HeadedSays}
+use Rattle.studio_rules.specs.HeadedFile.{GivesHeaded, OnHeaded}
 use Rattle.studio_rules.specs.Check.{CheckWork}
 use Rattle.studio_rules.specs.Rankcheck.{RankFault, GivesRanking, OnRank, RankcheckWork}
 use Rattle.studio_rules.specs.Rank.{RankWork}
@@ -403,7 +404,7 @@ not_bad_rank p file t s given (inl h) = let a = given.0 in let b =
     h.1 in absurd (omega (arith, a, b))
 not_bad_rank p file t s given (inr h) = (rank_good p file t given).1 h.2
 
--- ---- a tree that may have a head, after which nothing is a cause
+-- ---- a tree that may have a head, and what follows it whatever it says
 
 headed_cause : (name : List ℕ) (p : Problem) (file : List ℕ) (s : Status) (lines : List (List ℕ))
     → HeadedFault name p file s lines → FileCause tree_limit BadTree (HasHeadedFault p) file s
@@ -431,21 +432,27 @@ check_plain : (p : Problem) (t : trees.HeadedCertificate) (s : Status) (lines : 
 check_plain p t s lines c h =
     elim (check_status p t s lines h) [ inl q ↦ subst Caused q c | inr q ↦ subst Caused q c ]
 
-module _ (held : List ℕ → Told) (name : List ℕ) (p : Problem) where
-  headed_only : Only (OnHeaded CheckWork held name p) (InHeaded held name p)
-  headed_only s lines c h =
-      no_behind tree_limit BadTree (HasHeadedFault p) (GivesHeaded p) (held name) s
-      (judged_only tree_limit BadTree (HasHeadedFault p) (GivesHeaded p) (HeadedFault name p)
-      (CheckWork p) (λ _ _. ⊥) (headed_cause name p) (check_plain p) (held name) s lines c
-      h)
+not_bad_headed : (p : Problem) (file : List ℕ) (t : trees.HeadedCertificate) (s : Status)
+    → GivesHeaded p file t → FileCause tree_limit BadTree (HasHeadedFault p) file s → ⊥
+not_bad_headed p file t s given (inl h) = let a = given.0 in let b =
+    h.1 in absurd (omega (arith, a, b))
+not_bad_headed p file t s given (inr h) = (headed_good p file t given).1 h.2
 
-  headed_always : IsSome (held name) → Always (OnHeaded CheckWork held name p)
-      (InHeaded held name p)
-  headed_always told status s lines cause h =
+module _ (work : Problem → trees.HeadedCertificate → Status → List (List ℕ) → Type 0)
+    (behind : Problem → Status → Type 0) (held : List ℕ → Told) (name : List ℕ)
+    (p : Problem) where
+  headed_only : ((t : trees.HeadedCertificate) → Only (work p t) (behind p))
+      → Only (OnHeaded work held name p) (InHeaded behind held name p)
+  headed_only works =
+      judged_only tree_limit BadTree (HasHeadedFault p) (GivesHeaded p) (HeadedFault name p)
+      (work p) (λ t s. behind p s) (headed_cause name p) works (held name)
+
+  headed_always : ((t : trees.HeadedCertificate) → Always (work p t) (behind p))
+      → IsSome (held name) → Always (OnHeaded work held name p) (InHeaded behind held name p)
+  headed_always works told =
       judged_always tree_limit BadTree (HasHeadedFault p) (GivesHeaded p) (HeadedFault name p)
-      (CheckWork p) (λ _ _. ⊥) (headed_cause name p) (headed_good p) (one_headed p)
-      (λ file t given u v ls none does. absurd none) (held name) told status s lines
-      (cause.0, cause.1, inl cause.2) h
+      (work p) (λ t s. behind p s) (headed_cause name p) (headed_good p) (one_headed p)
+      (λ file t given. works t) (held name) told
 
 -- ---- TREE, and what follows it whatever it claims
 
@@ -504,23 +511,24 @@ module _ (work : Problem → Claim → Tree → Status → List (List ℕ) → T
 
 -- ---- a tree or a ranking, after which nothing is a cause
 
-module _ (on_tree : Problem → Claim → Tree → Status → List (List ℕ) → Type 0)
+module _ (on_tree : Problem → trees.HeadedCertificate → Status → List (List ℕ) → Type 0)
     (on_rank : Problem → Text → Status → List (List ℕ) → Type 0) (p : Problem) where
-  module _ (tree_plain : (claim : Claim) (tree : Tree) (s : Status) (lines : List (List ℕ))
-      → Caused s → on_tree p claim tree s lines → ⊥)
+  module _ (tree_plain : (t : trees.HeadedCertificate) (s : Status) (lines : List (List ℕ))
+      → Caused s → on_tree p t s lines → ⊥)
       (rank_plain : (t : Text) (s : Status) (lines : List (List ℕ)) → Caused s
       → on_rank p t s lines → ⊥) where
     kind_cause : (kind : Bool) (name file : List ℕ) (s : Status) (lines : List (List ℕ))
         → Caused s
-        → by_kind kind (RankSays on_rank name p file s lines) (TreeSays on_tree name p file s lines)
+        → by_kind kind (RankSays on_rank name p file s lines)
+        (HeadedSays on_tree name p file s lines)
         → FileCause tree_limit BadTree
-        (λ bytes. by_kind kind (HasRankFault p bytes) (HasTreeFault p bytes)) file s
+        (λ bytes. by_kind kind (HasRankFault p bytes) (HasHeadedFault p bytes)) file s
     kind_cause true name file s lines c (inl h) = rank_cause name p file s lines h
     kind_cause true name file s lines c (inr (t, gives, does)) =
         absurd (rank_plain t s lines c does)
-    kind_cause false name file s lines c (inl h) = tree_cause name p file s lines h
-    kind_cause false name file s lines c (inr (claim, tree, gives, does)) =
-        absurd (tree_plain claim tree s lines c does)
+    kind_cause false name file s lines c (inl h) = headed_cause name p file s lines h
+    kind_cause false name file s lines c (inr (t, gives, does)) =
+        absurd (tree_plain t s lines c does)
 
     either_only : (held : List ℕ → Told) (name : List ℕ)
         → Only (OnEither on_tree on_rank held name p) (InEither held name p)
@@ -529,8 +537,9 @@ module _ (on_tree : Problem → Claim → Tree → Status → List (List ℕ) �
 
   kind_always : (kind : Bool) (name file : List ℕ) (status s : Status) (lines : List (List ℕ))
       → FileCause tree_limit BadTree
-      (λ bytes. by_kind kind (HasRankFault p bytes) (HasTreeFault p bytes)) file status
-      → by_kind kind (RankSays on_rank name p file s lines) (TreeSays on_tree name p file s lines)
+      (λ bytes. by_kind kind (HasRankFault p bytes) (HasHeadedFault p bytes)) file status
+      → by_kind kind (RankSays on_rank name p file s lines)
+      (HeadedSays on_tree name p file s lines)
       → s ≡ status
   kind_always true name file status s lines why (inl h) =
       one_cause tree_limit BadTree (HasRankFault p) file s status
@@ -538,10 +547,10 @@ module _ (on_tree : Problem → Claim → Tree → Status → List (List ℕ) �
   kind_always true name file status s lines why (inr (t, gives, does)) =
       absurd (not_bad_rank p file t status gives why)
   kind_always false name file status s lines why (inl h) =
-      one_cause tree_limit BadTree (HasTreeFault p) file s status
-      (tree_cause name p file s lines h) why
-  kind_always false name file status s lines why (inr (claim, tree, gives, does)) =
-      absurd (not_bad_tree p file claim tree status gives why)
+      one_cause tree_limit BadTree (HasHeadedFault p) file s status
+      (headed_cause name p file s lines h) why
+  kind_always false name file status s lines why (inr (t, gives, does)) =
+      absurd (not_bad_headed p file t status gives why)
 
   either_always : (held : List ℕ → Told) (name : List ℕ) → IsSome (held name)
       → Always (OnEither on_tree on_rank held name p) (InEither held name p)
@@ -825,7 +834,7 @@ module _ (p : Problem) (name file : List ℕ) where
   any_cause true s lines c h = table_cause s lines c h
   any_cause false s lines c h =
       kind_cause JsonWork RankJsonWork p
-      (λ claim its s lines c h. unclaimed_plain p s lines c (json_status p claim its s lines h))
+      (λ t s lines c h. unclaimed_plain p s lines c (json_status p t s lines h))
       (λ t s lines c h. unclaimed_plain p s lines c (rank_json_status p t s lines h))
       (is_ranking file) name file s lines c h
 
@@ -877,15 +886,16 @@ module _ (held : List ℕ → Told) where
       file_only held file (OnScript UndoWork held script) (InScript held script)
       (script_only UndoWork (λ p es s lines h. h.0) held script)
   command_only (Checking file tree) =
-      file_only held file (OnHeaded CheckWork held tree) (InHeaded held tree)
-      (headed_only held tree)
+      file_only held file (OnHeaded CheckWork held tree) (InHeaded NoCause held tree)
+      (λ p. headed_only CheckWork NoCause held tree p (check_plain p))
   command_only (RankChecking file rank) =
       file_only held file (OnRank held rank) (InRank held rank) (rank_only held rank)
   command_only (Table file tree) =
-      file_only held file (OnTree (OnNetwork TableWork) held tree) (InTree NoCause held tree)
-      (λ p. tree_only (OnNetwork TableWork) NoCause held tree p
-      (λ claim its s lines c h. unclaimed_plain p s lines c
-      (network_status TableWork table_status p claim its s lines h)))
+      file_only held file (OnHeaded (AnyHead (OnNetwork TableWork)) held tree)
+      (InHeaded NoCause held tree)
+      (λ p. headed_only (AnyHead (OnNetwork TableWork)) NoCause held tree p
+      (λ t s lines c h. unclaimed_plain p s lines c
+      (network_status TableWork table_status p t.claim t.tree s lines h)))
   command_only (Splitting file tree) =
       file_only held file (OnTree SplitWork held tree) (InTree NoCause held tree)
       (λ p. tree_only SplitWork NoCause held tree p
@@ -895,34 +905,35 @@ module _ (held : List ℕ → Told) where
       file_only held file (OnPlan ExpandWork held plan) (InPlan held plan)
       (plan_only ExpandWork (λ p its s lines c h. subst Caused h.0 c) held plan)
   command_only (Drawing file) = file_only held file PlantGraphWork NoCause drawing_plain
-  command_only (DrawingNetwork file tree) =
-      file_only held file (OnEither (OnNetwork NetworkGraphWork) RankGraphWork held tree)
+  command_only (DrawingNetwork file tree scene) =
+      let drawn = NetworkGraphWork scene in
+      file_only held file (OnEither (AnyHead (OnNetwork drawn)) (RankGraphWork scene) held tree)
       (InEither held tree)
-      (λ p. either_only (OnNetwork NetworkGraphWork) RankGraphWork p
-      (λ claim its s lines c h. unclaimed_plain p s lines c
-      (network_status NetworkGraphWork graph_status p claim its s lines h))
-      (λ t s lines c h. unclaimed_plain p s lines c (rank_graph_status p t s lines h)) held tree)
+      (λ p. either_only (AnyHead (OnNetwork drawn)) (RankGraphWork scene) p
+      (λ t s lines c h. unclaimed_plain p s lines c
+      (network_status drawn (graph_status scene) p t.claim t.tree s lines h))
+      (λ t s lines c h. unclaimed_plain p s lines c (rank_graph_status scene p t s lines h)) held
+      tree)
   command_only (Reporting file tree) = λ s lines c h.
       file_only held file (OfSome (ReportsOn held tree)) (InEither held tree)
       (λ p s lines c said. let ms = measures_of said.0 in
       either_only (ReportWork ms) (RankReportWork ms) p
-      (λ claim its s lines c h. unclaimed_plain p s lines c
-      (report_status ms p claim its s lines h))
+      (λ t s lines c h. unclaimed_plain p s lines c (report_status ms p t s lines h))
       (λ t s lines c h. unclaimed_plain p s lines c (rank_report_status ms p t s lines h))
       held tree s lines c said.1) s lines c (on_file (ReportsOn held tree) held file s lines h)
   command_only (Json file tree) =
       file_only held file (OnAny held tree) (InAny held tree) (any_only held tree)
   command_only (Ranging file tree kind name budget) =
-      file_only held file (OnTree (StableWork kind name budget) held tree)
-      (InTree (NameCause kind name) held tree)
-      (λ p. tree_only (StableWork kind name budget) (NameCause kind name) held tree p
-      (name_only kind name budget p))
+      file_only held file (OnHeaded (AnyHead (StableWork kind name budget)) held tree)
+      (InHeaded (NameCause kind name) held tree)
+      (λ p. headed_only (AnyHead (StableWork kind name budget)) (NameCause kind name) held tree p
+      (λ t. name_only kind name budget p t.claim t.tree))
   command_only (RangingAll file tree budget) =
-      file_only held file (OnTree (OnNetwork (RangesWork budget)) held tree)
-      (InTree NoCause held tree)
-      (λ p. tree_only (OnNetwork (RangesWork budget)) NoCause held tree p
-      (λ claim its s lines c h. ranges_plain p s lines c
-      (table_of_ranges_status budget p claim its s lines h)))
+      file_only held file (OnHeaded (AnyHead (OnNetwork (RangesWork budget))) held tree)
+      (InHeaded NoCause held tree)
+      (λ p. headed_only (AnyHead (OnNetwork (RangesWork budget))) NoCause held tree p
+      (λ t s lines c h. ranges_plain p s lines c
+      (table_of_ranges_status budget p t.claim t.tree s lines h)))
   command_only (Planning file plan budget) =
       file_only held file (OnPlan (PeriodsWork budget) held plan) (InPlan held plan)
       (plan_only (PeriodsWork budget)
@@ -980,6 +991,16 @@ module _ (held : List ℕ → Told) where
       (λ p valid. tree_always work NoCause held tree p
       (λ claim nodes status s lines none h. absurd none) its) told
 
+  beside_headed : (file tree : List ℕ)
+      (work : Problem → trees.HeadedCertificate → Status → List (List ℕ) → Type 0)
+      → IsSome (held file) → IsSome (held tree)
+      → Always (OnFile (OnHeaded work held tree) held file)
+      (InFile (InHeaded NoCause held tree) held file)
+  beside_headed file tree work told its =
+      file_always held file (OnHeaded work held tree) (InHeaded NoCause held tree)
+      (λ p valid. headed_always work NoCause held tree p
+      (λ t status s lines none h. absurd none) its) told
+
   pub command_always : PartsAreReadOnce → (command : Command) → AreTold held command
       → Always (CommandAnswers held command) (CauseOf held command)
   command_always once (Max file) told = alone file MaxWork (told file refl)
@@ -1004,13 +1025,13 @@ module _ (held : List ℕ → Told) where
       (λ p valid. script_always UndoWork (λ p es s lines h. h.0) held script p
       (told script (inr refl))) (told file (inl refl))
   command_always once (Checking file tree) told =
-      file_always held file (OnHeaded CheckWork held tree) (InHeaded held tree)
-      (λ p valid. headed_always held tree p (told tree (inr refl))) (told file (inl refl))
+      beside_headed file tree CheckWork (told file (inl refl)) (told tree (inr refl))
   command_always once (RankChecking file rank) told =
       file_always held file (OnRank held rank) (InRank held rank)
       (λ p valid. rank_always held rank p (told rank (inr refl))) (told file (inl refl))
   command_always once (Table file tree) told =
-      beside_tree file tree (OnNetwork TableWork) (told file (inl refl)) (told tree (inr refl))
+      beside_headed file tree (AnyHead (OnNetwork TableWork)) (told file (inl refl))
+      (told tree (inr refl))
   command_always once (Splitting file tree) told =
       beside_tree file tree SplitWork (told file (inl refl)) (told tree (inr refl))
   command_always once (Expanding file plan) told =
@@ -1018,10 +1039,12 @@ module _ (held : List ℕ → Told) where
       (λ p valid. plan_always ExpandWork (λ p its s lines c h. subst Caused h.0 c) held plan p
       (told plan (inr refl))) (told file (inl refl))
   command_always once (Drawing file) told = alone file PlantGraphWork (told file refl)
-  command_always once (DrawingNetwork file tree) told =
-      file_always held file (OnEither (OnNetwork NetworkGraphWork) RankGraphWork held tree)
+  command_always once (DrawingNetwork file tree scene) told =
+      let drawn = NetworkGraphWork scene in
+      file_always held file
+      (OnEither (AnyHead (OnNetwork drawn)) (RankGraphWork scene) held tree)
       (InEither held tree)
-      (λ p valid. either_always (OnNetwork NetworkGraphWork) RankGraphWork p held tree
+      (λ p valid. either_always (AnyHead (OnNetwork drawn)) (RankGraphWork scene) p held tree
       (told tree (inr refl))) (told file (inl refl))
   command_always once (Reporting file tree) told = λ status s lines why h.
       file_always held file (OfSome (ReportsOn held tree)) (InEither held tree)
@@ -1034,12 +1057,13 @@ module _ (held : List ℕ → Told) where
       (λ p valid. any_always held tree p (told tree (inr refl)))
       (told file (inl refl))
   command_always once (Ranging file tree kind name budget) told =
-      file_always held file (OnTree (StableWork kind name budget) held tree)
-      (InTree (NameCause kind name) held tree)
-      (λ p valid. tree_always (StableWork kind name budget) (NameCause kind name) held tree p
-      (name_always kind name budget p) (told tree (inr refl))) (told file (inl refl))
+      file_always held file (OnHeaded (AnyHead (StableWork kind name budget)) held tree)
+      (InHeaded (NameCause kind name) held tree)
+      (λ p valid. headed_always (AnyHead (StableWork kind name budget)) (NameCause kind name) held
+      tree p (λ t. name_always kind name budget p t.claim t.tree) (told tree (inr refl)))
+      (told file (inl refl))
   command_always once (RangingAll file tree budget) told =
-      beside_tree file tree (OnNetwork (RangesWork budget)) (told file (inl refl))
+      beside_headed file tree (AnyHead (OnNetwork (RangesWork budget))) (told file (inl refl))
       (told tree (inr refl))
   command_always once (Planning file plan budget) told =
       file_always held file (OnPlan (PeriodsWork budget) held plan) (InPlan held plan)

@@ -20,7 +20,8 @@ use Rattle.studio_rules.specs.Command.{Alternatives}
 use Rattle.studio_rules.specs.Command.{Command, Flows, Solving, Showing, Ranking, Trial, Ranging}
 use Rattle.studio_rules.specs.Command.{Planning, Parting, PartingAgainst, command_of}
 use Rattle.studio_rules.specs.Reading.{AreHeld}
-use Rattle.studio_rules.specs.TreeFile.{TreeFault, GivesTree, OnTree}
+use Rattle.studio_rules.specs.TreeFile.{TreeFault, OnTree}
+use Rattle.studio_rules.specs.HeadedFile.{AnyHead, HeadedFault, OnHeaded}
 use Rattle.studio_rules.specs.Plan.{PlanFileFault, OnPlan}
 use Rattle.studio_rules.specs.Flows.{FlowNamesSay, UnitsSay, FlowsSay, StaysInRange}
 use Rattle.studio_rules.specs.Axioms.{units_named, first_stranger}
@@ -39,8 +40,8 @@ use Rattle.studio_rules.specs.declared.status.Status.TheVariants.{TooLong, BadTr
 use Rattle.studio_rules.specs.declared.status.Status.TheVariants.{BadNode, NotBest, UnknownName}
 use Rattle.studio_rules.specs.declared.status.Status.TheVariants.{BadClaim}
 use Rattle.studio.proofs.Statuses.{finished, show_finished, rank_finished, search_finished}
-use Rattle.studio.proofs.Statuses.{fault_not_stopped, plan_status, tree_status}
-use Rattle.studio.proofs.Statuses.{alternatives_finished}
+use Rattle.studio.proofs.Statuses.{fault_not_stopped, plan_status, tree_status, headed_status}
+use Rattle.studio.proofs.Statuses.{alternatives_finished, solve_finished}
 
 -- ---- files that give nothing
 
@@ -54,6 +55,13 @@ plan_not_stopped name p file s lines h = elim (plan_status name p file s lines h
 tree_not_stopped : (name : List ℕ) (p : Problem) (file : List ℕ)
     → (s : Status) (lines : List (List ℕ)) → TreeFault name p file s lines → IsNotStopped s
 tree_not_stopped name p file s lines h = elim (tree_status name p file s lines h) [
+  | inl q ↦ ((λ r. cc), (λ r. cc))
+  | inr q ↦ let q0 = q.0 in ((λ r. cc), (λ r. cc))
+]
+
+headed_not_stopped : (name : List ℕ) (p : Problem) (file : List ℕ)
+    → (s : Status) (lines : List (List ℕ)) → HeadedFault name p file s lines → IsNotStopped s
+headed_not_stopped name p file s lines h = elim (headed_status name p file s lines h) [
   | inl q ↦ ((λ r. cc), (λ r. cc))
   | inr q ↦ let q0 = q.0 in ((λ r. cc), (λ r. cc))
 ]
@@ -170,14 +178,12 @@ named_finished (Some spot) budget p claim tree s lines can (inr h) =
 range_finished : (kind : SpotKind) (word : List ℕ) (budget : ℕ) (held : List ℕ → Told)
     → (name : List ℕ) (p : Problem) (s : Status) (lines : List (List ℕ))
     → RangeCanFinish kind word budget held name p
-    → OnTree (StableWork kind word budget) held name p s lines → IsNotStopped s
+    → OnHeaded (AnyHead (StableWork kind word budget)) held name p s lines → IsNotStopped s
 range_finished kind word budget held name p s lines can (file, is, inl fault) =
-    tree_not_stopped name p file s lines fault
-range_finished kind word budget held name p s lines can (file, is, inr (claim, tree, gives, work)) =
-    let given : (w : Network) → claim ≡ network w → GivesTree p file (network w) tree =
-    λ w e. subst (λ (k : Claim). GivesTree p file k tree) e gives in
-    named_finished (spot_named p kind word) budget p claim tree s lines
-    (λ spot w named e. can file w tree spot is (given w e) named) work
+    headed_not_stopped name p file s lines fault
+range_finished kind word budget held name p s lines can (file, is, inr (text, gives, work)) =
+    named_finished (spot_named p kind word) budget p text.claim text.tree s lines
+    (λ spot w named e. can file text w spot is gives e named) work
 
 -- ---- of a call
 
@@ -186,7 +192,7 @@ command_finished : (held : List ℕ → Told) (command : Command) (s : Status) (
 command_finished held (Solving name budget) s lines can (file, is, inl fault) =
     fault_not_stopped name file s lines fault
 command_finished held (Solving name budget) s lines can (file, is, inr (p, given, work)) =
-    finished budget p s lines (can file p is given) work
+    solve_finished budget p s lines (can file p is given) work
 command_finished held (Showing name budget) s lines can (file, is, inl fault) =
     fault_not_stopped name file s lines fault
 command_finished held (Showing name budget) s lines can (file, is, inr (p, given, work)) =

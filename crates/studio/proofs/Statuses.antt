@@ -31,9 +31,9 @@ use Rattle.plan_rules.specs.Plan.{Plan}
 use Rattle.studio_rules.specs.Edits.{EditWork, UndoWork}
 use Rattle.tree_rules.specs.Claim.{Claim, Network}
 use Rattle.tree_rules.specs.Accepted.{Tree}
-use Rattle.studio_rules.specs.TreeFile.{TreeFault, TreeSays, OnTree, tree_limit}
+use Rattle.studio_rules.specs.TreeFile.{TreeFault, OnTree, tree_limit}
 use Rattle.tree_text_rules.specs.Read.{HeadedCertificate}
-use Rattle.studio_rules.specs.HeadedFile.{HeadedFault, OnHeaded}
+use Rattle.studio_rules.specs.HeadedFile.{AnyHead, HeadedFault, HeadedSays, OnHeaded}
 use Rattle.studio_rules.specs.Check.{CheckWork}
 use Rattle.rank_rules.specs.Text.{Text}
 use Rattle.studio_rules.specs.Rank as rankings
@@ -70,13 +70,14 @@ use Rattle.studio_rules.specs.StableTable.{RangesWork}
 use Rattle.studio_rules.specs.Best.{FilesClaimBest, AcceptedIsBest}
 use Rattle.tree_rules.specs.Tail.{Tail, whole, spent, past}
 use Rattle.problem_rules.specs.Generated.{generated}
-use Rattle.studio_rules.specs.Solve.{SolveWork, Holds, status_of, CanFinish}
+use Rattle.studio_rules.specs.Solve.{PlainWork, SolveWork, Holds, status_of, CanFinish}
 use Rattle.studio_rules.specs.Show.{ShowWork}
 use Rattle.studio_rules.specs.Summary.{SummaryWork}
 use Rattle.studio_rules.specs.Axioms.{NamesSay, VerdictSays, first_stranger}
 use Rattle.studio_rules.specs.Ending.{Ends, IsOneOf, HasFault}
 use Rattle.studio_rules.specs.Answers.{AnswersTo, CommandAnswers, WordsSay, IsReadWithin}
 use Rattle.studio_rules.specs.Answers.{IsUndisturbed, IsNotStopped, statuses_of, first_file}
+use Rattle.studio_rules.specs.declared.scene.Scene.{Scene}
 use Rattle.studio_rules.specs.declared.status.Status.{Status}
 use Rattle.studio_rules.specs.declared.status.Status.TheVariants.{Done, Refused, Usage}
 use Rattle.studio_rules.specs.declared.status.Status.TheVariants.{BadProblem}
@@ -170,7 +171,7 @@ tree_status name p file TooLong lines h = inr (refl, h.0)
 tree_status name p file BadTree lines h = inl refl
 tree_status name p file s lines h = absurd h
 
-headed_status : (name : List ℕ) (p : Problem) (file : List ℕ) (s : Status)
+pub headed_status : (name : List ℕ) (p : Problem) (file : List ℕ) (s : Status)
     (lines : List (List ℕ)) → HeadedFault name p file s lines → (s ≡ BadTree)
     ⊎ ((s ≡ TooLong) × (tree_limit < length file))
 headed_status name p file TooLong lines h = inr (refl, h.0)
@@ -208,18 +209,17 @@ pub table_status : (p : Problem) (w : Network) (s : Status) (lines : List (List 
 table_status p w Done lines h = refl
 table_status p w s lines h = absurd h
 
-pub report_status : (ms : Measures) (p : Problem) (claim : Claim) (tree : Tree) (s : Status)
-    (lines : List (List ℕ))
-    → ReportWork ms p claim tree s lines → (s ≡ Done) ⊎ (s ≡ BadClaim)
-report_status ms p claim tree Done lines h = inl refl
-report_status ms p claim tree BadClaim lines h = inr refl
-report_status ms p claim tree s lines h = absurd h
+pub report_status : (ms : Measures) (p : Problem) (text : HeadedCertificate) (s : Status)
+    (lines : List (List ℕ)) → ReportWork ms p text s lines → (s ≡ Done) ⊎ (s ≡ BadClaim)
+report_status ms p text Done lines h = inl refl
+report_status ms p text BadClaim lines h = inr refl
+report_status ms p text s lines h = absurd h
 
-pub json_status : (p : Problem) (claim : Claim) (tree : Tree) (s : Status) (lines : List (List ℕ))
-    → JsonWork p claim tree s lines → (s ≡ Done) ⊎ (s ≡ BadClaim)
-json_status p claim tree Done lines h = inl refl
-json_status p claim tree BadClaim lines h = inr refl
-json_status p claim tree s lines h = absurd h
+pub json_status : (p : Problem) (text : HeadedCertificate) (s : Status) (lines : List (List ℕ))
+    → JsonWork p text s lines → (s ≡ Done) ⊎ (s ≡ BadClaim)
+json_status p text Done lines h = inl refl
+json_status p text BadClaim lines h = inr refl
+json_status p text s lines h = absurd h
 
 pub rank_report_status : (ms : Measures) (p : Problem) (t : Text) (s : Status)
     (lines : List (List ℕ))
@@ -248,9 +248,14 @@ tail_status whole s e = inl e
 tail_status (spent next options) s e = inr (inl e)
 tail_status (past node nonbasic place) s e = inr (inr e)
 
+plain_status : (budget : ℕ) (p : Problem) (s : Status) (lines : List (List ℕ))
+    → PlainWork budget p s lines → (s ≡ Done) ⊎ ((s ≡ Spent) ⊎ (s ≡ Past))
+plain_status budget p s lines h = tail_status h.0.tail s h.1
+
 pub solve_status : (budget : ℕ) (p : Problem) (s : Status) (lines : List (List ℕ))
     → SolveWork budget p s lines → (s ≡ Done) ⊎ ((s ≡ Spent) ⊎ (s ≡ Past))
-solve_status budget p s lines h = tail_status h.0.tail s h.1
+solve_status budget p s lines (inl h) = plain_status budget p s lines h
+solve_status budget p s lines (inr h) = inl h.1
 
 pub show_status : (budget : ℕ) (file : List ℕ) (p : Problem) (s : Status)
     (lines : List (List ℕ))
@@ -268,7 +273,7 @@ alternatives_status count budget p s lines h = tail_status h.0.tail s h.1
 pub search_status : (budget : ℕ) (p : Problem) (s : Status) (lines : List (List ℕ))
     → SummaryWork budget p s lines → (s ≡ Done) ⊎ ((s ≡ Spent) ⊎ (s ≡ Past))
 search_status budget p Done lines h = inl refl
-search_status budget p s lines h = solve_status budget p s lines h
+search_status budget p s lines h = plain_status budget p s lines h
 
 -- the statuses of a command, if its file is within the limit
 within_limit : (held : Told) (limit : ℕ) (file : List ℕ)
@@ -320,32 +325,37 @@ trees_status end work status held name p s lines (file, is, inr rest) short =
       | inr q ↦ inr (inl q)
     ]
 
-checks_status : (held : List ℕ → Told) (name : List ℕ) (p : Problem) (s : Status)
-    (lines : List (List ℕ)) → OnHeaded CheckWork held name p s lines
-    → IsToldAnd (held name) (λ told. length told ≤ tree_limit)
-    → IsOneOf (Done ∷ Refused ∷ BadProblem ∷ BadTree ∷ Memory ∷ []) s
-checks_status held name p s lines (file, is, inl fault) short =
+-- the same of trees that may have a head
+heads_status : (end : Status)
+    (work : Problem → HeadedCertificate → Status → List (List ℕ) → Type 0)
+    → ((p : Problem) (text : HeadedCertificate) (s : Status) (lines : List (List ℕ))
+    → work p text s lines → (s ≡ Done) ⊎ (s ≡ end))
+    → (held : List ℕ → Told) (name : List ℕ) (p : Problem) (s : Status) (lines : List (List ℕ))
+    → OnHeaded work held name p s lines → IsToldAnd (held name) (λ told. length told ≤ tree_limit)
+    → IsOneOf (Done ∷ end ∷ BadProblem ∷ BadTree ∷ Memory ∷ []) s
+heads_status end work status held name p s lines (file, is, inl fault) short =
     elim (headed_status name p file s lines fault) [
       | inl q ↦ inr (inr (inr (inl q)))
       | inr q ↦ absurd (within_limit (held name) tree_limit file short is q.1)
     ]
-checks_status held name p s lines (file, is, inr rest) short =
-    elim (check_status p rest.0 s lines rest.2) [
+heads_status end work status held name p s lines (file, is, inr rest) short =
+    elim (status p rest.0 s lines rest.2) [
       | inl q ↦ inl q
       | inr q ↦ inr (inl q)
     ]
 
 -- a tree or a ranking; both works end with the same statuses
-module _ (on_tree : Problem → Claim → Tree → Status → List (List ℕ) → Type 0)
+module _ (on_tree : Problem → HeadedCertificate → Status → List (List ℕ) → Type 0)
     (on_rank : Problem → Text → Status → List (List ℕ) → Type 0)
-    (tree_ends : (p : Problem) (claim : Claim) (tree : Tree) (s : Status) (lines : List (List ℕ))
-    → on_tree p claim tree s lines → (s ≡ Done) ⊎ (s ≡ BadClaim))
+    (tree_ends : (p : Problem) (text : HeadedCertificate) (s : Status) (lines : List (List ℕ))
+    → on_tree p text s lines → (s ≡ Done) ⊎ (s ≡ BadClaim))
     (rank_ends : (p : Problem) (t : Text) (s : Status) (lines : List (List ℕ))
     → on_rank p t s lines → (s ≡ Done) ⊎ (s ≡ BadClaim)) where
   -- the statuses of one file
   by_kind_status : (kind : Bool) (name : List ℕ) (p : Problem) (file : List ℕ) (s : Status)
       (lines : List (List ℕ))
-      → by_kind kind (RankSays on_rank name p file s lines) (TreeSays on_tree name p file s lines)
+      → by_kind kind (RankSays on_rank name p file s lines)
+      (HeadedSays on_tree name p file s lines)
       → (s ≡ Done) ⊎ ((s ≡ BadClaim)
       ⊎ ((s ≡ BadTree) ⊎ ((s ≡ TooLong) × (tree_limit < length file))))
   by_kind_status true name p file s lines (inl fault) =
@@ -353,9 +363,9 @@ module _ (on_tree : Problem → Claim → Tree → Status → List (List ℕ) �
   by_kind_status true name p file s lines (inr (t, gives, work)) =
       elim (rank_ends p t s lines work) [ inl q ↦ inl q | inr q ↦ inr (inl q) ]
   by_kind_status false name p file s lines (inl fault) =
-      inr (inr (tree_status name p file s lines fault))
-  by_kind_status false name p file s lines (inr (claim, tree, gives, work)) =
-      elim (tree_ends p claim tree s lines work) [ inl q ↦ inl q | inr q ↦ inr (inl q) ]
+      inr (inr (headed_status name p file s lines fault))
+  by_kind_status false name p file s lines (inr (text, gives, work)) =
+      elim (tree_ends p text s lines work) [ inl q ↦ inl q | inr q ↦ inr (inl q) ]
 
   either_status : (held : List ℕ → Told) (name : List ℕ) (p : Problem) (s : Status)
       (lines : List (List ℕ)) → OnEither on_tree on_rank held name p s lines
@@ -425,23 +435,23 @@ pub plant_graph_status : (p : Problem) (s : Status) (lines : List (List ℕ))
 plant_graph_status p Done lines h = refl
 plant_graph_status p s lines h = absurd h
 
-pub graph_status : (p : Problem) (w : Network) (s : Status) (lines : List (List ℕ))
-    → NetworkGraphWork p w s lines → s ≡ Done
-graph_status p w Done lines h = refl
-graph_status p w s lines h = absurd h
+pub graph_status : (scene : Scene) (p : Problem) (w : Network) (s : Status)
+    (lines : List (List ℕ)) → NetworkGraphWork scene p w s lines → s ≡ Done
+graph_status scene p w Done lines h = refl
+graph_status scene p w s lines h = absurd h
 
-pub rank_graph_status : (p : Problem) (t : Text) (s : Status) (lines : List (List ℕ))
-    → RankGraphWork p t s lines → (s ≡ Done) ⊎ (s ≡ BadClaim)
-rank_graph_status p t Done lines h = inl refl
-rank_graph_status p t BadClaim lines h = inr refl
-rank_graph_status p t s lines h = absurd h
+pub rank_graph_status : (scene : Scene) (p : Problem) (t : Text) (s : Status)
+    (lines : List (List ℕ)) → RankGraphWork scene p t s lines → (s ≡ Done) ⊎ (s ≡ BadClaim)
+rank_graph_status scene p t Done lines h = inl refl
+rank_graph_status scene p t BadClaim lines h = inr refl
+rank_graph_status scene p t s lines h = absurd h
 
 -- ---- designs
 
 pub periods_status : (budget : ℕ) (p : Problem) (plan : Plan) (s : Status) (lines : List (List ℕ))
     → PeriodsWork budget p plan s lines → (s ≡ Done) ⊎ ((s ≡ Spent) ⊎ (s ≡ Past))
 periods_status budget p plan Done lines h = inl refl
-periods_status budget p plan s lines h = solve_status budget _ s lines h
+periods_status budget p plan s lines h = plain_status budget _ s lines h
 
 -- ---- parts
 
@@ -657,7 +667,7 @@ command_status held (Checking name tree) s lines (file, is, inl fault) short =
           q.1)
     ]
 command_status held (Checking name tree) s lines (file, is, inr work) short =
-    checks_status held tree work.0 s lines work.2
+    heads_status Refused CheckWork check_status held tree work.0 s lines work.2
     (short tree tree_limit (inr (refl, refl)))
 command_status held (RankChecking name rank) s lines (file, is, inl fault) short =
     elim (fault_status name file s lines fault) [
@@ -692,8 +702,9 @@ command_status held (Table name tree) s lines (file, is, inl fault) short =
           q.1)
     ]
 command_status held (Table name tree) s lines (file, is, inr work) short =
-    trees_status BadClaim (OnNetwork TableWork) (network_status TableWork table_status) held tree
-    work.0 s lines work.2 (short tree tree_limit (inr (refl, refl)))
+    heads_status BadClaim (AnyHead (OnNetwork TableWork))
+    (λ p text. network_status TableWork table_status p text.claim text.tree) held tree work.0 s
+    lines work.2 (short tree tree_limit (inr (refl, refl)))
 command_status held (Reporting name tree) s lines (file, is, inl fault) short =
     elim (fault_status name file s lines fault) [
       | inl q ↦ inr (inr (inl q))
@@ -736,7 +747,7 @@ command_status held (Drawing name) s lines (file, is, inl fault) short =
     ]
 command_status held (Drawing name) s lines (file, is, inr work) short =
     inl (plant_graph_status work.0 s lines work.2)
-command_status held (DrawingNetwork name tree) s lines (file, is, inl fault) short =
+command_status held (DrawingNetwork name tree scene) s lines (file, is, inl fault) short =
     elim (fault_status name file s lines fault) [
       | inl q ↦ inr (inr (inl q))
       | inr q
@@ -744,10 +755,12 @@ command_status held (DrawingNetwork name tree) s lines (file, is, inl fault) sho
           (within_limit (held name) file_limit file (short name file_limit (inl (refl, refl))) is
           q.1)
     ]
-command_status held (DrawingNetwork name tree) s lines (file, is, inr work) short =
-    either_status (OnNetwork NetworkGraphWork) RankGraphWork
-    (network_status NetworkGraphWork graph_status) rank_graph_status held tree work.0 s lines
-    work.2 (short tree tree_limit (inr (refl, refl)))
+command_status held (DrawingNetwork name tree scene) s lines (file, is, inr work) short =
+    let drawn = NetworkGraphWork scene in
+    either_status (AnyHead (OnNetwork drawn)) (RankGraphWork scene)
+    (λ p text. network_status drawn (graph_status scene) p text.claim text.tree)
+    (rank_graph_status scene) held tree work.0 s lines work.2
+    (short tree tree_limit (inr (refl, refl)))
 command_status held (Ranging name tree kind word budget) s lines (file, is, inl fault) short =
     elim (fault_status name file s lines fault) [
       | inl q ↦ inr (inr (inr (inr (inl q))))
@@ -758,7 +771,7 @@ command_status held (Ranging name tree kind word budget) s lines (file, is, inl 
     ]
 command_status held (Ranging name tree kind word budget) s lines
     (file, is, inr (p, given, (bytes, there, inl fault))) short =
-    elim (tree_status tree p bytes s lines fault) [
+    elim (headed_status tree p bytes s lines fault) [
       | inl q ↦ inr (inr (inr (inr (inr (inl q)))))
       | inr q
           ↦ absurd
@@ -768,7 +781,8 @@ command_status held (Ranging name tree kind word budget) s lines
     ]
 command_status held (Ranging name tree kind word budget) s lines
     (file, is, inr (p, given, (bytes, there, inr rest))) short =
-    elim (stable_status (spot_named p kind word) budget p rest.0 rest.1 s lines rest.3) [
+    elim
+    (stable_status (spot_named p kind word) budget p rest.0.claim rest.0.tree s lines rest.2) [
       | inl q ↦ inr (inr (inr (inr (inr (inr (inr (inl q)))))))
       | inr o ↦ elim o [
         | inl q ↦ inr (inl q)
@@ -796,7 +810,7 @@ command_status held (RangingAll name tree budget) s lines (file, is, inl fault) 
     ]
 command_status held (RangingAll name tree budget) s lines
     (file, is, inr (p, given, (bytes, there, inl fault))) short =
-    elim (tree_status tree p bytes s lines fault) [
+    elim (headed_status tree p bytes s lines fault) [
       | inl q ↦ inr (inr (inr (inl q)))
       | inr q
           ↦ absurd
@@ -806,7 +820,7 @@ command_status held (RangingAll name tree budget) s lines
     ]
 command_status held (RangingAll name tree budget) s lines
     (file, is, inr (p, given, (bytes, there, inr rest))) short =
-    elim (table_of_ranges_status budget p rest.0 rest.1 s lines rest.3) [
+    elim (table_of_ranges_status budget p rest.0.claim rest.0.tree s lines rest.2) [
       | inl q ↦ inr (inl q)
       | inr o ↦ elim o [ inl q ↦ inl q | inr q ↦ inr (inr (inr (inr (inl q)))) ]
     ]
@@ -1024,7 +1038,8 @@ answer_status held (Table name tree) lines (file, is, inl fault) = absurd fault
 answer_status held (Table name tree) lines (file, is, inr (p, given, (bytes, there, inl fault))) =
     absurd fault
 answer_status held (Table name tree) lines (file, is, inr (p, given, (bytes, there, inr rest))) =
-    elim (network_status TableWork table_status p rest.0 rest.1 Usage lines rest.3)
+    elim
+    (network_status TableWork table_status p rest.0.claim rest.0.tree Usage lines rest.2)
     [ inl q ↦ cc | inr q ↦ cc ]
 answer_status held (Reporting name tree) lines (file, is, inl fault) = absurd fault
 answer_status held (Reporting name tree) lines (file, is, inr (p, given, said)) =
@@ -1042,17 +1057,20 @@ answer_status held (Splitting name tree) lines
     (file, is, inr (p, given, (bytes, there, inr rest))) = absurd rest.3
 answer_status held (Drawing name) lines (file, is, inl fault) = absurd fault
 answer_status held (Drawing name) lines (file, is, inr work) = absurd work.2
-answer_status held (DrawingNetwork name tree) lines (file, is, inl fault) = absurd fault
-answer_status held (DrawingNetwork name tree) lines (file, is, inr (p, given, said)) =
+answer_status held (DrawingNetwork name tree scene) lines (file, is, inl fault) = absurd fault
+answer_status held (DrawingNetwork name tree scene) lines (file, is, inr (p, given, said)) =
+    let drawn = NetworkGraphWork scene in
     absurd
-    (either_not_usage (OnNetwork NetworkGraphWork) RankGraphWork
-    (network_status NetworkGraphWork graph_status) rank_graph_status held tree p lines said)
+    (either_not_usage (AnyHead (OnNetwork drawn)) (RankGraphWork scene)
+    (λ p text. network_status drawn (graph_status scene) p text.claim text.tree)
+    (rank_graph_status scene) held tree p lines said)
 answer_status held (Ranging name tree kind word budget) lines (file, is, inl fault) = absurd fault
 answer_status held (Ranging name tree kind word budget) lines
     (file, is, inr (p, given, (bytes, there, inl fault))) = absurd fault
 answer_status held (Ranging name tree kind word budget) lines
     (file, is, inr (p, given, (bytes, there, inr rest))) =
-    elim (stable_status (spot_named p kind word) budget p rest.0 rest.1 Usage lines rest.3) [
+    elim
+    (stable_status (spot_named p kind word) budget p rest.0.claim rest.0.tree Usage lines rest.2) [
       | inl q ↦ cc
       | inr o
           ↦ elim o [
@@ -1070,7 +1088,7 @@ answer_status held (RangingAll name tree budget) lines
     (file, is, inr (p, given, (bytes, there, inl fault))) = absurd fault
 answer_status held (RangingAll name tree budget) lines
     (file, is, inr (p, given, (bytes, there, inr rest))) =
-    elim (table_of_ranges_status budget p rest.0 rest.1 Usage lines rest.3)
+    elim (table_of_ranges_status budget p rest.0.claim rest.0.tree Usage lines rest.2)
     [ inl q ↦ cc | inr o ↦ elim o [ inl q ↦ cc | inr q ↦ cc ] ]
 answer_status held (Planning name plan budget) lines (file, is, inl fault) = absurd fault
 answer_status held (Planning name plan budget) lines
@@ -1147,7 +1165,7 @@ memory_status (Reporting file tree) = inr (inr (inr (inr (inl refl))))
 memory_status (Json file tree) = inr (inr (inr (inr (inl refl))))
 memory_status (Splitting file tree) = inr (inr (inr (inr (inl refl))))
 memory_status (Drawing file) = inr (inr (inl refl))
-memory_status (DrawingNetwork file tree) = inr (inr (inr (inr (inl refl))))
+memory_status (DrawingNetwork file tree scene) = inr (inr (inr (inr (inl refl))))
 memory_status (Ranging file tree kind name budget) =
     inr (inr (inr (inr (inr (inr (inr (inr (inl refl))))))))
 memory_status (RangingAll file tree budget) = inr (inr (inr (inr (inr (inl refl)))))
@@ -1167,7 +1185,7 @@ memory_status (Telling text) = inr (inl refl)
 
 pub finished : (budget : ℕ) (p : Problem) (s : Status) (lines : List (List ℕ))
     → CanFinish budget p
-    → SolveWork budget p s lines → IsNotStopped s
+    → PlainWork budget p s lines → IsNotStopped s
 finished budget p s lines can (c, e, holds, text) = at c.tail e holds
   where
     at : (tail : Tail) → s ≡ status_of tail → Holds budget p c.claim c.tree tail → IsNotStopped s
@@ -1175,6 +1193,11 @@ finished budget p s lines can (c, e, holds, text) = at c.tail e holds
     at (spent next options) e holds = absurd (can.enough holds.2)
     at (past node nonbasic place) e holds = let h =
         holds.1 in absurd (can.in_range h.node nonbasic place h.sound h.reduced h.past.past)
+
+pub solve_finished : (budget : ℕ) (p : Problem) (s : Status) (lines : List (List ℕ))
+    → CanFinish budget p → SolveWork budget p s lines → IsNotStopped s
+solve_finished budget p s lines can (inl h) = finished budget p s lines can h
+solve_finished budget p s lines can (inr h) = let e = h.1 in ((λ q. cc), (λ q. cc))
 
 pub show_finished : (budget : ℕ) (file : List ℕ) (p : Problem) (s : Status)
     (lines : List (List ℕ))
@@ -1264,8 +1287,8 @@ missing_says held (Expanding file plan) name s lines first gone h = let same : f
     cc in nothing_held (held file) h.0 (ap held same ∙ gone) h.1
 missing_says held (Drawing file) name s lines first gone h = let same : file ≡ name =
     cc in nothing_held (held file) h.0 (ap held same ∙ gone) h.1
-missing_says held (DrawingNetwork file tree) name s lines first gone h = let same : file ≡ name =
-    cc in nothing_held (held file) h.0 (ap held same ∙ gone) h.1
+missing_says held (DrawingNetwork file tree scene) name s lines first gone h =
+    let same : file ≡ name = cc in nothing_held (held file) h.0 (ap held same ∙ gone) h.1
 missing_says held (Ranging file tree kind word budget) name s lines first gone h =
     let same : file ≡ name = cc in nothing_held (held file) h.0 (ap held same ∙ gone) h.1
 missing_says held (RangingAll file tree budget) name s lines first gone h =

@@ -36,10 +36,10 @@ use pns_io::{Failed, Outputs, Shelf, Sink};
 use progress::{Effort, Watch};
 use rank_commands::{accepted_are_best, rankcheck};
 use rank_searches::{alternatives, rank};
-use report_commands::call::{graph, json, report};
-use searches::solve::solve;
+use report_commands::call::{Drawing, graph, json, report};
 use searches::trial::trial;
 use shows::show::show;
+use solves::solve::solve;
 use stability_commands::ranges::{Asked, ranges};
 use stability_commands::stable::stable;
 use std::alloc::Global;
@@ -80,7 +80,9 @@ fn perform<F: Shelf, K: Sink, E: Sink, W: Watch>(
         Command::Splitting(file, tree) => split(alloc, file, tree, shelf, out),
         Command::Expanding(file, plan) => expand(alloc, file, plan, shelf, out),
         Command::Drawing(file) => plant_graph(alloc, file, shelf, out),
-        Command::DrawingNetwork(file, tree) => graph(alloc, file, tree, shelf, out),
+        Command::DrawingNetwork(file, tree, scene) => {
+            graph(alloc, file, Drawing { text: tree, scene }, shelf, out)
+        }
         Command::Ranging(file, tree, kind, name, budget) => {
             let effort = Effort {
                 budget: budget as u32,

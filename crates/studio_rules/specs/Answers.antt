@@ -13,7 +13,7 @@ use Rattle.studio_rules.specs.Command.{Merging, Alternatives, RangingAll}
 use Rattle.problem_rules.specs.Generated.{generated}
 use Rattle.problem_rules.specs.Problem.{Problem}
 use Rattle.tree_rules.specs.Claim.{Network, network}
-use Rattle.tree_rules.specs.Accepted.{Tree}
+use Rattle.tree_text_rules.specs.Read.{HeadedCertificate}
 use Rattle.plan_rules.specs.Plan.{Plan}
 use Rattle.plan_rules.specs.Expanded.{expanded}
 use Rattle.stability_rules.specs.declared.spot.Spot.{Spot}
@@ -30,8 +30,8 @@ use Rattle.studio_rules.specs.Plan.{OnPlan, GivesPlan}
 use Rattle.studio_rules.specs.Expand.{ExpandWork}
 use Rattle.studio_rules.specs.Migrate.{MigrateWork}
 use Rattle.studio_rules.specs.Edits.{EditWork, UndoWork}
-use Rattle.studio_rules.specs.TreeFile.{OnTree, GivesTree, tree_limit}
-use Rattle.studio_rules.specs.HeadedFile.{OnHeaded}
+use Rattle.studio_rules.specs.TreeFile.{OnTree, tree_limit}
+use Rattle.studio_rules.specs.HeadedFile.{OnHeaded, GivesHeaded, AnyHead}
 use Rattle.studio_rules.specs.Check.{CheckWork}
 use Rattle.studio_rules.specs.Rankcheck.{OnRank}
 use Rattle.studio_rules.specs.Rank.{RankWork}
@@ -65,9 +65,9 @@ use Rattle.studio_rules.specs.declared.status.Status.TheVariants.{UnknownName, B
 -- Other commands have none here.
 abbrev pub SearchAnswers : (List ℕ → Told) → Command → Status → List (List ℕ) → Type 0
 SearchAnswers held (Ranging file tree kind name budget) status lines =
-    OnFile (OnTree (StableWork kind name budget) held tree) held file status lines
+    OnFile (OnHeaded (AnyHead (StableWork kind name budget)) held tree) held file status lines
 SearchAnswers held (RangingAll file tree budget) status lines =
-    OnFile (OnTree (OnNetwork (RangesWork budget)) held tree) held file status lines
+    OnFile (OnHeaded (AnyHead (OnNetwork (RangesWork budget))) held tree) held file status lines
 SearchAnswers held (Planning file plan budget) status lines =
     OnFile (OnPlan (PeriodsWork budget) held plan) held file status lines
 SearchAnswers held (Parting file inside outside budget) status lines =
@@ -108,14 +108,16 @@ CommandAnswers held (Checking file tree) status lines =
 CommandAnswers held (RankChecking file rank) status lines =
     OnFile (OnRank held rank) held file status lines
 CommandAnswers held (Table file tree) status lines =
-    OnFile (OnTree (OnNetwork TableWork) held tree) held file status lines
+    OnFile (OnHeaded (AnyHead (OnNetwork TableWork)) held tree) held file status lines
 CommandAnswers held (Splitting file tree) status lines =
     OnFile (OnTree SplitWork held tree) held file status lines
 CommandAnswers held (Expanding file plan) status lines =
     OnFile (OnPlan ExpandWork held plan) held file status lines
 CommandAnswers held (Drawing file) status lines = OnFile PlantGraphWork held file status lines
-CommandAnswers held (DrawingNetwork file tree) status lines =
-    OnFile (OnEither (OnNetwork NetworkGraphWork) RankGraphWork held tree) held file status lines
+CommandAnswers held (DrawingNetwork file tree scene) status lines =
+    OnFile
+    (OnEither (AnyHead (OnNetwork (NetworkGraphWork scene))) (RankGraphWork scene) held tree) held
+    file status lines
 CommandAnswers held (Reporting file tree) status lines =
     OnText (ReportsOn held tree) held file status lines
 CommandAnswers held (Json file tree) status lines =
@@ -156,7 +158,7 @@ first_file (Table file tree) = Some file
 first_file (Splitting file tree) = Some file
 first_file (Expanding file plan) = Some file
 first_file (Drawing file) = Some file
-first_file (DrawingNetwork file tree) = Some file
+first_file (DrawingNetwork file tree scene) = Some file
 first_file (Reporting file tree) = Some file
 first_file (Json file tree) = Some file
 first_file (Ranging file tree kind name budget) = Some file
@@ -181,7 +183,7 @@ IsReadWithin (Table file tree) name limit =
     ((name ≡ file) × (limit ≡ file_limit)) ⊎ ((name ≡ tree) × (limit ≡ tree_limit))
 IsReadWithin (Splitting file tree) name limit =
     ((name ≡ file) × (limit ≡ file_limit)) ⊎ ((name ≡ tree) × (limit ≡ tree_limit))
-IsReadWithin (DrawingNetwork file tree) name limit =
+IsReadWithin (DrawingNetwork file tree scene) name limit =
     ((name ≡ file) × (limit ≡ file_limit)) ⊎ ((name ≡ tree) × (limit ≡ tree_limit))
 IsReadWithin (Reporting file tree) name limit =
     ((name ≡ file) × (limit ≡ file_limit)) ⊎ ((name ≡ tree) × (limit ≡ tree_limit))
@@ -224,7 +226,8 @@ statuses_of (Table file tree) = Done ∷ BadClaim ∷ BadProblem ∷ BadTree ∷
 statuses_of (Splitting file tree) = Done ∷ BadClaim ∷ BadProblem ∷ BadTree ∷ Memory ∷ []
 statuses_of (Expanding file plan) = Done ∷ BadPlan ∷ BadProblem ∷ Memory ∷ []
 statuses_of (Drawing file) = Done ∷ BadProblem ∷ Memory ∷ []
-statuses_of (DrawingNetwork file tree) = Done ∷ BadClaim ∷ BadProblem ∷ BadTree ∷ Memory ∷ []
+statuses_of (DrawingNetwork file tree scene) =
+    Done ∷ BadClaim ∷ BadProblem ∷ BadTree ∷ Memory ∷ []
 statuses_of (Reporting file tree) = Done ∷ BadClaim ∷ BadProblem ∷ BadTree ∷ Memory ∷ []
 statuses_of (Json file tree) = Done ∷ BadClaim ∷ BadProblem ∷ BadTree ∷ Memory ∷ []
 statuses_of (Ranging file tree kind name budget) =
@@ -259,8 +262,9 @@ PlanCanFinish budget held name p =
 -- nothing stops the range of the named spot, whatever network the file claims
 abbrev pub RangeCanFinish : SpotKind → List ℕ → ℕ → (List ℕ → Told) → List ℕ → Problem → Type 0
 RangeCanFinish kind word budget held name p =
-    (file : List ℕ) (w : Network) (tree : Tree) (spot : Spot) → AreHeld (held name) file
-    → GivesTree p file (network w) tree → spot_named p kind word ≡ Some spot
+    (file : List ℕ) (text : HeadedCertificate) (w : Network) (spot : Spot)
+    → AreHeld (held name) file → GivesHeaded p file text → text.claim ≡ network w
+    → spot_named p kind word ≡ Some spot
     → CanRange budget p spot w
 
 -- Nothing stops the search of the command before its end, whatever its files give. For `flows` the

@@ -24,6 +24,7 @@ use Rattle.stability_rules.specs.declared.spot.SpotKind.{SpotKind}
 use Rattle.studio_rules.specs.Reading.{AreHeld, GivesProblem, Reads, file_limit}
 use Rattle.studio_rules.specs.Script.{HasEditFault}
 use Rattle.studio_rules.specs.TreeFile.{GivesTree, tree_limit}
+use Rattle.studio_rules.specs.HeadedFile.{GivesHeaded}
 use Rattle.studio_rules.specs.TextFile.{by_kind}
 use Rattle.studio_rules.specs.Listing.{IsBadToken}
 use Rattle.studio_rules.specs.PartFile.{GivesPart}
@@ -75,9 +76,9 @@ HasHeadedFault p file =
 abbrev pub HasRankFault : Problem → List ℕ → Type 0
 HasRankFault p file = (line : ℕ) × (kind : TreeKind) × (ranks.read_text p file ≡ Err (line, kind))
 
--- of a tree, or of a ranking if it is one by its first line
+-- of a tree that may have a head, or of a ranking if it is one by its first line
 abbrev pub HasEitherFault : Problem → List ℕ → Type 0
-HasEitherFault p file = by_kind (is_ranking file) (HasRankFault p file) (HasTreeFault p file)
+HasEitherFault p file = by_kind (is_ranking file) (HasRankFault p file) (HasHeadedFault p file)
 
 -- of a table of ranges, or else of a tree or of a ranking
 abbrev pub HasTableFault : Problem → List ℕ → Type 0
@@ -137,10 +138,13 @@ InTree behind held name p status =
     × (FileCause tree_limit BadTree (HasTreeFault p) file status
     ⊎ ((claim : Claim) × (tree : Tree) × GivesTree p file claim tree × behind p status))
 
--- a tree that may have a head; nothing after it can be the cause
-abbrev pub InHeaded : (List ℕ → Told) → List ℕ → Problem → Status → Type 0
-InHeaded held name p status = (file : List ℕ) × AreHeld (held name) file
-    × FileCause tree_limit BadTree (HasHeadedFault p) file status
+-- a tree that may have a head
+abbrev pub InHeaded : (Problem → Status → Type 0) → (List ℕ → Told) → List ℕ → Problem → Status
+    → Type 0
+InHeaded behind held name p status =
+    (file : List ℕ) × AreHeld (held name) file
+    × (FileCause tree_limit BadTree (HasHeadedFault p) file status
+    ⊎ ((text : trees.HeadedCertificate) × GivesHeaded p file text × behind p status))
 
 -- a tree or a ranking
 abbrev pub InEither : (List ℕ → Told) → List ℕ → Problem → Status → Type 0
@@ -177,19 +181,20 @@ CauseOf held (Linting file) status = InFile NoCause held file status
 CauseOf held (Migrate file years) status = InFile (MigrationCause years) held file status
 CauseOf held (Editing file script) status = InFile (InScript held script) held file status
 CauseOf held (Undoing file script) status = InFile (InScript held script) held file status
-CauseOf held (Checking file tree) status = InFile (InHeaded held tree) held file status
+CauseOf held (Checking file tree) status = InFile (InHeaded NoCause held tree) held file status
 CauseOf held (RankChecking file rank) status = InFile (InRank held rank) held file status
-CauseOf held (Table file tree) status = InFile (InTree NoCause held tree) held file status
+CauseOf held (Table file tree) status = InFile (InHeaded NoCause held tree) held file status
 CauseOf held (Splitting file tree) status = InFile (InTree NoCause held tree) held file status
 CauseOf held (Expanding file plan) status = InFile (InPlan held plan) held file status
 CauseOf held (Drawing file) status = InFile NoCause held file status
-CauseOf held (DrawingNetwork file tree) status = InFile (InEither held tree) held file status
+CauseOf held (DrawingNetwork file tree scene) status =
+    InFile (InEither held tree) held file status
 CauseOf held (Reporting file tree) status = InFile (InEither held tree) held file status
 CauseOf held (Json file tree) status = InFile (InAny held tree) held file status
 CauseOf held (Ranging file tree kind name budget) status =
-    InFile (InTree (NameCause kind name) held tree) held file status
+    InFile (InHeaded (NameCause kind name) held tree) held file status
 CauseOf held (RangingAll file tree budget) status =
-    InFile (InTree NoCause held tree) held file status
+    InFile (InHeaded NoCause held tree) held file status
 CauseOf held (Planning file plan budget) status = InFile (InPlan held plan) held file status
 CauseOf held (Parting file inside outside budget) status =
     InFile (AtNode NoCause inside outside) held file status

@@ -10,6 +10,8 @@ use Rattle.studio_rules.specs.Overview.{overview, version}
 use Rattle.studio_rules.specs.Pages.{page_text, command_text}
 use Rattle.stability_rules.specs.declared.spot.SpotKind.{SpotKind}
 use Rattle.stability_rules.specs.declared.spot.SpotKind.TheVariants as kinds
+use Rattle.studio_rules.specs.declared.scene.Scene.{Scene}
+use Rattle.studio_rules.specs.declared.scene.Scene.TheVariants as scenes
 use Rattle.studio_rules.specs.Numeral.{number_within, last_byte, but_last}
 
 -- A command with its words: FILE, the names of UNITS, AFTER and COUNT, NUMBER and the count of
@@ -30,7 +32,7 @@ pub data Command : Type 0 where
   Splitting : List ℕ → List ℕ → Command
   Expanding : List ℕ → List ℕ → Command
   Drawing : List ℕ → Command
-  DrawingNetwork : List ℕ → List ℕ → Command
+  DrawingNetwork : List ℕ → List ℕ → Scene → Command
   Reporting : List ℕ → List ℕ → Command
   Json : List ℕ → List ℕ → Command
   Ranging : List ℕ → List ℕ → SpotKind → List ℕ → ℕ → Command
@@ -144,6 +146,10 @@ abbrev pub ranged_by : List ℕ → List ℕ → Option SpotKind → List ℕ �
 ranged_by file tree (Some kind) name (Some budget) = Some (Ranging file tree kind name budget)
 ranged_by file tree kind name budget = None
 
+-- the last word of `graph` says that the network is drawn alone
+abbrev pub scene_of : List ℕ → Option Scene
+scene_of word = if bytes_eq word (codes "network") then Some scenes.Network else None
+
 -- the commands of a file and a second file
 abbrev pub with_file : List ℕ → List ℕ → List ℕ → Option Command
 with_file word file second =
@@ -154,7 +160,8 @@ with_file word file second =
     else if bytes_eq word (codes "table") then Some (Table file second)
     else if bytes_eq word (codes "split") then Some (Splitting file second)
     else if bytes_eq word (codes "expand") then Some (Expanding file second)
-    else if bytes_eq word (codes "graph") then Some (DrawingNetwork file second)
+    else if bytes_eq word (codes "graph") then Some
+    (DrawingNetwork file second scenes.Plant)
     else if bytes_eq word (codes "report") then Some (Reporting file second)
     else if bytes_eq word (codes "json") then Some (Json file second)
     else if bytes_eq word (codes "periods") then Some (Planning file second full_budget)
@@ -260,6 +267,8 @@ form_of (word ∷ first ∷ second ∷ third ∷ []) =
     (Planning first second) (budget_of third)
     else if bytes_eq word (codes "stable") && are_files (first ∷ second ∷ []) then option_map
     (RangingAll first second) (budget_of third)
+    else if bytes_eq word (codes "graph") && are_files (first ∷ second ∷ []) then option_map
+    (DrawingNetwork first second) (scene_of third)
     else if bytes_eq word (codes "rank") && is_file_word first then ranked_by first
     (rank_count_of second) (budget_of third)
     else if bytes_eq word (codes "alternatives") && is_file_word first then alternatives_by first
@@ -294,7 +303,7 @@ IsFileOf (Table file tree) name = (name ≡ file) ⊎ (name ≡ tree)
 IsFileOf (Splitting file tree) name = (name ≡ file) ⊎ (name ≡ tree)
 IsFileOf (Expanding file plan) name = (name ≡ file) ⊎ (name ≡ plan)
 IsFileOf (Drawing file) name = name ≡ file
-IsFileOf (DrawingNetwork file tree) name = (name ≡ file) ⊎ (name ≡ tree)
+IsFileOf (DrawingNetwork file tree scene) name = (name ≡ file) ⊎ (name ≡ tree)
 IsFileOf (Reporting file tree) name = (name ≡ file) ⊎ (name ≡ tree)
 IsFileOf (Json file tree) name = (name ≡ file) ⊎ (name ≡ tree)
 IsFileOf (Ranging file tree kind word budget) name = (name ≡ file) ⊎ (name ≡ tree)

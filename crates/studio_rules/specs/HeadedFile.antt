@@ -3,6 +3,8 @@
 use Rattle.std.specs.Prelude.{◌≡◌, ◌≤◌, ◌⊎◌, ℕ, List, [], ◌∷◌, Ok, Err, length}
 use Rattle.text_rules.specs.Outside.{Told}
 use Rattle.problem_rules.specs.Problem.{Problem}
+use Rattle.tree_rules.specs.Claim.{Claim}
+use Rattle.tree_rules.specs.Accepted.{Tree}
 use Rattle.tree_text_rules.specs.declared.TreeKind.{TreeKind}
 use Rattle.tree_text_rules.specs.Read.{HeadedCertificate, read_headed_text}
 use Rattle.studio_rules.specs.Reading.{AreHeld, IsLong, OnSecond}
@@ -40,3 +42,8 @@ HeadedSays work name p file status lines =
 abbrev pub OnHeaded : (Problem → HeadedCertificate → Status → List (List ℕ) → Type 0)
     → (List ℕ → Told) → List ℕ → Problem → Status → List (List ℕ) → Type 0
 OnHeaded work held name = OnSecond (HeadedSays work name) held name
+
+-- work on the claim and the tree alone, whatever the head is
+abbrev pub AnyHead : (Problem → Claim → Tree → Status → List (List ℕ) → Type 0) → Problem
+    → HeadedCertificate → Status → List (List ℕ) → Type 0
+AnyHead work p text status lines = work p text.claim text.tree status lines

@@ -21,7 +21,7 @@ overview =
     codes "  show FILE [BUDGET]             the same for people: what is proved, in tables" ∷
     codes "  check FILE TREE                does the tree prove what it claims?" ∷
     codes "  report FILE TREE               the network of TREE; for programs: table, json" ∷
-    codes "  graph FILE, graph FILE TREE    the plant, and the network in it, for Graphviz" ∷
+    codes "  graph FILE, graph FILE TREE [network]   for Graphviz: the plant, or a network" ∷
     codes "  rank FILE N [BUDGET]           N best networks; see alternatives, rankcheck" ∷
     codes "  stable FILE TREE [BUDGET]      how far each price and each cost may move" ∷
     codes "  edit FILE SCRIPT               the plant after edits; the way back: undo" ∷

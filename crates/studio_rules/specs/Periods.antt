@@ -9,7 +9,7 @@ use Rattle.tree_rules.specs.Claim.{Network, network, infeasible}
 use Rattle.tree_rules.specs.Accepted.{Tree}
 use Rattle.design_rules.specs.Folded.{folded}
 use Rattle.design_rules.specs.Least.{IsLeastDesign, HasNoDesign}
-use Rattle.studio_rules.specs.Solve.{Solves, SolveWork}
+use Rattle.studio_rules.specs.Solve.{Solves, PlainWork}
 use Rattle.studio_rules.specs.declared.status.Status.{Status}
 use Rattle.studio_rules.specs.declared.status.Status.TheVariants.{Done}
 use Rattle.studio_rules.specs.DesignText.{design_lines}
@@ -32,4 +32,4 @@ pub record IsNoneText (p : Problem) (plan : Plan) (lines : List (List ℕ)) : Ty
 
 abbrev pub PeriodsWork : ℕ → Problem → Plan → Status → List (List ℕ) → Type 0
 PeriodsWork budget p plan Done lines = IsLeastText p plan lines ⊎ IsNoneText p plan lines
-PeriodsWork budget p plan status lines = SolveWork budget (expanded p plan) status lines
+PeriodsWork budget p plan status lines = PlainWork budget (expanded p plan) status lines

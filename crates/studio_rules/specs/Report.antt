@@ -1,22 +1,28 @@
 -- `report FILE TREE`: what the tree proves of its claim, in a line, with the lower bound if it is
 -- not finished, and then the network of the claim in tables for people; or, if it proves that no
 -- network meets the bounds, those that clash. The headings show the units of measure that FILE
--- names.
-use Rattle.std.specs.Prelude.{◌≡◌, ◌++◌, ℕ, true, List, [], ◌∷◌, Option, Some, None, codes, decimal}
+-- names. With a head it has neither a lower bound nor bounds that clash.
+use Rattle.std.specs.Prelude.{◌≡◌, ◌++◌, ℕ, List, [], ◌∷◌, Option, Some, None, codes, decimal}
 use Rattle.problem_rules.specs.Problem.{Problem}
 use Rattle.tree_rules.specs.declared.why.Why.{Why}
 use Rattle.tree_rules.specs.Claim.{Claim, Network, network, infeasible, unknown, ClaimFails}
 use Rattle.tree_rules.specs.Accepted.{Tree}
+use Rattle.head_rules.specs.declared.line_why.LineWhy.{LineWhy}
+use Rattle.head_rules.specs.Head.{HeadLine}
+use Rattle.tree_text_rules.specs.Read.{HeadedCertificate}
 use Rattle.report_rules.specs.declared.verdict.Verdict.{Verdict}
 use Rattle.report_rules.specs.declared.verdict.Verdict.TheVariants.{Proved, Unfinished, Fails}
 use Rattle.report_rules.specs.declared.lower_bound.LowerBound.{LowerBound}
 use Rattle.report_rules.specs.Verdict.{IsVerdict}
+use Rattle.report_rules.specs.declared.headed_verdict.HeadedVerdict.{HeadedVerdict}
+use Rattle.report_rules.specs.declared.headed_verdict.HeadedVerdict.TheVariants as headed
+use Rattle.report_rules.specs.HeadedVerdict.{is_plain, IsHeadedVerdict}
 use Rattle.report_rules.specs.Lower.{low_cell, gap_text}
 use Rattle.report_rules.specs.Marginal.{Marginals, AreClaimMarginals}
 use Rattle.report_rules.specs.Measures.{Measures}
 use Rattle.report_rules.specs.Report.{total_cell, report_lines}
 use Rattle.report_rules.specs.Clash.{clash_lines}
-use Rattle.studio_rules.specs.RefusalWords.{why_word, claim_line}
+use Rattle.studio_rules.specs.RefusalWords.{why_word, line_word, claim_line}
 use Rattle.studio_rules.specs.declared.status.Status.{Status}
 use Rattle.studio_rules.specs.declared.status.Status.TheVariants.{Done, BadClaim}
 
@@ -82,10 +88,49 @@ ReportSays ms p claim tree lines =
     (verdict : Verdict) × IsVerdict p claim tree verdict
     × VerdictSays ms p claim tree verdict lines
 
--- A claim that fails, though nothing may be claimed, is refused for the first of its lines that
--- does.
-abbrev pub ReportWork : Measures → Problem → Claim → Tree → Status → List (List ℕ) → Type 0
-ReportWork ms p claim tree Done lines = ReportSays ms p claim tree lines
-ReportWork ms p claim tree BadClaim lines =
-    (why : Why) × ClaimFails true p claim why × (lines ≡ claim_line why ∷ [])
-ReportWork ms p claim tree status lines = ⊥
+-- ---- with a head
+
+-- the number of the line of the head that fails, from 0, and the cause
+abbrev pub failing_head_line : ℕ → LineWhy → List ℕ
+failing_head_line number why = codes "NOT PROVED: head " ++ decimal number ++ 32 ∷ line_word why
+
+abbrev pub headed_first_line : Problem → Claim → HeadedVerdict → List ℕ
+headed_first_line p claim headed.Proved = proved_line p claim
+headed_first_line p claim (headed.LineFails number why) = failing_head_line number why
+headed_first_line p claim (headed.NodeFails node why) = failing_line node why
+
+-- the tables of a network
+abbrev pub headed_tables : Measures → Problem → Marginals → Claim → List (List ℕ)
+headed_tables ms p m (network w) = report_lines ms p w m
+headed_tables ms p m infeasible = []
+headed_tables ms p m unknown = []
+
+abbrev pub headed_lines : Measures → Problem → Marginals → Claim → HeadedVerdict → List (List ℕ)
+headed_lines ms p m claim verdict = headed_first_line p claim verdict ∷ headed_tables ms p m claim
+
+-- the lines say the verdict, with marginals that are right for the network of the claim
+abbrev pub HeadedVerdictSays : Measures → Problem → Claim → HeadedVerdict → List (List ℕ) → Type 0
+HeadedVerdictSays ms p claim verdict lines =
+    (m : Marginals) × AreClaimMarginals p claim m × (lines ≡ headed_lines ms p m claim verdict)
+
+-- the lines say what the head and the tree prove: `PROVED` exactly if `check` accepts them
+abbrev pub ReportSaysBy : Measures → Problem → Claim → List HeadLine → Tree → List (List ℕ)
+    → Type 0
+ReportSaysBy ms p claim head tree lines =
+    (verdict : HeadedVerdict) × IsHeadedVerdict p claim head tree verdict
+    × HeadedVerdictSays ms p claim verdict lines
+
+-- a head without lines changes nothing
+abbrev pub HeadedReportSays : Measures → Problem → Claim → List HeadLine → Tree → List (List ℕ)
+    → Type 0
+HeadedReportSays ms p claim [] tree lines = ReportSays ms p claim tree lines
+HeadedReportSays ms p claim (line ∷ head) tree lines =
+    ReportSaysBy ms p claim (line ∷ head) tree lines
+
+-- A claim that fails, though nothing may be claimed if there is no head, is refused for the first
+-- of its lines that does.
+abbrev pub ReportWork : Measures → Problem → HeadedCertificate → Status → List (List ℕ) → Type 0
+ReportWork ms p text Done lines = HeadedReportSays ms p text.claim text.head text.tree lines
+ReportWork ms p text BadClaim lines =
+    (why : Why) × ClaimFails (is_plain text.head) p text.claim why × (lines ≡ claim_line why ∷ [])
+ReportWork ms p text status lines = ⊥

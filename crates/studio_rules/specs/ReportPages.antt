@@ -40,11 +40,11 @@ unfoldable pub report_page : List (List ℕ)
 report_page =
     codes "pns report FILE TREE" ∷
     codes "Says what the tree proves, and shows the network of its claim to people: units," ∷
-    codes "materials and money in one year." ∷
+    codes "materials and money in one year. Headings have the units of measure of FILE." ∷
     codes "  FILE  the plant, PNS_problem_v1" ∷
     codes "  TREE  a tree text, as solve prints it, or a rank text, as rank prints it" ∷
     codes "Prints a line that begins with PROVED (check accepts the tree), NOT FINISHED" ∷
-    codes "(nodes are open) or NOT PROVED (node N fails, and why); then a table of units," ∷
+    codes "(nodes are open) or NOT PROVED (node N or head K fails, why); a table of units," ∷
     codes "one of materials and one of sums. Costs are above 0, incomes below; numbers with" ∷
     codes "more than 6 digits show 6. limit names the bound that an amount is at: max, min," ∷
     codes "fixed (both), idle (built, but of size 0), or UNBOUNDED?, at 1000000000." ∷
@@ -85,6 +85,7 @@ json_page =
     codes "payout_period, units, materials, money, paid_once and left_out. Each number is" ∷
     codes "there twice: value has 17 digits, exact is a fraction; both are null if it" ∷
     codes "overflows 128 bits. A line has one unit or one material." ∷
+    codes "Of a tree with a head the key head has the line of it that fails, or null." ∷
     codes "Of a rank text claim is ranking or alternatives, asked says how many were" ∷
     codes "wanted, and networks has place, cost, above, share_above, taken_in, left_out," ∷
     codes "idle of each. The keys from counts on are those of the best one." ∷
@@ -105,9 +106,10 @@ json_page =
 unfoldable pub graph_page : List (List ℕ)
 graph_page =
     codes "pns graph FILE" ∷
-    codes "pns graph FILE TREE" ∷
+    codes "pns graph FILE TREE [network]" ∷
     codes "Prints the maximal structure as a graph for Graphviz, with TREE also the network" ∷
-    codes "of its claim. The program itself draws nothing." ∷
+    codes "of its claim. With the word network after TREE only the network is in the graph." ∷
+    codes "The program itself draws nothing." ∷
     codes "  FILE  the plant, PNS_problem_v1" ∷
     codes "  TREE  a tree text, as solve prints it, or a rank text, as rank prints it" ∷
     codes "Prints DOT text. Raw materials are houses, products have a double line, units" ∷

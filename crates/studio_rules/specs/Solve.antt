@@ -1,7 +1,7 @@
 -- `solve FILE BUDGET`: a network of least cost, or that no network has flows, with the tree that
--- proves it. If the search stopped before its end: the tree as far as it came. The lines are those
--- of a tree text.
-use Rattle.std.specs.Prelude.{◌≡◌, ℕ, Bool, List, Ok}
+-- proves it, which may have a head. If the search stopped before its end: the tree as far as it
+-- came, without a head. The lines are those of a tree text.
+use Rattle.std.specs.Prelude.{◌≡◌, ◌⊎◌, ℕ, Bool, List, Ok}
 use Rattle.problem_rules.specs.Problem.{Problem}
 use Rattle.pns_rules.specs.Shape.{shape_of}
 use Rattle.pns_rules.specs.Structure.{IsStructure, IsAllowed}
@@ -17,10 +17,12 @@ use Rattle.tree_rules.specs.Accepted.{Tree, first_node}
 use Rattle.tree_rules.specs.Stops.{IsSpent, IsPast}
 use Rattle.tree_rules.specs.Costs.{CostsEnough}
 use Rattle.tree_rules.specs.Tail.{Tail, whole, spent, past}
-use Rattle.tree_text_rules.specs.Read.{Certificate, read_text}
-use Rattle.tree_text_rules.specs.Spelling.{tree_text_lines}
+use Rattle.head_rules.specs.Head.{HeadLine}
+use Rattle.tree_text_rules.specs.Read.{Certificate, read_text, HeadedCertificate, read_headed_text}
+use Rattle.tree_text_rules.specs.Spelling.{tree_text_lines, headed_text_lines}
 use Rattle.tree_rules.specs.Past.{IsPastAt}
 use Rattle.tree_rules.specs.Proved.{IsProved, IsStopped, IsBelowLimit}
+use Rattle.headed_rules.specs.Proved.{IsProvedBy}
 use Rattle.studio_rules.specs.Lines.{text_of}
 use Rattle.studio_rules.specs.Printed.{spelled}
 use Rattle.studio_rules.specs.declared.status.Status.{Status}
@@ -31,11 +33,25 @@ pub record AreTextOf (p : Problem) (c : Certificate) (lines : List (List ℕ)) :
   pub text : lines ≡ spelled (tree_text_lines p c.claim c.tree c.tail)
   pub reads : read_text p (text_of lines) ≡ Ok c
 
+-- the same of a certificate whose tree may have a head
+pub record AreHeadedTextOf (p : Problem) (c : HeadedCertificate) (lines : List (List ℕ)) : Type
+    0 where
+  pub text : lines ≡ spelled (headed_text_lines p c.claim c.head c.tree c.tail)
+  pub reads : read_headed_text p (text_of lines) ≡ Ok c
+
 -- The tree is lean and proves the claim. A network of the claim is clash-free and has flows of its
 -- cost, and no clash-free solution structure costs less, whatever its flows. If the claim has no
 -- network, no clash-free solution structure has flows.
 pub record Solves (p : Problem) (claim : Claim) (tree : Tree) : Type 0 where
   pub proved : IsProved p first_node claim tree
+  pub feasible : (w : Network) → claim ≡ network w → IsFeasible p w
+  pub least : (s : ℕ → Bool) → IsStructure (shape_of p) s → IsAllowed (shape_of p) s
+      → CostsEnough p (claimed_cost claim) s
+
+-- the same, if the head and the tree together prove the claim
+pub record SolvesBy (p : Problem) (claim : Claim) (head : List HeadLine) (tree : Tree) : Type
+    0 where
+  pub proved : IsProvedBy p claim head tree
   pub feasible : (w : Network) → claim ≡ network w → IsFeasible p w
   pub least : (s : ℕ → Bool) → IsStructure (shape_of p) s → IsAllowed (shape_of p) s
       → CostsEnough p (claimed_cost claim) s
@@ -65,10 +81,20 @@ status_of whole = Done
 status_of (spent next options) = Spent
 status_of (past node nonbasic place) = Past
 
-abbrev pub SolveWork : ℕ → Problem → Status → List (List ℕ) → Type 0
-SolveWork budget p status lines =
+-- a tree without a head
+abbrev pub PlainWork : ℕ → Problem → Status → List (List ℕ) → Type 0
+PlainWork budget p status lines =
     (c : Certificate) × (status ≡ status_of c.tail) × Holds budget p c.claim c.tree c.tail
     × AreTextOf p c lines
+
+-- a whole tree with a head
+abbrev pub HeadedWork : Problem → Status → List (List ℕ) → Type 0
+HeadedWork p status lines =
+    (c : HeadedCertificate) × (status ≡ Done) × (c.tail ≡ whole) × SolvesBy p c.claim c.head c.tree
+    × AreHeadedTextOf p c lines
+
+abbrev pub SolveWork : ℕ → Problem → Status → List (List ℕ) → Type 0
+SolveWork budget p status lines = PlainWork budget p status lines ⊎ HeadedWork p status lines
 
 -- Nothing stops the search of a problem before its end. The budget is at least twice the number of
 -- sets of units of the maximal structure. At no sound and reduced node a number overflows on the

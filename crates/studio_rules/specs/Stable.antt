@@ -18,7 +18,7 @@ use Rattle.stability_rules.specs.declared.spot.SpotKind.{SpotKind}
 use Rattle.stability_rules.specs.declared.spot.SpotKind.TheVariants.{Price, Fix, Proportional}
 use Rattle.stability_rules.specs.Spot.{valued, IsAllowedValue}
 use Rattle.stability_rules.specs.Range.{IsCheaper, IsRange, IsHalfProved, MayWant, IsPastCost}
-use Rattle.studio_rules.specs.Solve.{SolveWork, CanFinish}
+use Rattle.studio_rules.specs.Solve.{PlainWork, CanFinish}
 use Rattle.studio_rules.specs.Network.{OnNetwork}
 use Rattle.studio_rules.specs.Printed.{spelled}
 use Rattle.studio_rules.specs.declared.status.Status.{Status}
@@ -82,7 +82,7 @@ NotBestLines p w lines = (n : Network) × IsCheaper p (record { cost = w.cost; d
 abbrev pub StopLines : Problem → Spot → Network → ℕ → Status → List (List ℕ) → Type 0
 StopLines p spot w budget status lines =
     (value : ℤ) × (rest : List (List ℕ)) × IsAllowedValue spot value × MayWant p spot w value
-    × SolveWork budget (valued p spot value) status rest
+    × PlainWork budget (valued p spot value) status rest
     × (lines ≡ spelled (at_line value ∷ []) ++ rest)
 
 -- the network's cost overflows at a value that is half proved

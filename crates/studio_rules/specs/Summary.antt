@@ -10,7 +10,7 @@ use Rattle.tree_rules.specs.Claim.{Network, network, infeasible}
 use Rattle.tree_rules.specs.Accepted.{Tree}
 use Rattle.tree_rules.specs.Tail.{whole}
 use Rattle.studio_rules.specs.Lines.{spaced_names, names_in}
-use Rattle.studio_rules.specs.Solve.{Solves, AreTextOf, SolveWork}
+use Rattle.studio_rules.specs.Solve.{Solves, AreTextOf, PlainWork}
 use Rattle.studio_rules.specs.declared.status.Status.{Status}
 use Rattle.studio_rules.specs.declared.status.Status.TheVariants.{Done}
 
@@ -49,4 +49,4 @@ NoNetworkLines p lines = (tree : Tree) × Solves p infeasible tree
 -- if the search stops before its end, the lines are those of `solve`
 abbrev pub SummaryWork : ℕ → Problem → Status → List (List ℕ) → Type 0
 SummaryWork budget p Done lines = SummaryLines p lines ⊎ NoNetworkLines p lines
-SummaryWork budget p status lines = SolveWork budget p status lines
+SummaryWork budget p status lines = PlainWork budget p status lines

@@ -2,12 +2,11 @@
 use Rattle.std.specs.Prelude.{◌⊎◌, ℕ, Bool, true, false, List}
 use Rattle.text_rules.specs.Outside.{Told}
 use Rattle.problem_rules.specs.Problem.{Problem}
-use Rattle.tree_rules.specs.Claim.{Claim}
-use Rattle.tree_rules.specs.Accepted.{Tree}
+use Rattle.tree_text_rules.specs.Read.{HeadedCertificate}
 use Rattle.rank_rules.specs.Text.{Text}
 use Rattle.rank_rules.specs.Headed.{is_ranking}
 use Rattle.studio_rules.specs.Reading.{OnSecond}
-use Rattle.studio_rules.specs.TreeFile.{TreeSays}
+use Rattle.studio_rules.specs.HeadedFile.{HeadedSays}
 use Rattle.studio_rules.specs.Rankcheck.{RankFault, GivesRanking}
 use Rattle.studio_rules.specs.declared.status.Status.{Status}
 
@@ -24,15 +23,15 @@ RankSays work name p file status lines =
     RankFault name p file status lines
     ⊎ ((t : Text) × GivesRanking p file t × work p t status lines)
 
--- the same of a file that is a tree or a ranking, with a work for each
-abbrev pub EitherSays : (Problem → Claim → Tree → Status → List (List ℕ) → Type 0)
+-- the same of a file that is a ranking, or a tree that may have a head, with a work for each
+abbrev pub EitherSays : (Problem → HeadedCertificate → Status → List (List ℕ) → Type 0)
     → (Problem → Text → Status → List (List ℕ) → Type 0) → List ℕ → Problem → List ℕ → Status
     → List (List ℕ) → Type 0
 EitherSays on_tree on_rank name p file status lines =
     by_kind (is_ranking file) (RankSays on_rank name p file status lines)
-    (TreeSays on_tree name p file status lines)
+    (HeadedSays on_tree name p file status lines)
 
-abbrev pub OnEither : (Problem → Claim → Tree → Status → List (List ℕ) → Type 0)
+abbrev pub OnEither : (Problem → HeadedCertificate → Status → List (List ℕ) → Type 0)
     → (Problem → Text → Status → List (List ℕ) → Type 0) → (List ℕ → Told) → List ℕ → Problem
     → Status → List (List ℕ) → Type 0
 OnEither on_tree on_rank held name = OnSecond (EitherSays on_tree on_rank name) held name

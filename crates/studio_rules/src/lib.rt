@@ -14,8 +14,10 @@
 //!   `PageLines`. `TopicPages` has those of the constant [`TOPIC_PAGES`].
 #![tactic(auto)]
 
+mod scene;
 mod status;
 mod topic_pages;
 
+pub use scene::Scene;
 pub use status::Status;
 pub use topic_pages::TOPIC_PAGES;

@@ -22,7 +22,9 @@ use Rattle.studio_rules.specs.Command.{unit_count_of, years_of, rank_count_of, b
 use Rattle.studio_rules.specs.Command.{full_budget, is_file_word, are_files, AreWithin, Table}
 use Rattle.studio_rules.specs.Command.{Splitting, Expanding, Drawing, DrawingNetwork, Reporting}
 use Rattle.studio_rules.specs.Command.{Json, Planning, Parting, PartingAgainst, Merging}
-use Rattle.studio_rules.specs.Command.{RangingAll}
+use Rattle.studio_rules.specs.Command.{RangingAll, scene_of}
+use Rattle.studio_rules.specs.declared.scene.Scene.{Scene}
+use Rattle.studio_rules.specs.declared.scene.Scene.TheVariants as scenes
 use Rattle.stability_rules.specs.declared.spot.SpotKind.{SpotKind}
 
 numeral_within : (least most : ℕ) (word : List ℕ)
@@ -162,6 +164,11 @@ listing_within : (file after : List ℕ) (count : Option ℕ)
 listing_within file after None = tt
 listing_within file after (Some count) = tt
 
+drawing_within : (file tree : List ℕ) (scene : Option Scene)
+    → IfSome (option_map (DrawingNetwork file tree) scene) AreWithin
+drawing_within file tree None = tt
+drawing_within file tree (Some scene) = tt
+
 told_within : (text : Option (List ℕ)) → IfSome text IsOfLines
     → IfSome (option_map Telling text) AreWithin
 told_within None h = tt
@@ -176,7 +183,8 @@ with_file_within word file second =
     (either_within (bytes_eq word (codes "table")) (Some (Table file second)) _ tt
     (either_within (bytes_eq word (codes "split")) (Some (Splitting file second)) _ tt
     (either_within (bytes_eq word (codes "expand")) (Some (Expanding file second)) _ tt
-    (either_within (bytes_eq word (codes "graph")) (Some (DrawingNetwork file second)) _ tt
+    (either_within (bytes_eq word (codes "graph"))
+    (Some (DrawingNetwork file second scenes.Plant)) _ tt
     (either_within (bytes_eq word (codes "report")) (Some (Reporting file second)) _ tt
     (either_within (bytes_eq word (codes "json")) (Some (Json file second)) _ tt
     (either_within (bytes_eq word (codes "periods")) (Some (Planning file second full_budget)) _
@@ -250,6 +258,9 @@ forms_within (word ∷ first ∷ second ∷ third ∷ []) =
     (either_within (bytes_eq word (codes "stable") && are_files (first ∷ second ∷ []))
     (option_map (RangingAll first second) (budget_of third)) _
     (ranging_within first second (budget_of third) (budget_within third))
+    (either_within (bytes_eq word (codes "graph") && are_files (first ∷ second ∷ []))
+    (option_map (DrawingNetwork first second) (scene_of third)) _
+    (drawing_within first second (scene_of third))
     (either_within (bytes_eq word (codes "rank") && is_file_word first)
     (ranked_by first (rank_count_of second) (budget_of third)) _
     (ranked_within first (rank_count_of second) (budget_of third) (numeral_within 1 1000 second)
@@ -259,7 +270,7 @@ forms_within (word ∷ first ∷ second ∷ third ∷ []) =
     (alternatives_within first (rank_count_of second) (budget_of third)
     (numeral_within 1 1000 second) (budget_within third))
     (either_within (bytes_eq word (codes "part") && is_file_word first)
-    (Some (Parting first second third full_budget)) None full_within tt))))))
+    (Some (Parting first second third full_budget)) None full_within tt)))))))
 forms_within (word ∷ first ∷ second ∷ third ∷ fourth ∷ []) =
     either_within (bytes_eq word (codes "part") && is_file_word first)
     (option_map (Parting first second third) (budget_of fourth)) _

@@ -5,6 +5,8 @@ use Rattle.studio_rules.specs.Command.{command_of, budget_of, Max, Listing, Lint
 use Rattle.studio_rules.specs.Command.{Alternatives}
 use Rattle.studio_rules.specs.Command.{Ranking, Planning, Parting, PartingAgainst, Ranging, Trial}
 use Rattle.studio_rules.specs.Command.{Checking, Merging, Flows, Telling, RangingAll}
+use Rattle.studio_rules.specs.Command.{DrawingNetwork}
+use Rattle.studio_rules.specs.declared.scene.Scene.TheVariants as scenes
 use Rattle.stability_rules.specs.declared.spot.SpotKind.TheVariants as kinds
 
 -- budgets
@@ -81,6 +83,17 @@ stable_of_all_within = refl
 
 stable_without_name : command_of (codes "stable" ∷ codes "a" ∷ codes "t" ∷ codes "fix" ∷ []) ≡ None
 stable_without_name = refl
+
+graph_of_tree : command_of (codes "graph" ∷ codes "a" ∷ codes "t" ∷ [])
+    ≡ Some (DrawingNetwork (codes "a") (codes "t") scenes.Plant)
+graph_of_tree = refl
+
+graph_of_network : command_of (codes "graph" ∷ codes "a" ∷ codes "t" ∷ codes "network" ∷ [])
+    ≡ Some (DrawingNetwork (codes "a") (codes "t") scenes.Network)
+graph_of_network = refl
+
+graph_of_more : command_of (codes "graph" ∷ codes "a" ∷ codes "t" ∷ codes "networks" ∷ []) ≡ None
+graph_of_more = refl
 
 part_alone : command_of (codes "part" ∷ codes "a" ∷ codes "4" ∷ codes "8" ∷ [])
     ≡ Some (Parting (codes "a") (codes "4") (codes "8") 1000000)

@@ -7,7 +7,7 @@ ghost use Rattle.studio_rules.specs.Command.{unit_names_of, count_of, seed_of, u
 ghost use Rattle.studio_rules.specs.Command.{years_of, rank_count_of, budget_of, kind_of};
 ghost use Rattle.studio_rules.specs.Command.{alone, Axioms, Flows, Listing, Migrate, Solving};
 ghost use Rattle.studio_rules.specs.Command.{Showing, Planning, Parting, PartingAgainst, Telling};
-ghost use Rattle.studio_rules.specs.Command.{RangingAll};
+ghost use Rattle.studio_rules.specs.Command.{RangingAll, DrawingNetwork, scene_of};
 ghost use Rattle.studio_rules.specs.Pages.{page_text};
 ghost use Rattle.studio_words.specs.View.{command_view};
 
@@ -18,6 +18,7 @@ use crate::unit_names::UnitNames;
 use help_texts::{command_page_on, overview_text, page_on, version_text};
 use stability_rules::SpotKind;
 use std::alloc::{AllocError, Global};
+use studio_rules::Scene;
 
 /// A command with its words.
 #[derive(Drop)]
@@ -37,7 +38,7 @@ pub enum Command<'a> {
     Splitting(&'a str, &'a str),
     Expanding(&'a str, &'a str),
     Drawing(&'a str),
-    DrawingNetwork(&'a str, &'a str),
+    DrawingNetwork(&'a str, &'a str, Scene),
     Reporting(&'a str, &'a str),
     Json(&'a str, &'a str),
     Ranging(&'a str, &'a str, SpotKind, &'a str, u64),
@@ -306,7 +307,7 @@ fn with_file<'a>(word: &str, file: &'a str, second: &'a str) -> Option<Command<'
         "table" => Some(Command::Table(file, second)),
         "split" => Some(Command::Splitting(file, second)),
         "expand" => Some(Command::Expanding(file, second)),
-        "graph" => Some(Command::DrawingNetwork(file, second)),
+        "graph" => Some(Command::DrawingNetwork(file, second, Scene::Plant)),
         "report" => Some(Command::Reporting(file, second)),
         "json" => Some(Command::Json(file, second)),
         "periods" => Some(Command::Planning(file, second, MOST_NODES)),
@@ -327,6 +328,8 @@ fn of_four<'a>(word: &str, first: &'a str, second: &'a str, third: &'a str) -> O
         planning_of(first, second, third)
     } else if word == "stable" && are_both_files(first, second) {
         ranging_of(first, second, third)
+    } else if word == "graph" && are_both_files(first, second) {
+        drawing_of(first, second, third)
     } else if word == "rank" && !first.is_empty() {
         ranked_by(first, second, budget_of(third))
     } else if word == "alternatives" && !first.is_empty() {
@@ -391,6 +394,24 @@ fn ranging_of<'a>(file: &'a str, tree: &'a str, budget: &str) -> Option<Command<
 {
     let budget = budget_of(budget)?;
     Some(Command::RangingAll(file, tree, budget))
+}
+
+fn scene_of(word: &str) -> Option<Scene>
+    ensures { result ≡ scene_of word.now }
+{
+    if word == "network" {
+        Some(Scene::Network)
+    } else {
+        None
+    }
+}
+
+fn drawing_of<'a>(file: &'a str, tree: &'a str, scene: &str) -> Option<Command<'a>>
+    ensures { option_map command_view result
+        ≡ option_map (DrawingNetwork file.now tree.now) (scene_of scene.now) }
+{
+    let scene = scene_of(scene)?;
+    Some(Command::DrawingNetwork(file, tree, scene))
 }
 
 /// The most networks that one call ranks.

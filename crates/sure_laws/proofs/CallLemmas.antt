@@ -76,11 +76,15 @@ module _ (held : List ℕ → Told) (name : List ℕ) (budget : ℕ) (sure : IsS
       (subst (λ f. GivesProblem f sure.plant) (sym (are_bytes file h)) sure.gives) fault)
   file_is_done work done s lines (file, h, inr (p, g, w)) = done p s lines (can_finish file p h g) w
 
+  work_is_done : (p : Problem) (s : Status) (lines : List (List ℕ)) → CanFinish budget p
+      → SolveWork budget p s lines → s ≡ Done
+  work_is_done p s lines can (inl w) =
+      w.1 ∙ solve_is_done budget p w.0.claim w.0.tree w.0.tail can w.2
+  work_is_done p s lines can (inr w) = w.1
+
   pub solved : (s : Status) (lines : List (List ℕ)) → OnFile (SolveWork budget) held name s lines
       → s ≡ Done
-  solved =
-      file_is_done (SolveWork budget)
-      (λ p s lines can w. w.1 ∙ solve_is_done budget p w.0.claim w.0.tree w.0.tail can w.2)
+  solved = file_is_done (SolveWork budget) work_is_done
 
   pub ranked : (count : ℕ) (s : Status) (lines : List (List ℕ))
       → OnFile (RankWork count budget) held name s lines → s ≡ Done

@@ -1,10 +1,10 @@
 //! The text PNS_tree_v1 of branch trees in code.
 //!
 //! [`print_tree`] writes the one text of a claim, a tree and a tail to a sink. [`print_headed`]
-//! writes that of a tree with a head; no command calls it yet. The printers of
-//! parts write their lines of it. Each line is handed over at once, so after an error of memory
-//! whole lines are printed. Texts that have other lines besides those of a tree make them by the
-//! same calls: [`begin`], the fields that follow, and [`put_line`].
+//! writes that of a tree with a head. The printers of parts write their lines of it. Each line is
+//! handed over at once, so after an error of memory whole lines are printed. Texts that have other
+//! lines besides those of a tree make them by the same calls: [`begin`], the fields that follow,
+//! and [`put_line`].
 //!
 //! The definitions are those of `tree_text_rules`. Modules: `field` appends names and numbers to a
 //! line, `column` columns and places; `put` hands lines to the sink, `line` one of a word and

@@ -1,2 +1,3 @@
+pub mod HeadedLemmas
 pub mod LowLemmas
 pub mod LowerLemmas

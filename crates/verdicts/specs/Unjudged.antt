@@ -1,11 +1,15 @@
 -- Why there is no verdict on a claim. `Memory`, out of memory, says nothing of the claim.
-use Rattle.std.specs.Prelude.{true}
+use Rattle.std.specs.Prelude.{Bool, true}
 use Rattle.problem_rules.specs.Problem.{Problem}
 use Rattle.tree_rules.specs.Claim as rules
 use Rattle.verdicts.specs.declared.verdict.Unjudged.{Unjudged}
 use Rattle.verdicts.specs.declared.verdict.Unjudged.TheVariants.{Memory, Claim}
 
+-- the claim fails for this cause; with a partial tree a claim of nothing is permitted
+abbrev pub IsUnjudgedIf : Bool → Problem → rules.Claim → Unjudged → Type 0
+IsUnjudgedIf partial p claim Memory = Unit {0}
+IsUnjudgedIf partial p claim (Claim why) = rules.ClaimFails partial p claim why
+
 -- the claim fails for this cause, even if a claim of nothing is permitted
 abbrev pub IsUnjudged : Problem → rules.Claim → Unjudged → Type 0
-IsUnjudged p claim Memory = Unit {0}
-IsUnjudged p claim (Claim why) = rules.ClaimFails true p claim why
+IsUnjudged p claim unjudged = IsUnjudgedIf true p claim unjudged

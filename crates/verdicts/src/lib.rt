@@ -3,16 +3,18 @@
 //!
 //! `Verdict` of `report_rules` says when a verdict is the one of a claim and its tree. If the claim
 //! passes, [`verdict_of`] gives this verdict. It is `Proved` if and only if the tree is accepted.
+//! [`headed_verdict_of`] does the same for a tree with a head, by `HeadedVerdict`,
+//! and [`low_of`] gives the lower bound of a tree alone.
 //!
-//! [`low_of`] gives the lower bound of a tree alone.
-//!
-//! Modules: `verdict`; `lower`, the lower bound of a tree with open leaves; `low`, the same of a
-//! tree that is judged for it.
+//! Modules: `verdict`; `headed`; `lower`, the lower bound of a tree with open leaves; `low`, the
+//! same of a tree that is judged for it.
 #![tactic(auto)]
 
+mod headed;
 mod low;
 mod lower;
 mod verdict;
 
+pub use headed::{headed_verdict_of, is_plain};
 pub use low::low_of;
 pub use verdict::{Unjudged, verdict_of};

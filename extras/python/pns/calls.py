@@ -214,7 +214,7 @@ def check(plant: PlantLike, tree: TreeLike, program: Optional[str] = None) -> Ve
     if answer.status != 1:
         raise _failed(command, answer)
     words = line.split()
-    places = {words[1]: int(words[2])} if words[1] in ("node", "network") else {}
+    places = {words[1]: int(words[2])} if words[1] in ("node", "network", "head") else {}
     return Verdict(False, line, words[-1], **places)
 
 

@@ -48,10 +48,10 @@ class Report:
     """What a tree proves, and the network of its claim in numbers, as the program prints them.
 
     `verdict` is `proved`, `not finished` or `not proved`; in the last case `node` is the first node
-    that fails, from 0 in preorder, and `why` its cause. `claim` is `network`, `infeasible` or
-    `unknown`. Without a network all from `counts` to `left_out` is empty. A row is a dictionary, a
-    number in it is a Fraction, or None where it overflows 128 bits. Money is for one year, costs
-    are above 0.
+    that fails, from 0 in preorder, or `head` the first line of the head of the tree, from 0, and
+    `why` is the cause. `claim` is `network`, `infeasible` or `unknown`. Without a network all from
+    `counts` to `left_out` is empty. A row is a dictionary, a number in it is a Fraction, or None
+    where it overflows 128 bits. Money is for one year, costs are above 0.
 
     Of a tree that is not finished `low` is what no network costs less than, and `gap` is how far
     the network is above that, over the size of its cost; each is None if it is not known.
@@ -70,6 +70,7 @@ class Report:
     left_out: Tuple[str, ...] = ()
     low: Optional[Fraction] = None
     gap: Optional[Fraction] = None
+    head: Optional[int] = None
 
     @property
     def proved(self) -> bool:
@@ -86,7 +87,7 @@ class Report:
             tuple(_row("material", it) for it in facts.get("materials", ())),
             {key: _exact(it) for key, it in facts.get("money", {}).items()},
             _exact(facts.get("paid_once")), tuple(facts.get("left_out", ())),
-            _exact(facts.get("low")), _exact(facts.get("gap")),
+            _exact(facts.get("low")), _exact(facts.get("gap")), facts.get("head"),
         )
 
     def unit_table(self, exact: bool = False) -> Any:
@@ -164,8 +165,8 @@ class Solution:
 class Verdict:
     """What `check` says of a tree; true if it is accepted.
 
-    A refusal has its `cause` and its place: `node`, from 0 in preorder, or `network`, from 1 in a
-    ranking, or neither where the claim itself is refused.
+    A refusal has its `cause` and its place: `node`, from 0 in preorder, `head`, a line of the head
+    from 0, or `network`, from 1 in a ranking, or none where the claim itself is refused.
     """
 
     accepted: bool
@@ -173,6 +174,7 @@ class Verdict:
     cause: Optional[str] = None
     node: Optional[int] = None
     network: Optional[int] = None
+    head: Optional[int] = None
 
     def __bool__(self) -> bool:
         return self.accepted

@@ -1,30 +1,32 @@
-use Rattle.std.proofs.Common.{◌∷◌, [], true, refl, inl, ℕ, List, codes}
+use Rattle.std.proofs.Common.{◌∷◌, ◌∙◌, [], refl, inl, ℕ, List, codes}
 use Rattle.branch_tree.specs.View.{claim_of}
+use Rattle.tree_reading.specs.Said.{said_by}
 use Rattle.tree_rules.specs.Claim.{ClaimFails}
+use Rattle.report_rules.specs.HeadedVerdict.{is_plain}
 use Rattle.studio_rules.specs.Lines.{line}
 use Rattle.studio_rules.specs.RefusalWords.{claim_line}
-use Rattle.studio_rules.specs.Json.{JsonWork, FactsSay}
+use Rattle.studio_rules.specs.Json.{JsonWork}
 use Rattle.studio_rules.specs.Ending.{Tells}
 use Rattle.studio_rules.specs.declared.status.Status.{Status}
-use Rattle.studio_rules.specs.declared.status.Status.TheVariants.{BadClaim, Memory}
-use Rattle.endings.proofs.Ending.{Ends-map, Ends-told, only_in, only_or_memory_in, one_line}
+use Rattle.studio_rules.specs.declared.status.Status.TheVariants.{Done, BadClaim, Memory}
+use Rattle.endings.proofs.Ending.{Ends-map, only_in, only_or_memory_in, one_line}
 use Rattle.json_commands.proofs.call.say_judged.Goals as goal
 
 pub returns-in-Ok : goal.returns-in-Ok
 returns-in-Ok g c =
-    let p = c.args.site.now in
-    let claim = claim_of c.args.claim.now in
-    Ends-told c.json_text.result (λ v. v.items) (JsonWork p claim c.args.tree.now)
-    (FactsSay p claim c.in-Ok.verdict) c.args.out.now _ _
-    (λ lines says. (c.in-Ok.verdict, c.in-Ok.ensures.verdict, says)) c.json_text.ensures
-    c.say_told.ensures
+    let Q : Status → List ℕ → Type 0 =
+    Tells (JsonWork c.args.site.now (said_by c.args.text.now)) in
+    let told = c.in-Ok.ensures.says in
+    Ends-map _ Q c.args.out.now _ _
+    (only_in Q Done c.deref.result.now (told.0, told.1, c.deref.ensures.value ∙ told.2))
+    c.say_text.ensures
 
 pub returns-in-Err-Claim : goal.returns-in-Err-Claim
 returns-in-Err-Claim g c =
     let p = c.args.site.now in
-    let claim = claim_of c.args.claim.now in
-    let Q : Status → List ℕ → Type 0 = Tells (JsonWork p claim c.args.tree.now) in
-    let fails : ClaimFails true p claim c.in-Err-Claim.why =
+    let claim = claim_of c.args.text.now.claim in
+    let Q : Status → List ℕ → Type 0 = Tells (JsonWork p (said_by c.args.text.now)) in
+    let fails : ClaimFails (is_plain c.args.text.now.head) p claim c.in-Err-Claim.why =
     (rw c.in-Err-Claim.field-0-is at c.in-Err-Claim.ensures.unjudged) in
     let told : List ℕ = claim_line c.in-Err-Claim.why in
     Ends-map _ Q c.args.out.now _ _
@@ -35,6 +37,6 @@ returns-in-Err-Claim g c =
 pub returns-in-Err-Memory : goal.returns-in-Err-Memory
 returns-in-Err-Memory g c =
     let Q : Status → List ℕ → Type 0 =
-    Tells (JsonWork c.args.site.now (claim_of c.args.claim.now) c.args.tree.now) in
+    Tells (JsonWork c.args.site.now (said_by c.args.text.now)) in
     Ends-map _ Q c.args.out.now _ _ (only_in Q Memory (line (codes "memory")) ([], inl refl, refl))
     c.say_memory.ensures

@@ -1,6 +1,6 @@
-use Rattle.std.proofs.Common.{subst, ℕ, List}
+use Rattle.std.proofs.Common.{subst}
 use Rattle.problem_rules.specs.Problem.{Problem}
-use Rattle.branch_tree.specs.View.{claim_of}
+use Rattle.tree_reading.specs.Said.{said_by}
 use Rattle.studio_rules.specs.Json.{JsonWork}
 use Rattle.studio_rules.specs.Ending.{Ends, Tells}
 use Rattle.json_commands.proofs.call.say_stated.Goals as goal
@@ -8,6 +8,6 @@ use Rattle.json_commands.proofs.call.say_stated.Goals as goal
 pub returns : goal.returns
 returns g c =
     subst
-    (λ (p : Problem). Ends (Tells (JsonWork p (claim_of c.args.claim.now) c.args.tree.now))
+    (λ (p : Problem). Ends (Tells (JsonWork p (said_by c.args.text.now)))
     c.args.out.now c.say_judged.new.out c.say_judged.result) c.of-site.ensures
     c.say_judged.ensures

@@ -1,6 +1,6 @@
 use Rattle.std.proofs.Common.{◌≡◌, ℕ, List}
 use Rattle.studio_rules.specs.Reading.{TwoFilesSay}
-use Rattle.studio_rules.specs.TreeFile.{OnTree, TreeSays}
+use Rattle.studio_rules.specs.HeadedFile.{AnyHead, OnHeaded, HeadedSays}
 use Rattle.studio_rules.specs.Network.{OnNetwork}
 use Rattle.studio_rules.specs.Table.{TableWork}
 use Rattle.studio_rules.specs.Ending.{Says}
@@ -17,14 +17,13 @@ returns-in-Ok-clause-ends g c =
     let new = g.F.Shelf.state c.say_tree.new.shelf in
     let file = c.args.file.now in
     let tree = c.args.tree.now in
+    let work = AnyHead (OnNetwork TableWork) in
     let P : Status → List ℕ → Type 0 =
-    Says (OnTree (OnNetwork TableWork) mid.held tree c.in-Ok.problem)
-    (λ other. other ≡ tree) mid new in
-    let Q : Status → List ℕ → Type 0 =
-    TwoFilesSay (OnTree (OnNetwork TableWork)) file tree old new in
+    Says (OnHeaded work mid.held tree c.in-Ok.problem) (λ other. other ≡ tree) mid new in
+    let Q : Status → List ℕ → Type 0 = TwoFilesSay (OnHeaded work) file tree old new in
     Ends-from P Q c.args.out.now _ _ _ c.in-Ok.ensures.silent
-    (on_both-work (TreeSays (OnNetwork TableWork) tree) file tree old mid new
-    c.in-Ok.problem c.in-Ok.ensures.problem (c.problem_of.ensures.keeps.held tree)
+    (on_both-work (HeadedSays work tree) file tree old mid new c.in-Ok.problem
+    c.in-Ok.ensures.problem (c.problem_of.ensures.keeps.held tree)
     c.problem_of.ensures.keeps.later) c.say_tree.ensures.ends
 
 pub returns-in-Err-clause-ends : goal.returns-in-Err-clause-ends
@@ -33,11 +32,10 @@ returns-in-Err-clause-ends g c =
     let new = g.F.Shelf.state c.problem_of.new.shelf in
     let file = c.args.file.now in
     let tree = c.args.tree.now in
-    let Q : Status → List ℕ → Type 0 =
-    TwoFilesSay (OnTree (OnNetwork TableWork)) file tree old new in
+    let work = AnyHead (OnNetwork TableWork) in
+    let Q : Status → List ℕ → Type 0 = TwoFilesSay (OnHeaded work) file tree old new in
     Ends-map _ Q c.args.out.now _ _
-    (on_both-faults (TreeSays (OnNetwork TableWork) tree) file tree old new)
-    c.in-Err.ensures.told
+    (on_both-faults (HeadedSays work tree) file tree old new) c.in-Err.ensures.told
 
 pub returns-in-Ok-clause-keeps : goal.returns-in-Ok-clause-keeps
 returns-in-Ok-clause-keeps g c = keeps_through _ _ _ c.in-Ok.ensures.keeps c.say_tree.ensures.keeps

@@ -27,7 +27,7 @@ pub returns-in-Err : goal.returns-in-Err
 returns-in-Err g c =
     let p = c.args.site.now in
     let t = c.args.ranking.now in
-    let Q : Status → List ℕ → Type 0 = Tells (RankGraphWork p t) in
+    let Q : Status → List ℕ → Type 0 = Tells (RankGraphWork c.args.scene p t) in
     let number = c.in-Err.number in
     let why = c.in-Err.why in
     let fails : NetworkIsFault p (ranking_of t) number why =

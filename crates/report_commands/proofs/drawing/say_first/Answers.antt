@@ -1,9 +1,9 @@
-use Rattle.std.proofs.Common.{◌≡◌, ◌∷◌, [], ◌∙◌, Some, refl, sym, inl, inr, subst, ℕ, List, codes}
+use Rattle.std.proofs.Common.{◌≡◌, ◌∷◌, [], ◌∙◌, refl, sym, inl, inr, subst, ℕ, List, codes}
 use Rattle.tree_rules.specs.Claim.{Network}
 use Rattle.tree_rules.specs.declared.why.Why.TheVariants.{Unknown}
 use Rattle.rank_rules.specs.Text.{ranking_of}
 use Rattle.report_tables.specs.First.{IsFirstFeasible}
-use Rattle.studio_rules.specs.Graph.{AreGraphLines}
+use Rattle.studio_rules.specs.Graph.{AreSceneLines}
 use Rattle.studio_rules.specs.RankGraph.{DrawsFirst, RankGraphWork}
 use Rattle.studio_rules.specs.RefusalWords.{claim_line}
 use Rattle.studio_rules.specs.Lines.{line}
@@ -26,20 +26,21 @@ pub returns-in-Some : goal.returns-in-Some
 returns-in-Some g c =
     let p = c.args.site.now in
     let t = c.args.ranking.now in
+    let scene = c.args.scene in
     let ws = c.networks-networks.result.now in
-    Ends-told c.list_graph.result (λ v. v.items) (RankGraphWork p t)
-    (AreGraphLines p (Some c.in-Some.first.now) ws) c.args.out.now _ _
+    Ends-told c.list_graph.result (λ v. v.items) (RankGraphWork scene p t)
+    (AreSceneLines scene p c.in-Some.first.now ws) c.args.out.now _ _
     (λ lines says. (
       c.requires.listed,
-      subst (λ (vs : List Network). DrawsFirst p vs lines) c.networks-networks.ensures
-          (draws_first p c.in-Some.first.now _ ws lines c.in-Some.ensures.cases.0 says),
+      subst (λ (vs : List Network). DrawsFirst scene p vs lines) c.networks-networks.ensures
+          (draws_first scene p c.in-Some.first.now _ ws lines c.in-Some.ensures.cases.0 says),
     )) c.list_graph.ensures c.say_told.ensures
 
 pub returns-in-None : goal.returns-in-None
 returns-in-None g c =
     let p = c.args.site.now in
     let t = c.args.ranking.now in
-    let Q : Status → List ℕ → Type 0 = Tells (RankGraphWork p t) in
+    let Q : Status → List ℕ → Type 0 = Tells (RankGraphWork c.args.scene p t) in
     let told : List ℕ = claim_line Unknown in
     let empty : t.networks ≡ [] =
     sym c.networks-networks.ensures ∙ none_of _ c.in-None.ensures.cases in

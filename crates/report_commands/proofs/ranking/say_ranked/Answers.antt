@@ -35,5 +35,5 @@ returns g c =
     (λ (f : Form). Ends (Tells (RankWork f c.args.problem.now t)) c.args.out.now
     c.say_drawn.new.out c.say_drawn.result) (sym c.in-Graph.is)
     (subst
-    (λ (p : Problem). Ends (Tells (RankGraphWork p t)) c.args.out.now c.say_drawn.new.out
-    c.say_drawn.result) c.of-site.ensures c.say_drawn.ensures)
+    (λ (p : Problem). Ends (Tells (RankGraphWork c.in-Graph.scene p t)) c.args.out.now
+    c.say_drawn.new.out c.say_drawn.result) c.of-site.ensures c.say_drawn.ensures)

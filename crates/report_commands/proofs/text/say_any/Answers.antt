@@ -34,8 +34,9 @@ returns-in-Graph g c name =
     let form = c.args.form in
     let p = c.args.problem.now in
     let file = c.args.bytes.now in
-    Ends-map (Tells (EitherSays (TreeWork Graph) (RankWork Graph) name p file))
+    let scene = c.in-Graph.scene in
+    Ends-map (Tells (EitherSays (TreeWork (Graph scene)) (RankWork (Graph scene)) name p file))
     (Tells (FormSays form name p file)) c.args.out.now _ _
-    (Tells-map (EitherSays (TreeWork Graph) (RankWork Graph) name p file)
-    (FormSays form name p file) (in_graph name p file form c.in-Graph.is))
+    (Tells-map (EitherSays (TreeWork (Graph scene)) (RankWork (Graph scene)) name p file)
+    (FormSays form name p file) (in_graph name p file form scene c.in-Graph.is))
     (c.say_either-in-Graph.ensures name)

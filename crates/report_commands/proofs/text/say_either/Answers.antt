@@ -1,6 +1,6 @@
 use Rattle.std.proofs.Common.{◌∙◌, sym, ℕ, List}
 use Rattle.studio_rules.specs.TextFile.{RankSays, EitherSays}
-use Rattle.studio_rules.specs.TreeFile.{TreeSays}
+use Rattle.studio_rules.specs.HeadedFile.{HeadedSays}
 use Rattle.studio_rules.specs.Ending.{Tells}
 use Rattle.endings.proofs.Ending.{Ends-map, Tells-map}
 use Rattle.report_commands.specs.Works.{TreeWork, RankWork}
@@ -24,9 +24,9 @@ returns-else-is_ranking g c name =
     let form = c.args.form in
     let p = c.args.problem.now in
     let file = c.args.bytes.now in
-    Ends-map (Tells (TreeSays (TreeWork form) name p file))
+    Ends-map (Tells (HeadedSays (TreeWork form) name p file))
     (Tells (EitherSays (TreeWork form) (RankWork form) name p file)) c.args.out.now _ _
-    (Tells-map (TreeSays (TreeWork form) name p file)
+    (Tells-map (HeadedSays (TreeWork form) name p file)
     (EitherSays (TreeWork form) (RankWork form) name p file)
     (of_tree form name p file (sym c.is_ranking.ensures ∙ c.if-is_ranking.false)))
     (c.say_tree.ensures name)

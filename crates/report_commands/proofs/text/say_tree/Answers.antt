@@ -1,9 +1,11 @@
 use Rattle.std.proofs.Common.{◌≡◌, ◌∷◌, [], Ok, Err, refl, inl, inr, subst, ℕ, List, codes}
 use Rattle.problem_rules.specs.Problem.{Problem}
-use Rattle.branch_tree.specs.View.{claim_of, tail_of}
-use Rattle.tree_text_rules.specs.Read.{read_text}
+use Rattle.branch_tree.specs.View.{claim_of}
+use Rattle.tree_reading.specs.Said.{said_by}
+use Rattle.tree_text_rules.specs.Read.{read_headed_text}
 use Rattle.studio_rules.specs.Lines.{line}
-use Rattle.studio_rules.specs.TreeFile.{TreeSays, tree_fault_line}
+use Rattle.studio_rules.specs.TreeFile.{tree_fault_line}
+use Rattle.studio_rules.specs.HeadedFile.{HeadedSays}
 use Rattle.studio_rules.specs.Report.{ReportWork}
 use Rattle.studio_rules.specs.Json.{JsonWork}
 use Rattle.studio_rules.specs.Network.{OnNetwork}
@@ -16,30 +18,28 @@ use Rattle.report_commands.specs.Works.{TreeWork}
 use Rattle.report_commands.proofs.Works.{as_report, as_json, as_graph}
 use Rattle.report_commands.proofs.text.say_tree.Goals as goal
 
-pub returns-in-Report : goal.returns-in-Report
-returns-in-Report g c name =
+pub returns-in-Ok-of : goal.returns-in-Ok-of
+returns-in-Ok-of g c name =
     let form = c.args.form in
     let p = c.args.problem.now in
     let file = c.args.bytes.now in
-    let claim = claim_of c.in-Ok.claim in
-    let tree = c.in-Ok.tree in
+    let t = said_by c.in-Ok.text in
     let ms = c.in-Report.measures in
-    Ends-map (Tells (ReportWork ms.now p claim tree)) (Tells (TreeSays (TreeWork form) name p file))
+    Ends-map (Tells (ReportWork ms.now p t)) (Tells (HeadedSays (TreeWork form) name p file))
     c.args.out.now _ _
-    (Tells-map (ReportWork ms.now p claim tree) (TreeSays (TreeWork form) name p file)
+    (Tells-map (ReportWork ms.now p t) (HeadedSays (TreeWork form) name p file)
     (λ s lines h. inr (
-      claim,
-      tree,
-      (c.requires, (tail_of c.in-Ok.field-0-2, c.in-Ok.ensures.read)),
-      as_report form ms c.in-Report.is p claim tree s lines h,
+      t,
+      (c.requires, c.in-Ok.ensures.read),
+      as_report form ms c.in-Report.is p t s lines h,
     )))
-    (subst (λ (q : Problem). Ends (Tells (ReportWork ms.now q claim tree)) c.args.out.now
+    (subst (λ (q : Problem). Ends (Tells (ReportWork ms.now q t)) c.args.out.now
     c.say_reported.new.out c.say_reported.result) c.of-site.ensures c.say_reported.ensures)
 
 pub returns-in_default : goal.returns-in_default
 returns-in_default g c name =
     let Q : Status → List ℕ → Type 0 =
-    Tells (TreeSays (TreeWork c.args.form) name c.args.problem.now c.args.bytes.now) in
+    Tells (HeadedSays (TreeWork c.args.form) name c.args.problem.now c.args.bytes.now) in
     Ends-map _ Q c.args.out.now _ _ (only_in Q Memory (line (codes "memory")) ([], inl refl, refl))
     c.say_memory.ensures
 
@@ -48,41 +48,41 @@ returns-in-Json g c name =
     let form = c.args.form in
     let p = c.args.problem.now in
     let file = c.args.bytes.now in
-    let claim = claim_of c.in-Ok.claim in
-    let tree = c.in-Ok.tree in
-    Ends-map (Tells (JsonWork p claim tree)) (Tells (TreeSays (TreeWork form) name p file))
+    let t = said_by c.in-Ok.text in
+    Ends-map (Tells (JsonWork p t)) (Tells (HeadedSays (TreeWork form) name p file))
     c.args.out.now _ _
-    (Tells-map (JsonWork p claim tree) (TreeSays (TreeWork form) name p file)
+    (Tells-map (JsonWork p t) (HeadedSays (TreeWork form) name p file)
     (λ s lines h. inr (
-      claim,
-      tree,
-      (c.requires, (tail_of c.in-Ok.field-0-2, c.in-Ok.ensures.read)),
-      as_json form c.in-Json.is p claim tree s lines h,
+      t,
+      (c.requires, c.in-Ok.ensures.read),
+      as_json form c.in-Json.is p t s lines h,
     ))) c.say_stated.ensures
 
-pub returns-in-Ok : goal.returns-in-Ok
-returns-in-Ok g c name =
+pub returns-in-Graph : goal.returns-in-Graph
+returns-in-Graph g c name =
     let form = c.args.form in
     let p = c.args.problem.now in
     let file = c.args.bytes.now in
-    let claim = claim_of c.in-Ok.claim in
-    let tree = c.in-Ok.tree in
-    Ends-map (Tells (OnNetwork NetworkGraphWork p claim tree))
-    (Tells (TreeSays (TreeWork form) name p file)) c.args.out.now _ _
-    (Tells-map (OnNetwork NetworkGraphWork p claim tree) (TreeSays (TreeWork form) name p file)
+    let t = said_by c.in-Ok.text in
+    let claim = claim_of c.in-Ok.text.claim in
+    let tree = c.in-Ok.text.tree in
+    let scene = c.in-Graph.scene in
+    let work = NetworkGraphWork scene in
+    Ends-map (Tells (OnNetwork work p claim tree)) (Tells (HeadedSays (TreeWork form) name p file))
+    c.args.out.now _ _
+    (Tells-map (OnNetwork work p claim tree) (HeadedSays (TreeWork form) name p file)
     (λ s lines h. inr (
-      claim,
-      tree,
-      (c.requires, (tail_of c.in-Ok.field-0-2, c.in-Ok.ensures.read)),
-      as_graph form c.in-Graph.is p claim tree s lines h,
+      t,
+      (c.requires, c.in-Ok.ensures.read),
+      as_graph form scene c.in-Graph.is p t s lines h,
     ))) c.say_claimed.ensures
 
 pub returns-in-Err-At : goal.returns-in-Err-At
 returns-in-Err-At g c name =
     let p = c.args.problem.now in
     let Q : Status → List ℕ → Type 0 =
-    Tells (TreeSays (TreeWork c.args.form) name p c.args.bytes.now) in
-    let read : read_text p c.args.bytes.now ≡ Err (c.in-Err-At.line, c.in-Err-At.kind) =
+    Tells (HeadedSays (TreeWork c.args.form) name p c.args.bytes.now) in
+    let read : read_headed_text p c.args.bytes.now ≡ Err (c.in-Err-At.line, c.in-Err-At.kind) =
     (rw c.in-Err-At.field-0-is at c.in-Err-At.ensures.fault) in
     let told : List ℕ = tree_fault_line c.in-Err-At.line c.in-Err-At.kind in
     let said : Ends (OrMemory (Only BadTree (line told))) c.args.out.now c.say_tree_fault.new.out
@@ -96,9 +96,9 @@ returns-in-Err-At g c name =
     ) ([], inl refl, refl))
     said
 
-pub returns : goal.returns
-returns g c name =
+pub returns-in-Err-Memory : goal.returns-in-Err-Memory
+returns-in-Err-Memory g c name =
     let Q : Status → List ℕ → Type 0 =
-    Tells (TreeSays (TreeWork c.args.form) name c.args.problem.now c.args.bytes.now) in
+    Tells (HeadedSays (TreeWork c.args.form) name c.args.problem.now c.args.bytes.now) in
     Ends-map _ Q c.args.out.now _ _ (only_in Q Memory (line (codes "memory")) ([], inl refl, refl))
     c.say_memory-in-Err-Memory.ensures

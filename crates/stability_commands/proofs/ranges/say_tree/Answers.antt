@@ -1,6 +1,7 @@
 use Rattle.std.proofs.Common.{◌≡◌, inl, inr, ℕ, List}
 use Rattle.branch_tree.specs.View.{claim_of}
-use Rattle.studio_rules.specs.TreeFile.{OnTree, TreeFault, TreeSays}
+use Rattle.tree_reading.specs.Said.{said_by}
+use Rattle.studio_rules.specs.HeadedFile.{AnyHead, OnHeaded, HeadedFault, HeadedSays}
 use Rattle.studio_rules.specs.Network.{OnNetwork}
 use Rattle.studio_rules.specs.StableTable.{RangesWork}
 use Rattle.studio_rules.specs.Ending.{Says}
@@ -12,29 +13,30 @@ use Rattle.stability_commands.proofs.ranges.say_tree.Goals as goal
 pub returns-in-Ok-clause-ends : goal.returns-in-Ok-clause-ends
 returns-in-Ok-clause-ends g c =
     let old = g.F.Shelf.state c.args.shelf.now in
-    let new = g.F.Shelf.state c.tree_of.new.shelf in
+    let new = g.F.Shelf.state c.headed_of.new.shelf in
     let p = c.args.problem.now in
     let name = c.args.asked.tree.now in
     let read = c.in-Ok.ensures.tree in
-    let claim = claim_of c.in-Ok.claimed.0 in
-    let work = OnNetwork (RangesWork c.args.asked.effort.budget) in
+    let work = AnyHead (OnNetwork (RangesWork c.args.asked.effort.budget)) in
     let Q : Status → List ℕ → Type 0 =
-    Says (OnTree work old.held name p) (λ other. other ≡ name) old new in
+    Says (OnHeaded work old.held name p) (λ other. other ≡ name) old new in
     Ends-from _ Q c.args.out.now _ _ _ c.in-Ok.ensures.silent
-    (Says-told (work p claim c.in-Ok.claimed.1) (OnTree work old.held name p)
-    (λ other. other ≡ name) old new
-    (λ s lines h. (read.0, read.1, inr (claim, c.in-Ok.claimed.1, read.2, h))))
+    (Says-told
+    (OnNetwork (RangesWork c.args.asked.effort.budget) p (claim_of c.in-Ok.text.claim)
+    c.in-Ok.text.tree)
+    (OnHeaded work old.held name p) (λ other. other ≡ name) old new
+    (λ s lines h. (read.0, read.1, inr (said_by c.in-Ok.text, read.2, h))))
     c.say_claimed.ensures
 
 pub returns-in-Err-clause-ends : goal.returns-in-Err-clause-ends
 returns-in-Err-clause-ends g c =
     let old = g.F.Shelf.state c.args.shelf.now in
-    let new = g.F.Shelf.state c.tree_of.new.shelf in
+    let new = g.F.Shelf.state c.headed_of.new.shelf in
     let p = c.args.problem.now in
     let name = c.args.asked.tree.now in
-    let work = OnNetwork (RangesWork c.args.asked.effort.budget) in
+    let work = AnyHead (OnNetwork (RangesWork c.args.asked.effort.budget)) in
     let Q : Status → List ℕ → Type 0 =
-    Says (OnTree work old.held name p) (λ other. other ≡ name) old new in
+    Says (OnHeaded work old.held name p) (λ other. other ≡ name) old new in
     Ends-map _ Q c.args.out.now _ _
-    (on_second-faults (TreeSays work name) (TreeFault name p) old new name p
+    (on_second-faults (HeadedSays work name) (HeadedFault name p) old new name p
     (λ file s lines h. inl h)) c.in-Err.ensures.told

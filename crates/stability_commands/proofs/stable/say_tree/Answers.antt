@@ -1,6 +1,7 @@
 use Rattle.std.proofs.Common.{◌≡◌, ap, sym, subst, IfSome, inl, inr, ℕ, List, Option}
 use Rattle.branch_tree.specs.View.{claim_of}
-use Rattle.studio_rules.specs.TreeFile.{OnTree, TreeFault, TreeSays}
+use Rattle.tree_reading.specs.Said.{said_by}
+use Rattle.studio_rules.specs.HeadedFile.{AnyHead, OnHeaded, HeadedFault, HeadedSays}
 use Rattle.stability_rules.specs.declared.spot.Spot.{Spot}
 use Rattle.stability_rules.specs.Spot.{KnowsSpot}
 use Rattle.studio_rules.specs.Stable.{NamedWork, StableWork}
@@ -19,27 +20,27 @@ say_named-requires-clause-known g c =
 pub returns-in-Ok-clause-ends : goal.returns-in-Ok-clause-ends
 returns-in-Ok-clause-ends g c =
     let old = g.F.Shelf.state c.args.shelf.now in
-    let new = g.F.Shelf.state c.tree_of.new.shelf in
+    let new = g.F.Shelf.state c.headed_of.new.shelf in
     let p = c.args.problem.now in
     let file = c.args.file.now in
     let read = c.in-Ok.ensures.tree in
-    let claim = claim_of c.in-Ok.claim in
-    let work = StableWork c.args.kind c.args.name.now c.args.effort.budget in
+    let claim = claim_of c.in-Ok.text.claim in
+    let tree = c.in-Ok.text.tree in
+    let work = AnyHead (StableWork c.args.kind c.args.name.now c.args.effort.budget) in
     let P : Status → List (List ℕ) → Type 0 =
-    NamedWork c.spot_named-spot.result c.args.effort.budget p claim c.in-Ok.tree in
+    NamedWork c.spot_named-spot.result c.args.effort.budget p claim tree in
     let Q : Status → List ℕ → Type 0 =
-    Says (OnTree work old.held file p) (λ other. other ≡ file) old new in
+    Says (OnHeaded work old.held file p) (λ other. other ≡ file) old new in
     Ends-from (Tells P) Q c.args.out.now _ _ _ c.in-Ok.ensures.silent
-    (Says-told P (OnTree work old.held file p) (λ other. other ≡ file) old new
+    (Says-told P (OnHeaded work old.held file p) (λ other. other ≡ file) old new
     (λ s lines h. (
       read.0,
       read.1,
       inr (
-        claim,
-        c.in-Ok.tree,
+        said_by c.in-Ok.text,
         read.2,
         subst
-            (λ (spot : Option Spot). NamedWork spot c.args.effort.budget p claim c.in-Ok.tree s
+            (λ (spot : Option Spot). NamedWork spot c.args.effort.budget p claim tree s
             lines)
             c.spot_named-spot.ensures h,
       ),
@@ -49,12 +50,12 @@ returns-in-Ok-clause-ends g c =
 pub returns-in-Err-clause-ends : goal.returns-in-Err-clause-ends
 returns-in-Err-clause-ends g c =
     let old = g.F.Shelf.state c.args.shelf.now in
-    let new = g.F.Shelf.state c.tree_of.new.shelf in
+    let new = g.F.Shelf.state c.headed_of.new.shelf in
     let p = c.args.problem.now in
     let file = c.args.file.now in
-    let work = StableWork c.args.kind c.args.name.now c.args.effort.budget in
+    let work = AnyHead (StableWork c.args.kind c.args.name.now c.args.effort.budget) in
     let Q : Status → List ℕ → Type 0 =
-    Says (OnTree work old.held file p) (λ other. other ≡ file) old new in
+    Says (OnHeaded work old.held file p) (λ other. other ≡ file) old new in
     Ends-map _ Q c.args.out.now _ _
-    (on_second-faults (TreeSays work file) (TreeFault file p) old new file p
+    (on_second-faults (HeadedSays work file) (HeadedFault file p) old new file p
     (λ file s lines h. inl h)) c.in-Err.ensures.told

@@ -1,6 +1,6 @@
 use Rattle.std.proofs.Common.{◌≡◌, ap, ℕ, List}
 use Rattle.studio_rules.specs.Reading.{TwoFilesSay}
-use Rattle.studio_rules.specs.TreeFile.{OnTree, TreeSays}
+use Rattle.studio_rules.specs.HeadedFile.{AnyHead, OnHeaded, HeadedSays}
 use Rattle.studio_rules.specs.Stable.{StableWork}
 use Rattle.studio_rules.specs.Ending.{Says}
 use Rattle.studio_rules.specs.declared.status.Status.{Status}
@@ -16,13 +16,14 @@ returns-in-Ok-clause-ends g c =
     let new = g.F.Shelf.state c.say_tree.new.shelf in
     let file = c.args.file.now in
     let tree = c.args.tree.now in
-    let work = StableWork c.args.kind c.args.name.now c.args.effort.budget in
+    let work = AnyHead (StableWork c.args.kind c.args.name.now c.args.effort.budget) in
     let P : Status → List ℕ → Type 0 =
-    Says (OnTree work mid.held tree c.in-Ok.problem) (λ other. other ≡ tree) mid new in
-    let Q : Status → List ℕ → Type 0 = TwoFilesSay (OnTree work) file tree old new in
+    Says (OnHeaded work mid.held tree c.in-Ok.problem) (λ other. other ≡ tree) mid new in
+    let Q : Status → List ℕ → Type 0 = TwoFilesSay (OnHeaded work) file tree old new in
     Ends-from P Q c.args.out.now _ _ _ c.in-Ok.ensures.silent
-    (on_both-work (TreeSays work tree) file tree old mid new c.in-Ok.problem c.in-Ok.ensures.problem
-    (c.problem_of.ensures.keeps.held tree) c.problem_of.ensures.keeps.later)
+    (on_both-work (HeadedSays work tree) file tree old mid new c.in-Ok.problem
+    c.in-Ok.ensures.problem (c.problem_of.ensures.keeps.held tree)
+    c.problem_of.ensures.keeps.later)
     c.say_tree.ensures.ends
 
 pub returns-in-Err-clause-ends : goal.returns-in-Err-clause-ends
@@ -31,9 +32,9 @@ returns-in-Err-clause-ends g c =
     let new = g.F.Shelf.state c.problem_of.new.shelf in
     let file = c.args.file.now in
     let tree = c.args.tree.now in
-    let work = StableWork c.args.kind c.args.name.now c.args.effort.budget in
-    let Q : Status → List ℕ → Type 0 = TwoFilesSay (OnTree work) file tree old new in
-    Ends-map _ Q c.args.out.now _ _ (on_both-faults (TreeSays work tree) file tree old new)
+    let work = AnyHead (StableWork c.args.kind c.args.name.now c.args.effort.budget) in
+    let Q : Status → List ℕ → Type 0 = TwoFilesSay (OnHeaded work) file tree old new in
+    Ends-map _ Q c.args.out.now _ _ (on_both-faults (HeadedSays work tree) file tree old new)
     c.in-Err.ensures.told
 
 pub returns-in-Ok-clause-keeps : goal.returns-in-Ok-clause-keeps

@@ -200,8 +200,8 @@ returns-in-DrawingNetwork-clause-ends g c =
     let Q : Status → List ℕ → Type 0 = CommandSays old new (command_view c.args.command) in
     Ends-map
     (CommandSays old new
-    (DrawingNetwork c.in-DrawingNetwork.file.now c.in-DrawingNetwork.tree.now)) Q c.args.out.now
-    _ _
+    (DrawingNetwork c.in-DrawingNetwork.file.now c.in-DrawingNetwork.tree.now
+    c.in-DrawingNetwork.scene)) Q c.args.out.now _ _
     (λ s t h. subst (λ (v : Command). CommandSays old new v s t)
     (sym (ap command_view c.in-DrawingNetwork.is)) h) c.graph.ensures.ends
 

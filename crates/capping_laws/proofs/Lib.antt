@@ -1,0 +1,4 @@
+pub mod CappedLemmas
+pub mod KnownLemmas
+pub mod LeanLemmas
+pub mod TreeLemmas

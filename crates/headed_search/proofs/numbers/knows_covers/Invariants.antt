@@ -1,0 +1,10 @@
+use Rattle.std.proofs.Common.{drop}
+use Rattle.problem_rules.specs.Each.{Each}
+use Rattle.tree_rules.specs.Known.{KnowsCover}
+use Rattle.covers.specs.View.{covers_of}
+use Rattle.headed_search.proofs.numbers.knows_covers.Given as goal
+
+-- if the plant knows those that are left, it knows all
+abbrev pub invariant-covers : goal.invariant-covers
+invariant-covers l = Each (KnowsCover l.fn.site) (drop l.i (covers_of l.fn.covers))
+    → Each (KnowsCover l.fn.site) (covers_of l.fn.covers)

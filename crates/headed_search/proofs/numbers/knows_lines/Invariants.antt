@@ -1,0 +1,10 @@
+use Rattle.std.proofs.Common.{drop}
+use Rattle.problem_rules.specs.Each.{Each}
+use Rattle.head_rules.specs.Known.{KnowsLine}
+use Rattle.head_lines.specs.View.{lines_of}
+use Rattle.headed_search.proofs.numbers.knows_lines.Given as goal
+
+-- if the plant knows those that are left, it knows all
+abbrev pub invariant-lines : goal.invariant-lines
+invariant-lines l = Each (KnowsLine l.fn.site) (drop l.i (lines_of l.fn.lines))
+    → Each (KnowsLine l.fn.site) (lines_of l.fn.lines)

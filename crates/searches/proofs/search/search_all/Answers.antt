@@ -1,0 +1,29 @@
+use Rattle.std.proofs.Common.{◌≡◌, sym, subst}
+use Rattle.number_sets.specs.Sets.{has}
+use Rattle.problem_rules.specs.Problem.{Problem}
+use Rattle.pns_rules.specs.Shape.{shape_of}
+use Rattle.pns_rules.specs.Nodes.{Node}
+use Rattle.pns_rules.specs.Ends.{IsSound}
+use Rattle.pgraph.specs.View.{node_of}
+use Rattle.tree_rules.specs.Accepted.{first_node}
+use Rattle.abb_search.specs.Found.{IsFound}
+use Rattle.searches.proofs.FoundTexts.{first_is_sound}
+use Rattle.searches.proofs.search.search_all.Goals as goal
+
+pub search_watched-requires-clause-sound : goal.search_watched-requires-clause-sound
+search_watched-requires-clause-sound g c =
+    let start : node_of (record { inside = c.empty.result; outside = c.empty-2.result })
+    ≡ first_node =
+    λ i. record { inside = has (c.empty.ensures i); outside = has (c.empty-2.ensures i) } in
+    subst (λ (n : Node). IsSound (shape_of c.of.result) n) (sym start)
+    (first_is_sound (shape_of c.of.result))
+
+pub returns : goal.returns
+returns g c =
+    let start : node_of (record { inside = c.empty.result; outside = c.empty-2.result })
+    ≡ first_node =
+    λ i. record { inside = has (c.empty.ensures i); outside = has (c.empty-2.ensures i) } in
+    subst (λ (p : Problem). IsFound p first_node c.args.effort.budget c.search_watched.result)
+    c.of.ensures
+    (subst (λ (n : Node). IsFound c.of.result n c.args.effort.budget c.search_watched.result) start
+    c.search_watched.ensures.found)
