@@ -1,4 +1,3 @@
-pub mod AnewLemmas
 pub mod ChargingLemmas
 pub mod ShuttingLemmas
 pub mod ClosingLemmas

@@ -1,5 +1,4 @@
 -- What a search finds: a claim with the tree that proves it, or the tree so far with its stop.
--- stopped.
 use Rattle.std.specs.Prelude.{ℕ, Option, Some, None}
 use Rattle.problem_rules.specs.Problem.{Problem}
 use Rattle.pns_rules.specs.Nodes.{Node}

@@ -1,28 +1,23 @@
 //! A search that always ends: at each turn a tree proves its best network, but for open leaves.
 //!
-//! It is accelerated branch and bound over the structures of a node's family. [`search`] runs to
-//! the end, [`search_against`] looks for a network cheaper than a given one, and a [`Search`] is
-//! taken turn by turn. Each turn branches an open leaf of least value, or says how the search ends
-//! ([`Found`]). If memory is refused, all is as before the turn. [`SearchWith`] is the same over
-//! any evaluator of nodes.
+//! It is accelerated branch and bound over the structures of a node's family, with any evaluator of
+//! nodes. [`search_with`] runs to the end, and a [`SearchWith`] is taken turn by turn. Each turn
+//! branches an open leaf of least value, or says how the search ends ([`Found`]). If memory is
+//! refused, all is as before the turn. With a network given, it looks for a cheaper one.
 //!
 //! A new leaf has a value at first that no relaxed flows undercut, from a quick look. Its worth is
 //! settled only when it is to be branched: then its value rises, or it is refuted. A leaf whose
 //! least cost overflows keeps a lower bound as its value.
 //!
 //! After a leaf was branched, the leaf of least value is shut if a charge of it is found that is no
-//! less than the best network's cost, and then the next one. A search that runs to the end does so
-//! only if it has not ended without charges after a few hundred nodes. Then it starts anew, with
-//! the best network so far or a cheaper one that is guessed.
+//! less than the best network's cost, and then the next one.
 //!
 //! Modules: `growing` the tree and how a leaf is branched; `charging` leaves that a charge shuts;
 //! `settling` the worth of leaves; `closing` what shuts leaves at the end; `hand` what is stored
 //! for them; `root` the root; `outcome` answers; `found` the tree of an answer; `rounds` which leaf
-//! is next; `step` a turn; `turns` the object; `runs` the loop; `watching` progress; `anew` the
-//! start with charges; `whole` the search over the simplex method.
+//! is next; `step` a turn; `turns` the object; `runs` the loop; `watching` progress.
 #![tactic(auto)]
 
-mod anew;
 mod charging;
 mod closing;
 mod found;
@@ -36,9 +31,7 @@ mod settling;
 mod step;
 mod turns;
 mod watching;
-mod whole;
 
-pub use anew::search_flows;
 pub use closing::{Closing, Shutting, close_all, shut_at};
 pub use growing::{
     Growing, StoppedLeaf, branch_leaf, choice_at, node_at, reaches, shut_leaf, take_stop,
@@ -46,7 +39,6 @@ pub use growing::{
 pub use outcome::{Found, Turn};
 pub use root::look_at_root;
 pub use rounds::{Ending, Goal, Next, next_leaf};
-pub use runs::search_with;
+pub use runs::{run, search_with};
 pub use turns::SearchWith;
 pub use watching::report_progress;
-pub use whole::{FlowWorkspace, Search, search, search_against, search_watched, workspace_of};

@@ -21,8 +21,9 @@ use pgraph::Site;
 use progress::{Effort, Watch};
 use unit_sets::Node;
 
-/// Takes turns until the search ends, or there is no memory.
-pub(crate) fn run<E: Evaluator, W: Watch>(
+/// Takes turns from a root that was looked at, until the search ends or there is no memory. Before
+/// each turn it reports how far the search is.
+pub fn run<E: Evaluator, W: Watch>(
     workspace: &mut Workspace<E>,
     site: &Site<'_>,
     root: Growing,

@@ -14,11 +14,12 @@ use Rattle.tree_rules.specs.Known.{KnowsClaim}
 use Rattle.tree_rules.specs.Accepted.{Tree}
 use Rattle.tree_rules.specs.Tail.{Tail, whole, spent, past}
 use Rattle.studio_rules.specs.Reading.{GivesProblem, OnFile}
-use Rattle.studio_rules.specs.Solve.{Holds, AreTextOf, AreHeadedTextOf, SolveWork, status_of}
+use Rattle.studio_rules.specs.Solve.{HasProof, Holds, AreTextOf, AreHeadedTextOf, SolveWork}
+use Rattle.studio_rules.specs.Solve.{status_of}
 use Rattle.studio_rules.specs.declared.status.Status.{Status}
 use Rattle.studio_rules.specs.declared.status.Status.TheVariants.{Done}
 use Rattle.studio.proofs.Accepted.{is_held, one_problem}
-use Rattle.call_laws.specs.Costs.{ClaimSame, HasProof, OneCost, PrintsClaim, SolvesAgree}
+use Rattle.call_laws.specs.Costs.{ClaimSame, OneCost, PrintsClaim, SolvesAgree}
 
 pub antisym : (x y : ℤ) → x ≤ℤ y → y ≤ℤ x → x ≡ y
 antisym x y l r = omega (arith, ints, l, r)

@@ -17,10 +17,10 @@ use Rattle.studio_rules.specs.Lines.{text_of}
 use Rattle.studio_rules.specs.Periods.{PeriodsWork}
 use Rattle.studio_rules.specs.Plan.{GivesPlan, OnPlan}
 use Rattle.studio_rules.specs.Reading.{LongFile, OnFile, file_limit}
-use Rattle.studio_rules.specs.Solve.{SolveWork}
+use Rattle.studio_rules.specs.Solve.{HasProof, SolveWork}
 use Rattle.studio_rules.specs.declared.status.Status.{Status}
 use Rattle.studio_rules.specs.declared.status.Status.TheVariants.{Done, BadProblem, TooLong}
-use Rattle.call_laws.specs.Costs.{ClaimSame, HasProof, OneCost}
+use Rattle.call_laws.specs.Costs.{ClaimSame, OneCost}
 use Rattle.call_laws.specs.Periods.{ReadIsPlan, IsExpanded, ExpandedIsRead, PlansClaim, Certifies}
 use Rattle.call_laws.specs.Periods.{PeriodsAreCertified}
 use Rattle.studio.proofs.Accepted.{is_held, one_problem}
@@ -88,7 +88,7 @@ module _ (reads : ExpandedIsRead) (one : OneCost) where
       → PlansClaim p plan claim lines
   plans_claim other p plan claim lines proof (inl least) =
       of claim (one (expanded p plan)
-      (network least.network_of) claim (inl (least.tree, least.solves)) proof)
+      (network least.network_of) claim least.proof proof)
     where
       of : (claim : Claim) → ClaimSame (network least.network_of) claim
           → PlansClaim p plan claim lines

@@ -35,13 +35,13 @@ use Rattle.studio_rules.specs.Edits.{EditWork}
 use Rattle.studio_rules.specs.Lines.{text_of}
 use Rattle.studio_rules.specs.Reading.{GivesProblem, file_limit}
 use Rattle.studio_rules.specs.Script.{ScriptFault, ScriptSays}
-use Rattle.studio_rules.specs.Solve.{SolveWork}
+use Rattle.studio_rules.specs.Solve.{HasProof, SolveWork}
 use Rattle.studio_rules.specs.Stable.{spot_named, NamedWork, StableWork}
 use Rattle.studio_rules.specs.HeadedFile.{AnyHead, OnHeaded}
 use Rattle.studio_rules.specs.declared.status.Status.{Status}
 use Rattle.studio_rules.specs.declared.status.Status.TheVariants.{Done, BadClaim}
 use Rattle.studio_rules.specs.declared.status.Status.TheVariants.{BadEdit, TooLong, UnknownName}
-use Rattle.call_laws.specs.Costs.{cost_of, ClaimsCost, HasProof, PrintsClaim, PrintsCost}
+use Rattle.call_laws.specs.Costs.{cost_of, ClaimsCost, PrintsClaim, PrintsCost}
 use Rattle.call_laws.specs.Ranges.{setting, SettingsSetSpots, ValuesAreEdited, BestIsClaimed}
 use Rattle.call_laws.specs.Ranges.{EditedCosts, RangeIsSolved, RangesAreSolved}
 use Rattle.studio.proofs.Accepted.{is_held, no_fault, one_problem}

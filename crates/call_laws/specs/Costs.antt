@@ -9,7 +9,7 @@ use Rattle.tree_rules.specs.Tail.{whole}
 use Rattle.head_rules.specs.Head.{HeadLine}
 use Rattle.studio_rules.specs.Command.{Solving}
 use Rattle.studio_rules.specs.Reading.{GivesProblem}
-use Rattle.studio_rules.specs.Solve.{AreTextOf, AreHeadedTextOf, Solves, SolvesBy}
+use Rattle.studio_rules.specs.Solve.{AreTextOf, AreHeadedTextOf, HasProof}
 use Rattle.studio_rules.specs.declared.status.Status.TheVariants.{Done}
 use Rattle.studio_rules.specs.Answers.{CommandAnswers}
 
@@ -33,12 +33,6 @@ abbrev pub ClaimSame : Claim → Claim → Type 0
 ClaimSame (network v) claim = ClaimsCost claim (cost_of v)
 ClaimSame infeasible claim = claim ≡ infeasible
 ClaimSame claim other = ⊥
-
--- a tree proves the claim, with a head or without one
-abbrev pub HasProof : Problem → Claim → Type 0
-HasProof p claim =
-    ((tree : Tree) × Solves p claim tree)
-    ⊎ ((head : List HeadLine) × (tree : Tree) × SolvesBy p claim head tree)
 
 abbrev pub OneCost : Type 0
 OneCost =

@@ -28,7 +28,8 @@ use Rattle.studio_rules.specs.Stable.{spot_named, range_lines}
 use Rattle.studio_rules.specs.declared.status.Status.{Status}
 use Rattle.studio_rules.specs.declared.status.Status.TheVariants.{Done}
 use Rattle.studio_rules.specs.Answers.{CommandAnswers}
-use Rattle.call_laws.specs.Costs.{cost_of, ClaimsCost, HasProof, PrintsCost}
+use Rattle.studio_rules.specs.Solve.{HasProof}
+use Rattle.call_laws.specs.Costs.{cost_of, ClaimsCost, PrintsCost}
 
 -- ---- the edit
 

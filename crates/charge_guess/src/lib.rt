@@ -11,7 +11,8 @@
 //!
 //! Modules: `tableau` (rows, columns and turns), `program` (the program of a node), `breach` (sets
 //! that are broken), `knees` (what can be used of a material), `propose` (whole numbers for a
-//! proposal), `cheap` (a cheap network).
+//! proposal), `cheap` (a cheap network), `ready` (how large a unit is and how much is
+//! used of a material at most).
 #![tactic(auto)]
 
 mod breach;
@@ -19,6 +20,8 @@ mod cheap;
 mod knees;
 mod program;
 mod propose;
+mod ready;
 mod tableau;
 
 pub use propose::{ChargeGuess, Proposal};
+pub use ready::{Bound, Range, Ready, Use, User};

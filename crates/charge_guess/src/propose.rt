@@ -8,7 +8,7 @@ use covers::Cover;
 use pgraph::Site;
 use std::alloc::{AllocError, Global};
 use std::num::saturating_f64_to_i64;
-use unit_sets::Node;
+use unit_sets::{Node, UnitSet};
 
 /// Multipliers over a scale, one for each row of the node, and covers.
 #[derive(Drop)]
@@ -47,9 +47,13 @@ const ROUNDS: u32 = 12;
 
 const MOST_SETS: usize = 80;
 
-/// A little more than the cost over `d`, which is in 10^-18 of the money unit.
-fn enough_for(cost: i128, d: i128) -> f64 {
-    let money = float_of(cost) / float_of(d) / (MILLION * MILLION * MILLION);
+/// The cost over `d` in money; it is in 10^-18 of the money unit.
+pub(crate) fn money_of(cost: i128, d: i128) -> f64 {
+    float_of(cost) / float_of(d) / (MILLION * MILLION * MILLION)
+}
+
+/// A little more than the money.
+pub(crate) fn enough_of(money: f64) -> f64 {
     money + magnitude(money) * 0.000001
 }
 
@@ -122,7 +126,21 @@ impl ChargeGuess {
         d: i128,
     ) -> Result<Option<Proposal>, AllocError> {
         self.left = self.left.saturating_add(MORE_PROGRAMS);
-        let enough = enough_for(cost, d);
+        match self.solved(alloc, site, node, enough_of(money_of(cost, d)))? {
+            Some(solved) => Ok(Some(solved.proposal(alloc, &solved.tableau, None)?)),
+            None => Ok(None),
+        }
+    }
+
+    /// The program of the node with the sets and limits that it needs, solved to its least cost or
+    /// to one that is enough.
+    pub(crate) fn solved(
+        &mut self,
+        alloc: Global,
+        site: &Site<'_>,
+        node: &Node,
+        enough: f64,
+    ) -> Result<Option<Solved>, AllocError> {
         let units = self.owed.count();
         let (mut tableau, rows) = self.program(alloc, node)?;
         let mut shares = Vec::new(alloc);
@@ -164,21 +182,68 @@ impl ChargeGuess {
                 add_cover(alloc, &mut tableau, cover, &shares)?;
             }
         }
-        let near = tableau.cost();
-        let ys = multipliers(alloc, &tableau, rows, &knees)?;
-        weigh(&tableau, &cover_rows, &mut covers);
-        let mut kept = Vec::new(alloc);
-        for cover in covers.iter() {
-            if cover.weight > 0 {
-                kept.push(*cover)?;
+        Ok(Some(Solved {
+            tableau,
+            rows,
+            shares,
+            covers,
+            cover_rows,
+            knees,
+        }))
+    }
+}
+
+/// The program of a node after its search.
+#[derive(Drop)]
+pub(crate) struct Solved {
+    pub(crate) tableau: Tableau,
+    // So many rows are those of the node.
+    rows: usize,
+    // The share of its capacity at which a free unit of size 1 is, by unit.
+    pub(crate) shares: Vec<f64>,
+    covers: Vec<Cover>,
+    cover_rows: Vec<usize>,
+    knees: Vec<Knee>,
+}
+
+impl Solved {
+    /// The multipliers of a tableau that has all rows of this program. A unit may be taken in
+    /// besides: then sets that have it say nothing, and each structure has one of a set beside it.
+    pub(crate) fn proposal(
+        &self,
+        alloc: Global,
+        tableau: &Tableau,
+        taken: Option<u32>,
+    ) -> Result<Proposal, AllocError> {
+        let mut covers = Vec::new(alloc);
+        for (row, cover) in self.cover_rows.iter().zip(&self.covers) {
+            let weight = weight_of(tableau, *row);
+            if weight > 0 && !has_unit(cover.units, taken) {
+                covers.push(Cover {
+                    weight,
+                    beside: if cover.beside == taken {
+                        None
+                    } else {
+                        cover.beside
+                    },
+                    units: cover.units,
+                })?;
             }
         }
-        Ok(Some(Proposal {
+        Ok(Proposal {
             d: SCALE,
-            ys,
-            covers: kept,
-            near,
-        }))
+            ys: multipliers(alloc, tableau, self.rows, &self.knees)?,
+            covers,
+            near: tableau.cost(),
+        })
+    }
+}
+
+/// Whether the set has the unit, if there is one.
+fn has_unit(set: UnitSet, unit: Option<u32>) -> bool {
+    match unit {
+        Some(unit) => unit < 128 && set.has(unit),
+        None => false,
     }
 }
 
@@ -217,6 +282,13 @@ fn push_built(
     Ok(())
 }
 
+/// The multiplier of a row that adds so much to the cost.
+pub(crate) fn number_of(cost: f64) -> i128 {
+    let y = cost * MILLION * SCALE_FLOAT;
+    let half = if y < 0.0 { -0.5 } else { 0.5 };
+    saturating_f64_to_i64(y + half) as i128
+}
+
 /// A multiplier for each row of the node: its own, with those of the material's other rows.
 fn multipliers(
     alloc: Global,
@@ -232,22 +304,18 @@ fn multipliers(
                 own = own + tableau.cost_of(Variable::Sum(knee.row));
             }
         }
-        let y = own * MILLION * SCALE_FLOAT;
-        let half = if y < 0.0 { -0.5 } else { 0.5 };
-        ys.push(saturating_f64_to_i64(y + half) as i128)?;
+        ys.push(number_of(own))?;
     }
     Ok(ys)
 }
 
-/// Gives each set its weight.
-fn weigh(tableau: &Tableau, rows: &[usize], covers: &mut [Cover]) {
-    for (row, cover) in rows.iter().zip(covers) {
-        let weight = tableau.cost_of(Variable::Sum(*row));
-        let whole = saturating_f64_to_i64(weight * MILLION * SCALE_FLOAT);
-        cover.weight = if whole > 0 {
-            (whole as i128).wrapping_mul(1_000_000_000_000)
-        } else {
-            0
-        };
+/// The weight of a set, by its row.
+fn weight_of(tableau: &Tableau, row: usize) -> i128 {
+    let weight = tableau.cost_of(Variable::Sum(row));
+    let whole = saturating_f64_to_i64(weight * MILLION * SCALE_FLOAT);
+    if whole > 0 {
+        (whole as i128).wrapping_mul(1_000_000_000_000)
+    } else {
+        0
     }
 }

@@ -62,6 +62,18 @@ pub(crate) struct Row {
 }
 
 impl Row {
+    fn copy(&self, alloc: Global) -> Result<Row, AllocError> {
+        let mut entries = vec![in alloc; 0.0f64; self.entries.len()]?;
+        for (entry, old) in entries.iter_mut().zip(&self.entries) {
+            *entry = *old;
+        }
+        Ok(Row {
+            variable: self.variable,
+            ends: self.ends,
+            entries,
+        })
+    }
+
     fn value(&self, columns: &[Column]) -> f64 {
         let mut sum = 0.0;
         for (entry, column) in self.entries.iter().zip(columns) {
@@ -120,6 +132,62 @@ impl Tableau {
             rows: Vec::new(alloc),
             fixed: 0.0,
             pivot: Vec::new(alloc),
+        }
+    }
+
+    /// Another tableau like this one. `Err` comes only when memory runs out.
+    pub(crate) fn copy(&self, alloc: Global) -> Result<Tableau, AllocError> {
+        let mut columns = Vec::new(alloc);
+        for column in self.columns.iter() {
+            columns.push(*column)?;
+        }
+        let mut rows = Vec::new(alloc);
+        for row in self.rows.iter() {
+            rows.push(row.copy(alloc)?)?;
+        }
+        let mut copy = Tableau {
+            columns,
+            rows,
+            fixed: self.fixed,
+            pivot: Vec::new(alloc),
+        };
+        copy.make_room(alloc)?;
+        Ok(copy)
+    }
+
+    /// Whether the tableau has a variable.
+    pub(crate) fn has(&self, variable: Variable) -> bool {
+        self.columns.iter().any(|it| it.variable == variable)
+            || self.rows.iter().any(|it| it.variable == variable)
+    }
+
+    /// Lets a variable be so much at least.
+    pub(crate) fn set_low(&mut self, variable: Variable, low: f64) {
+        for column in self.columns.iter_mut() {
+            if column.variable == variable {
+                column.ends.low = low;
+            }
+        }
+        for row in self.rows.iter_mut() {
+            if row.variable == variable {
+                row.ends.low = low;
+            }
+        }
+    }
+
+    /// Adds so much to the cost of a variable.
+    pub(crate) fn raise_cost(&mut self, variable: Variable, amount: f64) {
+        for column in self.columns.iter_mut() {
+            if column.variable == variable {
+                column.cost = column.cost + amount;
+            }
+        }
+        for row in self.rows.iter() {
+            if row.variable == variable {
+                for (entry, column) in row.entries.iter().zip(&mut self.columns) {
+                    column.cost = column.cost + amount * *entry;
+                }
+            }
         }
     }
 

@@ -1,7 +1,7 @@
 -- The charge of a node is a bound: its rows, what is paid by sets, and its units, put together.
 use Rattle.std.proofs.Common.{◌≡◌, ℕ, refl, sym, subst, ap, ◌∙◌, arith, pos, ℤ, ◌+ℤ◌, ◌-ℤ◌, ◌*ℤ◌}
 use Rattle.std.proofs.Common.{◌≤ℤ◌, List, Bool, true, false, cond, map}
-use Rattle.std.specs.Prelude.{int_lt, not, ◌&&◌}
+use Rattle.std.specs.Prelude.{int_lt, not, ◌&&◌, Option, Some, None, IfSome}
 use Rattle.std.specs.List.{AllByRecursion}
 use Rattle.std.proofs.lemmas.Int.{ints}
 use Rattle.integer_laws.specs.Total.{total}
@@ -9,20 +9,21 @@ use Rattle.integer_laws.proofs.Ring.{ring_z}
 use Rattle.integer_laws.proofs.Order.{mul_nonneg, mul-le_left, le_trans_z, int_min-le_left}
 use Rattle.integer_laws.proofs.Order.{int_min-le_right}
 use Rattle.integer_laws.proofs.Totals.{total-add, total-sub, total-mul, total-exchange, total-le}
+use Rattle.integer_laws.proofs.Totals.{total-same}
 use Rattle.integer_laws.proofs.Duality.{reduced_costs}
 use Rattle.number_sets.specs.Sets.{listed, IsWithin}
 use Rattle.pns_rules.specs.Structure.{mats, IsBetween}
 use Rattle.pns_rules.specs.Nodes.{Node}
-use Rattle.flow_rules.specs.Net.{Net, trillion, size_cost, units_of}
+use Rattle.flow_rules.specs.Net.{Net, million, trillion, size_cost, units_of}
 use Rattle.flow_rules.specs.Flows.{IsFlows, balance, cost}
 use Rattle.flow_rules.specs.Relaxed.{stays, units, rows, row_low, row_high, row_part, row_balance}
 use Rattle.flow_rules.proofs.ListedLemmas.{All-listed, total-sets, over_larger, within_larger}
 use Rattle.flow_rules.proofs.NetLemmas.{IsNet}
 use Rattle.flow_rules.proofs.RelaxedLemmas.{flows_are_relaxed}
-use Rattle.charge_rules.specs.Facts.{Facts, AreFacts, Fit}
+use Rattle.charge_rules.specs.Facts.{Demand, Facts, AreFacts, use_rate, use_of, Fit}
 use Rattle.charge_rules.specs.Cover.{Cover, paid, weights}
-use Rattle.charge_rules.specs.Charge.{has_knee, knee_of, knees, owed, unit_charge, or_none}
-use Rattle.charge_rules.specs.Charge.{unit_part, charge}
+use Rattle.charge_rules.specs.Charge.{has_knee, knee_of, knees, demanded, demanded_by, owed}
+use Rattle.charge_rules.specs.Charge.{unit_charge, or_none, unit_part, charge}
 use Rattle.charge_rules.specs.Laws.{AreCovers}
 use Rattle.charge_rules.proofs.KneeLemmas.{excess, least_owed_bent, total-sorted, total-map}
 use Rattle.charge_rules.proofs.KneeLemmas.{All-sorted, All-map}
@@ -92,26 +93,29 @@ excess_over_rows net n f y z d i =
     (λ h. (knee_is_row (mats net.graph (stays n) j) (net.graph.raw j)
     (int_lt (pos 0) (net.rate j i)) (int_lt (pos 0) (y j)) h).0)))
 
-unit_step : (d scale fix c t p z u b : ℤ)
-    → (d *ℤ u) ≤ℤ (d *ℤ (scale *ℤ fix -ℤ p) +ℤ (scale *ℤ c -ℤ t) *ℤ z +ℤ b)
-    → (d *ℤ u +ℤ d *ℤ p) ≤ℤ (scale *ℤ (fix *ℤ d) +ℤ (scale *ℤ c -ℤ t) *ℤ z +ℤ b)
-unit_step d scale fix c t p z u b h = omega (arith, ring_z)
+unit_step : (d scale fix c t w p z u b : ℤ)
+    → (d *ℤ u) ≤ℤ (d *ℤ (scale *ℤ fix -ℤ p) +ℤ (scale *ℤ c -ℤ t -ℤ w) *ℤ z +ℤ b)
+    → (d *ℤ u +ℤ d *ℤ p)
+    ≤ℤ (scale *ℤ (fix *ℤ d) +ℤ ((scale *ℤ c -ℤ t) *ℤ z -ℤ w *ℤ z) +ℤ b)
+unit_step d scale fix c t w p z u b h = omega (arith, ring_z)
 
--- what a unit owes and is paid is at most its part of the cost, less what its rows pay, and what is
--- beyond its knees
+-- what a unit owes and is paid is at most its part of the cost, less what its rows pay and what its
+-- use is worth, and what is beyond its knees
 pub unit_least : (net : Net) (n : Node) (f : Facts) (y z : ℕ → ℤ) (scale d : ℤ)
     (covers : List Cover) (i : ℕ) → pos 0 ≤ℤ d
     → (f.least i *ℤ d) ≤ℤ z i → z i ≤ℤ (f.most i *ℤ d)
     → (d *ℤ unit_charge net n f scale y covers i +ℤ d *ℤ paid covers i)
     ≤ℤ (scale *ℤ ((net.fix i *ℤ trillion) *ℤ d)
-    +ℤ (scale *ℤ size_cost net i -ℤ total (λ j. y j *ℤ net.rate j i) (rows net n)) *ℤ z i
+    +ℤ ((scale *ℤ size_cost net i -ℤ total (λ j. y j *ℤ net.rate j i) (rows net n)) *ℤ z i
+    -ℤ demanded_by net f.demand i *ℤ z i)
     +ℤ total (beyond net n f y z d i) (rows net n))
 unit_least net n f y z scale d covers i nonneg lo hi =
     unit_step d scale (net.fix i *ℤ trillion) (size_cost net i)
-    (total (λ j. y j *ℤ net.rate j i) (rows net n)) (paid covers i) (z i)
-    (unit_charge net n f scale y covers i) (total (beyond net n f y z d i) (rows net n))
+    (total (λ j. y j *ℤ net.rate j i) (rows net n)) (demanded_by net f.demand i)
+    (paid covers i) (z i) (unit_charge net n f scale y covers i)
+    (total (beyond net n f y z d i) (rows net n))
     (rw (excess_over_rows net n f y z d i) at (least_owed_bent (f.least i) (f.most i) (z i) d
-    (knees net n f y i) (owed net n scale y covers i) nonneg lo hi (all_worth net n f y i)))
+    (knees net n f y i) (owed net n f scale y covers i) nonneg lo hi (all_worth net n f y i)))
 
 -- ---- the units of the program: b, it is taken in; t, it is in the structure
 
@@ -137,19 +141,51 @@ parts_within net n s between f scale y covers =
     (λ i l h. part_within (n.inside i) (s i) (u i) (between.contains i))) in
     rw same at less
 
+-- ---- the use that is asked for
+
+worth_of_use : (d part amount worth used : ℤ) → pos 0 ≤ℤ worth → (part *ℤ amount *ℤ d) ≤ℤ used
+    → (d *ℤ (worth *ℤ (part *ℤ amount))) ≤ℤ (worth *ℤ used)
+worth_of_use d part amount worth used some h =
+    let a = mul-le_left worth (part *ℤ amount *ℤ d) used h some in omega (arith, ring_z)
+
+-- the sizes of a structure that uses as much are worth all that is asked for
+demand_met : (net : Net) (q : Option Demand) (s : ℕ → Bool) (z : ℕ → ℤ) (d : ℤ)
+    → IfSome q (λ v. pos 0 ≤ℤ v.worth)
+    → IfSome q (λ v. (million *ℤ v.amount *ℤ d) ≤ℤ use_of net s z v.of)
+    → (d *ℤ demanded q) ≤ℤ total (λ i. demanded_by net q i *ℤ z i) (units_of net s)
+demand_met net None s z d some h =
+    let none : total (λ i. pos 0 *ℤ z i) (units_of net s) ≡ pos 0 *ℤ total z (units_of net s)
+    = total-mul (pos 0) z (units_of net s) in
+    omega (arith, ints, none)
+demand_met net (Some q) s z d some h =
+    let same : total (λ i. q.worth *ℤ use_rate net q.of i *ℤ z i) (units_of net s)
+    ≡ q.worth *ℤ use_of net s z q.of
+    = total-same (λ i. q.worth *ℤ use_rate net q.of i *ℤ z i)
+    (λ i. q.worth *ℤ (use_rate net q.of i *ℤ z i))
+    (λ i. regrouped q.worth (use_rate net q.of i) (z i)) (units_of net s)
+    ∙ total-mul q.worth (λ i. use_rate net q.of i *ℤ z i) (units_of net s) in
+    subst (λ (v : ℤ). (d *ℤ (q.worth *ℤ (million *ℤ q.amount))) ≤ℤ v) (sym same)
+    (worth_of_use d million q.amount q.worth (use_of net s z q.of) some h)
+  where
+    regrouped : (a b c : ℤ) → a *ℤ b *ℤ c ≡ a *ℤ (b *ℤ c)
+    regrouped a b c = omega (arith, ring_z)
+
 -- ---- the whole
 
-put_together : (d scale r p u k c y x : ℤ)
-    → (d *ℤ u +ℤ d *ℤ p) ≤ℤ (scale *ℤ k +ℤ (scale *ℤ c -ℤ y) +ℤ x) → (d *ℤ r) ≤ℤ (y -ℤ x)
-    → (d *ℤ (r +ℤ p +ℤ u)) ≤ℤ (scale *ℤ (k +ℤ c))
-put_together d scale r p u k c y x h g = omega (arith, ring_z)
+put_together : (d scale r q p u k c y w x : ℤ)
+    → (d *ℤ u +ℤ d *ℤ p) ≤ℤ (scale *ℤ k +ℤ ((scale *ℤ c -ℤ y) -ℤ w) +ℤ x)
+    → (d *ℤ r) ≤ℤ (y -ℤ x) → (d *ℤ q) ≤ℤ w
+    → (d *ℤ (r +ℤ q +ℤ p +ℤ u)) ≤ℤ (scale *ℤ (k +ℤ c))
+put_together d scale r q p u k c y w x h g a = omega (arith, ring_z)
 
--- what the units of a structure owe and are paid, with the rows, is at most the cost
+-- what the units of a structure owe and are paid, with the rows and the use that is asked for, is
+-- at most the cost
 pub structure_least : (net : Net) → IsNet net → (n : Node) (s : ℕ → Bool)
     → IsBetween net.graph n.inside n.outside s → (f : Facts) → AreFacts net f
     → (z : ℕ → ℤ) (d : ℤ) → IsFlows net s z d → Fit net f s z d
     → (covers : List Cover) (scale : ℤ) (y : ℕ → ℤ)
-    → (d *ℤ (total (row_part net n y) (rows net n) +ℤ total (paid covers) (units_of net s)
+    → (d *ℤ (total (row_part net n y) (rows net n) +ℤ demanded f.demand
+    +ℤ total (paid covers) (units_of net s)
     +ℤ total (unit_charge net n f scale y covers) (units_of net s)))
     ≤ℤ (scale *ℤ cost net s z d)
 structure_least net valid n s between f facts z d flows fit covers scale y =
@@ -160,10 +196,12 @@ structure_least net valid n s between f facts z d flows fit covers scale y =
     let u : ℕ → ℤ = unit_charge net n f scale y covers in
     let k : ℕ → ℤ = λ i. (net.fix i *ℤ trillion) *ℤ d in
     let e : ℕ → ℤ = λ i. (scale *ℤ size_cost net i -ℤ total (λ j. y j *ℤ net.rate j i) js) *ℤ z i in
+    let g : ℕ → ℤ = λ i. demanded_by net f.demand i *ℤ z i in
     let b : ℕ → ℤ = λ i. total (beyond net n f y z d i) js in
     let x : ℕ → ℤ = λ j. total (λ i. beyond net n f y z d i j) is in
-    let each = total-le (λ i. d *ℤ u i +ℤ d *ℤ paid covers i) (λ i. scale *ℤ k i +ℤ e i +ℤ b i) is
-    (All-listed (λ i. (d *ℤ u i +ℤ d *ℤ paid covers i) ≤ℤ (scale *ℤ k i +ℤ e i +ℤ b i))
+    let each = total-le (λ i. d *ℤ u i +ℤ d *ℤ paid covers i)
+    (λ i. scale *ℤ k i +ℤ (e i -ℤ g i) +ℤ b i) is
+    (All-listed (λ i. (d *ℤ u i +ℤ d *ℤ paid covers i) ≤ℤ (scale *ℤ k i +ℤ (e i -ℤ g i) +ℤ b i))
     net.graph.units s
     (λ i l h. unit_least net n f y z scale d covers i positive (fit.at_least i l h)
     (fit.at_most i l h))) in
@@ -172,17 +210,22 @@ structure_least net valid n s between f facts z d flows fit covers scale y =
     = total-add (λ i. d *ℤ u i) (λ i. d *ℤ paid covers i) is
     ∙ ap (λ v. v +ℤ total (λ i. d *ℤ paid covers i) is) (total-mul d u is)
     ∙ ap (λ v. d *ℤ total u is +ℤ v) (total-mul d (paid covers) is) in
-    let right : total (λ i. scale *ℤ k i +ℤ e i +ℤ b i) is
+    let kept : total e is
+    ≡ scale *ℤ total (λ i. size_cost net i *ℤ z i) is -ℤ total (λ j. y j *ℤ balance net s z j) js
+    = reduced_costs is js net.rate (size_cost net) z y scale in
+    let right : total (λ i. scale *ℤ k i +ℤ (e i -ℤ g i) +ℤ b i) is
     ≡ scale *ℤ total k is
-    +ℤ (scale *ℤ total (λ i. size_cost net i *ℤ z i) is -ℤ total (λ j. y j *ℤ balance net s z j) js)
+    +ℤ (scale *ℤ total (λ i. size_cost net i *ℤ z i) is -ℤ total (λ j. y j *ℤ balance net s z j) js
+    -ℤ total g is)
     +ℤ total x js
-    = total-add (λ i. scale *ℤ k i +ℤ e i) b is
-    ∙ ap (λ v. v +ℤ total b is) (total-add (λ i. scale *ℤ k i) e is)
-    ∙ ap (λ v. v +ℤ total e is +ℤ total b is) (total-mul scale k is)
-    ∙ ap (λ v. scale *ℤ total k is +ℤ v +ℤ total b is)
-    (reduced_costs is js net.rate (size_cost net) z y scale)
+    = total-add (λ i. scale *ℤ k i +ℤ (e i -ℤ g i)) b is
+    ∙ ap (λ v. v +ℤ total b is) (total-add (λ i. scale *ℤ k i) (λ i. e i -ℤ g i) is)
+    ∙ ap (λ v. v +ℤ total (λ i. e i -ℤ g i) is +ℤ total b is) (total-mul scale k is)
+    ∙ ap (λ v. scale *ℤ total k is +ℤ v +ℤ total b is) (total-sub e g is)
+    ∙ ap (λ v. scale *ℤ total k is +ℤ (v -ℤ total g is) +ℤ total b is) kept
     ∙ ap (λ v. scale *ℤ total k is
-    +ℤ (scale *ℤ total (λ i. size_cost net i *ℤ z i) is -ℤ total (λ j. y j *ℤ balance net s z j) js)
+    +ℤ (scale *ℤ total (λ i. size_cost net i *ℤ z i) is -ℤ total (λ j. y j *ℤ balance net s z j) js
+    -ℤ total g is)
     +ℤ v)
     (total-exchange (beyond net n f y z d) is js) in
     let ranges = total-le (λ j. d *ℤ row_part net n y j) (λ j. y j *ℤ balance net s z j -ℤ x j) js
@@ -196,10 +239,11 @@ structure_least net valid n s between f facts z d flows fit covers scale y =
     (relaxed.high j l m)))) in
     let given = total-mul d (row_part net n y) js in
     let paid_for = total-sub (λ j. y j *ℤ balance net s z j) x js in
-    let whole = put_together d scale (total (row_part net n y) js) (total (paid covers) is)
-    (total u is) (total k is) (total (λ i. size_cost net i *ℤ z i) is)
-    (total (λ j. y j *ℤ balance net s z j) js) (total x js)
-    (rw (left, right) at each) (rw (given, paid_for) at ranges) in
+    let whole = put_together d scale (total (row_part net n y) js) (demanded f.demand)
+    (total (paid covers) is) (total u is) (total k is) (total (λ i. size_cost net i *ℤ z i) is)
+    (total (λ j. y j *ℤ balance net s z j) js) (total g is) (total x js)
+    (rw (left, right) at each) (rw (given, paid_for) at ranges)
+    (demand_met net f.demand s z d facts.some_worth fit.demand) in
     rw (← total-add k (λ i. size_cost net i *ℤ z i) is) at whole
 
 -- with the units of the program, and the weights, which are at most what the units are paid
@@ -210,7 +254,7 @@ pub charge_least : (net : Net) → IsNet net → (n : Node) (s : ℕ → Bool)
     → (d *ℤ charge net n f scale y covers) ≤ℤ (scale *ℤ cost net s z d)
 charge_least net valid n s between f facts z d flows fit covers are scale y =
     let positive : pos 0 ≤ℤ d = let p = flows.positive in omega (arith, ints) in
-    let r : ℤ = total (row_part net n y) (rows net n) in
+    let r : ℤ = total (row_part net n y) (rows net n) +ℤ demanded f.demand in
     let p : ℤ = total (paid covers) (units_of net s) in
     let u : ℤ = total (unit_charge net n f scale y covers) (units_of net s) in
     let v : ℤ = total (unit_part net n f scale y covers) (units net n) in

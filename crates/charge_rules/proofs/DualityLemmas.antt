@@ -31,6 +31,7 @@ own_facts_hold p valid = record {
   not_negative = λ i l. (net_of_valid p valid).least_not_negative i l;
   ordered = λ i l. (net_of_valid p valid).least_within i l;
   some_used = λ j l. tt;
+  some_worth = tt;
 }
 
 pub flows_fit : FlowsFit
@@ -38,4 +39,5 @@ flows_fit p s z d flows = record {
   at_least = λ i l h. flows.at_least i l h;
   at_most = λ i l h. flows.at_most i l h;
   used = λ j l. tt;
+  demand = tt;
 }

@@ -25,6 +25,16 @@
 -- and P are at 3, as in the first. At a size of 20 all that U3 makes is of use, so no knee counts:
 -- U3 owes 20 - 20 * (3 - 2) = 0. Together 60 + 5 again. The list has each number that is formed: 2
 -- for each of the rows A, B, C and P, 9 for each of the units, and one more for U4, which is added.
+--
+-- Fifth charge: at least 20 of B are used, and the use of 1 is worth 1. U2 and U4 are taken in, and
+-- C and P are at 3 as in the first. The row of P gives 60 and the use 20. A size of U2 costs 4,
+-- earns 3, and what it uses is worth 1: U2 owes 1. U1 and U3 owe nothing, and U4 owes 5. Together
+-- 86, the least cost: U2 and U4 at size 20 cost 80 + 1 + 5. Without the use 66.
+--
+-- Sixth charge: at least 30 of C are used, and no cost is counted. The use of 1 is worth 1, P is at
+-- -1, and no other row has a multiplier. The row of P gives -20 and the use 30, and a size of U4
+-- owes 1 - 1. Together 10, which is above 0: so much of C can not be used. 20 can be: the charge is
+-- 0 then.
 use Rattle.std.proofs.Common.{◌≡◌, ℕ, ◌==◌, pos, negsuc, ℤ, List, [], ◌∷◌, refl, cond, length}
 use Rattle.std.specs.Prelude.{Option, Some, None}
 use Rattle.number_sets.specs.Sets.{has, listed}
@@ -34,7 +44,7 @@ use Rattle.pns_rules.specs.Nodes.{Node}
 use Rattle.flow_rules.specs.Net.{net_of, beside}
 use Rattle.flow_rules.specs.Flows.{cost}
 use Rattle.flow_rules.specs.Steps.{last_from}
-use Rattle.charge_rules.specs.Facts.{Facts, own_facts}
+use Rattle.charge_rules.specs.Facts.{Demand, Facts, own_facts}
 use Rattle.charge_rules.specs.Cover.{Cover}
 use Rattle.charge_rules.specs.Charge.{knees, owed_bent, unit_part, charge}
 use Rattle.charge_rules.specs.ChargeSteps.{charge_steps}
@@ -108,7 +118,12 @@ abbrev used_of : ℕ → Option ℤ
 used_of j = cond (j == 2) (Some (pos 20000000)) None
 
 abbrev facts : Facts
-facts = record { least = (net_of plant).least; most = (net_of plant).most; used = used_of }
+facts = record {
+  least = (net_of plant).least;
+  most = (net_of plant).most;
+  used = used_of;
+  demand = None;
+}
 
 -- one number for C and P, none for A and B
 abbrev at_price : ℤ → ℕ → ℤ
@@ -220,7 +235,12 @@ its_steps_beside = refl
 -- ---- the fourth charge
 
 abbrev cut : Facts
-cut = record { least = (net_of plant).least; most = λ i. pos 20000000; used = λ j. None }
+cut = record {
+  least = (net_of plant).least;
+  most = λ i. pos 20000000;
+  used = λ j. None;
+  demand = None;
+}
 
 its_numbers : charge_steps (net_of plant) node cut (pos 1) (at_price (pos 3000000)) []
     ≡ pos 0 ∷ pos 0
@@ -250,3 +270,67 @@ less_cut_charge : charge (net_of plant) node cut (pos 1) (at_price (pos 2999999)
     ≡ pos 64999980000000000000
 unfolding listed
 less_cut_charge = refl
+
+-- ---- the fifth charge
+
+abbrev asking : Demand → Facts
+asking q = record {
+  least = (net_of plant).least;
+  most = (net_of plant).most;
+  used = used_of;
+  demand = Some q;
+}
+
+abbrev much_of_b : Facts
+much_of_b = asking (record { of = 1; amount = pos 20000000; worth = pos 1000000 })
+
+abbrev both : Node
+both = record { inside = has (1 ∷ 3 ∷ []); outside = has [] }
+
+cost_with_b : cost (net_of plant) (has (1 ∷ 3 ∷ []))
+    (beside (1 ∷ 3 ∷ []) (pos 20000000 ∷ pos 20000000 ∷ [])) (pos 1) ≡ pos 86000000000000000000
+unfolding listed
+cost_with_b = refl
+
+-- what U2 owes: nothing for its size, and its fixed cost
+its_rest_with_b : owed_bent (net_of plant) both much_of_b (pos 1) (at_price (pos 3000000)) [] 1
+    ≡ record { each = pos 0; once = pos 1000000000000000000 }
+unfolding listed
+its_rest_with_b = refl
+
+charge_with_b : charge (net_of plant) both much_of_b (pos 1) (at_price (pos 3000000)) []
+    ≡ pos 86000000000000000000
+unfolding listed
+charge_with_b = refl
+
+charge_without_b : charge (net_of plant) both facts (pos 1) (at_price (pos 3000000)) []
+    ≡ pos 66000000000000000000
+unfolding listed
+charge_without_b = refl
+
+-- two steps for each of four rows, three for the use, nine for each unit, two more for U2, which
+-- uses B, three for the knee of U3, and one for each of the two that are taken in
+its_steps_with_b : length (charge_steps (net_of plant) both much_of_b (pos 1)
+    (at_price (pos 3000000)) []) ≡ 54
+unfolding listed
+its_steps_with_b = refl
+
+its_last_with_b : last_from (pos 0) (charge_steps (net_of plant) both much_of_b (pos 1)
+    (at_price (pos 3000000)) []) ≡ pos 86000000000000000000
+unfolding listed
+its_last_with_b = refl
+
+-- ---- the sixth charge
+
+abbrev much_of_c : ℤ → Facts
+much_of_c amount = asking (record { of = 2; amount = amount; worth = pos 1 })
+
+refuted : charge (net_of plant) node (much_of_c (pos 30000000)) (pos 0)
+    (beside (3 ∷ []) (negsuc 0 ∷ [])) [] ≡ pos 10000000000000
+unfolding listed
+refuted = refl
+
+not_refuted : charge (net_of plant) node (much_of_c (pos 20000000)) (pos 0)
+    (beside (3 ∷ []) (negsuc 0 ∷ [])) [] ≡ pos 0
+unfolding listed
+not_refuted = refl

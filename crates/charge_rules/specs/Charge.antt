@@ -1,6 +1,6 @@
 -- The charge of a node is a bound in which a free unit owes its whole fixed cost or nothing. Each
 -- cover makes one unit owe. What is made of a material beyond what can be used of it is worth
--- nothing.
+-- nothing. If so much of a material is used, its use is worth something.
 use Rattle.std.specs.Prelude.{ℕ, ℤ, pos, neg_ℤ, ◌+ℤ◌, ◌-ℤ◌, ◌*ℤ◌, int_lt, int_le, int_div, Bool}
 use Rattle.std.specs.Prelude.{cond, not, ◌&&◌, List, [], ◌∷◌, map, Option, Some, None}
 use Rattle.std.specs.Int.{int_min}
@@ -10,7 +10,7 @@ use Rattle.pns_rules.specs.Structure.{mats}
 use Rattle.pns_rules.specs.Nodes.{Node}
 use Rattle.flow_rules.specs.Net.{Net, million, trillion, size_cost}
 use Rattle.flow_rules.specs.Relaxed.{stays, units, rows, row_low, row_part}
-use Rattle.charge_rules.specs.Facts.{Facts, use_rate}
+use Rattle.charge_rules.specs.Facts.{Demand, Facts, use_rate}
 use Rattle.charge_rules.specs.Cover.{Cover, paid, weights}
 
 -- ---- what is useful of a material
@@ -60,6 +60,18 @@ abbrev pub knees : Net → Node → Facts → (ℕ → ℤ) → ℕ → List Kne
 knees net n f y i =
     sorted (map (knee_of net n f y i) (listed net.graph.materials (has_knee net n y i)))
 
+-- ---- what a use is worth
+
+-- all that is asked for
+abbrev pub demanded : Option Demand → ℤ
+demanded None = pos 0
+demanded (Some q) = q.worth *ℤ (million *ℤ q.amount)
+
+-- what a size of unit i uses of it
+abbrev pub demanded_by : Net → Option Demand → ℕ → ℤ
+demanded_by net None i = pos 0
+demanded_by net (Some q) i = q.worth *ℤ use_rate net q.of i
+
 -- ---- the part of a unit
 
 -- what is left of the cost of a size after its rows have paid, and what the unit owes besides
@@ -86,16 +98,18 @@ abbrev pub bent : ℤ → ℤ → List Knee → Owed → Owed
 bent low high [] o = o
 bent low high (k ∷ ks) o = bent low high ks (bend low high o k)
 
-abbrev pub owed : Net → Node → ℤ → (ℕ → ℤ) → List Cover → ℕ → Owed
-owed net n scale y covers i =
+abbrev pub owed : Net → Node → Facts → ℤ → (ℕ → ℤ) → List Cover → ℕ → Owed
+owed net n f scale y covers i =
     record {
-      each = scale *ℤ size_cost net i -ℤ total (λ j. y j *ℤ net.rate j i) (rows net n);
+      each =
+          scale *ℤ size_cost net i -ℤ total (λ j. y j *ℤ net.rate j i) (rows net n)
+          -ℤ demanded_by net f.demand i;
       once = scale *ℤ (net.fix i *ℤ trillion) -ℤ paid covers i;
     }
 
 abbrev pub owed_bent : Net → Node → Facts → ℤ → (ℕ → ℤ) → List Cover → ℕ → Owed
 owed_bent net n f scale y covers i =
-    bent (f.least i) (f.most i) (knees net n f y i) (owed net n scale y covers i)
+    bent (f.least i) (f.most i) (knees net n f y i) (owed net n f scale y covers i)
 
 -- the least that is owed at a size within the facts
 abbrev pub least_owed : ℤ → ℤ → Owed → ℤ
@@ -116,5 +130,5 @@ unit_part net n f scale y covers i = or_none (n.inside i) (unit_charge net n f s
 
 abbrev pub charge : Net → Node → Facts → ℤ → (ℕ → ℤ) → List Cover → ℤ
 charge net n f scale y covers =
-    total (row_part net n y) (rows net n) +ℤ weights covers
+    total (row_part net n y) (rows net n) +ℤ demanded f.demand +ℤ weights covers
     +ℤ total (unit_part net n f scale y covers) (units net n)

@@ -1,18 +1,33 @@
--- The steps of a charge: the rows, the weights of the covers, what these pay, and then the units of
--- the program, in rising order. A sum is formed for each row, weight and unit that adds something.
+-- The steps of a charge: the rows, the use that is asked for, the weights of the covers, what these
+-- pay, and then the units of the program, in rising order. A sum is formed for each row, weight and
+-- unit that adds something.
 use Rattle.std.specs.Prelude.{ℕ, ℤ, pos, ◌+ℤ◌, ◌-ℤ◌, ◌*ℤ◌, int_lt, Bool, cond, List, [], ◌∷◌, ◌++◌}
 use Rattle.std.specs.Prelude.{map, Option, Some, None}
 use Rattle.std.specs.Ordering.{int_eq}
 use Rattle.std.specs.Int.{int_min}
 use Rattle.integer_laws.specs.Total.{total}
 use Rattle.pns_rules.specs.Nodes.{Node}
-use Rattle.flow_rules.specs.Net.{Net, trillion, size_cost}
+use Rattle.flow_rules.specs.Net.{Net, million, trillion, size_cost}
 use Rattle.flow_rules.specs.Relaxed.{units, rows, row_part}
 use Rattle.flow_rules.specs.BoundSteps.{rows_steps, rows_at, reduced_steps}
-use Rattle.charge_rules.specs.Facts.{Facts}
+use Rattle.charge_rules.specs.Facts.{Demand, Facts, use_rate}
 use Rattle.charge_rules.specs.Cover.{Cover, added, paid_by, paid, weights}
-use Rattle.charge_rules.specs.Charge.{Knee, Owed, knees, counted, bend, owed, owed_bent, least_owed}
-use Rattle.charge_rules.specs.Charge.{unit_charge, unit_part}
+use Rattle.charge_rules.specs.Charge.{Knee, Owed, demanded, knees, counted, bend, owed, owed_bent}
+use Rattle.charge_rules.specs.Charge.{least_owed, unit_charge, unit_part}
+
+-- the use in the measure of the rows, its worth, and the sum with it
+abbrev pub demand_steps : Option Demand → ℤ → List ℤ
+demand_steps None sum = []
+demand_steps (Some q) sum =
+    (million *ℤ q.amount) ∷ (q.worth *ℤ (million *ℤ q.amount))
+    ∷ (sum +ℤ q.worth *ℤ (million *ℤ q.amount)) ∷ []
+
+-- what a size of the unit uses is worth, and what the size owes less it, if the unit uses it
+abbrev pub use_steps : Net → Option Demand → ℕ → ℤ → List ℤ
+use_steps net None i each = []
+use_steps net (Some q) i each =
+    cond (int_eq (use_rate net q.of i) (pos 0)) []
+    ((q.worth *ℤ use_rate net q.of i) ∷ (each -ℤ q.worth *ℤ use_rate net q.of i) ∷ [])
 
 -- the sum with each weight that is added
 abbrev pub added_steps : Option ℕ → ℤ → ℤ → List ℤ
@@ -59,10 +74,12 @@ abbrev pub unit_steps : Net → Node → Facts → ℤ → (ℕ → ℤ) → Lis
 unit_steps net n f scale y covers i sum =
     (scale *ℤ size_cost net i)
     ∷ (reduced_steps y (λ j. net.rate j i) (rows_at net n i) (scale *ℤ size_cost net i)
+    ++ (use_steps net f.demand i
+    (scale *ℤ size_cost net i -ℤ total (λ j. y j *ℤ net.rate j i) (rows net n))
     ++ ((scale *ℤ (net.fix i *ℤ trillion)) ∷ (scale *ℤ (net.fix i *ℤ trillion) -ℤ paid covers i)
-    ∷ (knee_steps (f.least i) (f.most i) (knees net n f y i) (owed net n scale y covers i)
+    ∷ (knee_steps (f.least i) (f.most i) (knees net n f y i) (owed net n f scale y covers i)
     ++ (size_steps (f.least i) (f.most i) (owed_bent net n f scale y covers i)
-    ++ sum_steps (n.inside i) (unit_charge net n f scale y covers i) sum))))
+    ++ sum_steps (n.inside i) (unit_charge net n f scale y covers i) sum)))))
 
 abbrev pub units_steps : Net → Node → Facts → ℤ → (ℕ → ℤ) → List Cover → List ℕ → ℤ → List ℤ
 units_steps net n f scale y covers [] sum = []
@@ -73,7 +90,8 @@ units_steps net n f scale y covers (i ∷ is) sum =
 abbrev pub charge_steps : Net → Node → Facts → ℤ → (ℕ → ℤ) → List Cover → List ℤ
 charge_steps net n f scale y covers =
     rows_steps net n y (rows net n) (pos 0)
-    ++ (weight_steps covers (total (row_part net n y) (rows net n))
+    ++ (demand_steps f.demand (total (row_part net n y) (rows net n))
+    ++ (weight_steps covers (total (row_part net n y) (rows net n) +ℤ demanded f.demand)
     ++ (paid_steps (λ i. pos 0) covers
     ++ units_steps net n f scale y covers (units net n)
-    (total (row_part net n y) (rows net n) +ℤ weights covers)))
+    (total (row_part net n y) (rows net n) +ℤ demanded f.demand +ℤ weights covers))))

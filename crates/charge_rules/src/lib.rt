@@ -3,7 +3,8 @@
 //! The relaxed bound lets a free unit pay for its size instead of its fixed cost. A charge lets it
 //! owe the whole fixed cost or nothing, so it is stronger. For units to owe at all, a charge takes
 //! `Cover`s: sets of units of which each structure of the node has one. What is made of a material
-//! beyond all that can be used of it is worth nothing (`Knee`).
+//! beyond all that can be used of it is worth nothing (`Knee`). If so much of a material is used,
+//! its use is worth something (`Demand`).
 //!
 //! The definitions are in `specs/`: `Facts` (what is known of sizes and uses), `Cover`, `Charge`,
 //! `ChargeSteps` (which number of the sum is the first out of range), `Leaf` (which leaves of a

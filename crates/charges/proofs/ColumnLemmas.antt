@@ -10,18 +10,18 @@ use Rattle.charges.specs.Columns.{owed_in, owed_steps, bent_steps, charge_in, co
 use Rattle.charges.specs.declared.unit.Terms.{Terms}
 
 module _ (t : Terms) (ks : List Knee) (d : ℤ) (y rate : ℕ → ℤ) (js : List ℕ) (sum : ℤ)
-    (start at : ℕ) (o : Owed) (value : o ≡ owed_in d t.costs.size t.costs.fixed t.paid y rate js)
-    (fit : AreInRange (owed_steps d t.costs.size t.costs.fixed t.paid y rate js))
-    (count : at ≡ start + length (owed_steps d t.costs.size t.costs.fixed t.paid y rate js)) where
+    (start at : ℕ) (o : Owed) (value : o ≡ owed_in t d y rate js)
+    (fit : AreInRange (owed_steps t d y rate js))
+    (count : at ≡ start + length (owed_steps t d y rate js)) where
   pub bent_past : (n : ℕ) → at ≤ n → IsFirstPast (bent_steps t.sizes.low t.sizes.high ks o) (n - at)
       → IsFirstPast (column_steps t ks d y rate js sum) (n - start)
   bent_past n le h =
       subst
-      (λ (q : Owed). IsFirstPast (owed_steps d t.costs.size t.costs.fixed t.paid y rate js
+      (λ (q : Owed). IsFirstPast (owed_steps t d y rate js
       ++
       (bent_steps t.sizes.low t.sizes.high ks q
       ++ sum_steps t.is_in (charge_in t.sizes.low t.sizes.high ks q) sum)) (n - start)) value
-      (IsFirstPast-right (owed_steps d t.costs.size t.costs.fixed t.paid y rate js)
+      (IsFirstPast-right (owed_steps t d y rate js)
       (bent_steps t.sizes.low t.sizes.high ks o
       ++ sum_steps t.is_in (charge_in t.sizes.low t.sizes.high ks o) sum) (n - at) (n - start)
       (omega arith) fit
@@ -35,11 +35,11 @@ module _ (t : Terms) (ks : List Knee) (d : ℤ) (y rate : ℕ → ℤ) (js : Lis
         → IsFirstPast (column_steps t ks d y rate js sum) (n - start)
     part_past n le h =
         subst
-        (λ (q : Owed). IsFirstPast (owed_steps d t.costs.size t.costs.fixed t.paid y rate js
+        (λ (q : Owed). IsFirstPast (owed_steps t d y rate js
         ++
         (bent_steps t.sizes.low t.sizes.high ks q
         ++ sum_steps t.is_in (charge_in t.sizes.low t.sizes.high ks q) sum)) (n - start)) value
-        (IsFirstPast-right (owed_steps d t.costs.size t.costs.fixed t.paid y rate js)
+        (IsFirstPast-right (owed_steps t d y rate js)
         (bent_steps t.sizes.low t.sizes.high ks o
         ++ sum_steps t.is_in (charge_in t.sizes.low t.sizes.high ks o) sum) (n - at) (n - start)
         (omega arith) fit
@@ -52,11 +52,11 @@ module _ (t : Terms) (ks : List Knee) (d : ℤ) (y rate : ℕ → ℤ) (js : Lis
         → AreInRange (column_steps t ks d y rate js sum)
     column_fit h =
         subst
-        (λ (q : Owed). AreInRange (owed_steps d t.costs.size t.costs.fixed t.paid y rate js
+        (λ (q : Owed). AreInRange (owed_steps t d y rate js
         ++
         (bent_steps t.sizes.low t.sizes.high ks q
         ++ sum_steps t.is_in (charge_in t.sizes.low t.sizes.high ks q) sum))) value
-        (AreInRange-append (owed_steps d t.costs.size t.costs.fixed t.paid y rate js)
+        (AreInRange-append (owed_steps t d y rate js)
         (bent_steps t.sizes.low t.sizes.high ks o
         ++ sum_steps t.is_in (charge_in t.sizes.low t.sizes.high ks o) sum) fit
         (AreInRange-append (bent_steps t.sizes.low t.sizes.high ks o)
@@ -68,11 +68,11 @@ module _ (t : Terms) (ks : List Knee) (d : ℤ) (y rate : ℕ → ℤ) (js : Lis
     column_count to e =
         subst
         (λ (q : Owed). to ≡ start
-        + length (owed_steps d t.costs.size t.costs.fixed t.paid y rate js
+        + length (owed_steps t d y rate js
         ++
         (bent_steps t.sizes.low t.sizes.high ks q
         ++ sum_steps t.is_in (charge_in t.sizes.low t.sizes.high ks q) sum))) value
-        (let a = length-append (owed_steps d t.costs.size t.costs.fixed t.paid y rate js)
+        (let a = length-append (owed_steps t d y rate js)
         (bent_steps t.sizes.low t.sizes.high ks o
         ++ sum_steps t.is_in (charge_in t.sizes.low t.sizes.high ks o) sum) in
         let b = length-append (bent_steps t.sizes.low t.sizes.high ks o)
@@ -85,6 +85,6 @@ module _ (t : Terms) (ks : List Knee) (d : ℤ) (y rate : ℕ → ℤ) (js : Lis
     pub column_value : (z : ℤ) → z ≡ sum +ℤ or_none t.is_in part → z ≡ sum
         +ℤ or_none t.is_in
         (charge_in t.sizes.low t.sizes.high ks
-        (owed_in d t.costs.size t.costs.fixed t.paid y rate js))
+        (owed_in t d y rate js))
     column_value z e = e ∙ ap (λ (p : ℤ). sum +ℤ or_none t.is_in p) part_is
         ∙ ap (λ (q : Owed). sum +ℤ or_none t.is_in (charge_in t.sizes.low t.sizes.high ks q)) value

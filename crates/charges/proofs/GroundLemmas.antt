@@ -3,7 +3,7 @@
 use Rattle.std.proofs.Common.{◌≡◌, ℕ, zero, suc, ◌+◌, ◌-◌, ◌<◌, ◌≤◌, ◌⊎◌, inl, inr, Bool, true}
 use Rattle.std.proofs.Common.{false, refl, sym, ap, ◌∙◌, subst, arith, pos, ℤ, ◌+ℤ◌, ◌-ℤ◌, ◌*ℤ◌}
 use Rattle.std.proofs.Common.{List, [], ◌∷◌, ◌++◌, length, map, append_assoc}
-use Rattle.std.specs.Prelude.{◌==◌, not, ◌&&◌, ◌||◌, nat_lt, int_lt}
+use Rattle.std.specs.Prelude.{◌==◌, not, ◌&&◌, ◌||◌, nat_lt, int_lt, Option, Some, None}
 use Rattle.std.proofs.lemmas.Bool.{both_ways, eqb-true}
 use Rattle.std.proofs.lemmas.Int.{ints}
 use Rattle.integer_laws.specs.Range.{InRange}
@@ -28,19 +28,33 @@ use Rattle.flow_program.specs.Entry.{entry}
 use Rattle.flow_program.specs.Rates.{AreRates}
 use Rattle.flow_program.proofs.WalkLemmas.{IsNext, has-first, has-rest}
 use Rattle.flow_program.proofs.BoundSumLemmas.{materials_are_rows}
-use Rattle.charge_rules.specs.Facts.{Facts}
+use Rattle.charge_rules.specs.Facts.{Demand, Facts}
 use Rattle.charge_rules.specs.Cover.{Cover, paid}
 use Rattle.charge_rules.specs.Charge as rules
 use Rattle.charge_rules.specs.Charge.{Knee, Owed, useful, has_knee, knee_of, knees, sorted, bent}
-use Rattle.charge_rules.specs.Charge.{owed, owed_bent, unit_charge, unit_part, or_none}
+use Rattle.charge_rules.specs.Charge.{demanded_by, owed, owed_bent, unit_charge, unit_part}
+use Rattle.charge_rules.specs.Charge.{or_none}
 use Rattle.charge_rules.specs.ChargeSteps.{knee_steps, size_steps, sum_steps, unit_steps}
-use Rattle.charge_rules.specs.ChargeSteps.{units_steps}
+use Rattle.charge_rules.specs.ChargeSteps.{use_steps, units_steps}
 use Rattle.charges.specs.declared.knees.Knees.{Knees}
 use Rattle.charges.specs.declared.useful.Useful.{Useful}
 use Rattle.charges.specs.declared.unit.Terms.{Terms}
 use Rattle.charges.specs.Bends.{knee_at, knees_in, IsKnee}
+use Rattle.charges.specs.Columns.{worth_asked, rate_asked, used_steps, each_steps, once_steps}
 use Rattle.charges.specs.Columns.{owed_in, owed_steps, bent_steps, charge_in, column_steps}
 use Rattle.charges.specs.Ground.{AreUseful}
+
+-- ---- what is asked for
+
+use_asked : (net : Net) (u : ℕ) (q : Option Demand)
+    → worth_asked q *ℤ rate_asked net q u ≡ demanded_by net q u
+use_asked net u None = refl
+use_asked net u (Some q) = refl
+
+use_steps_asked : (net : Net) (u : ℕ) (each : ℤ) (q : Option Demand)
+    → used_steps (worth_asked q) (rate_asked net q u) each ≡ use_steps net q u each
+use_steps_asked net u each None = refl
+use_steps_asked net u each (Some q) = refl
 
 -- ---- the knees
 
@@ -130,7 +144,9 @@ module _ (p : Problem) (formed : IsWellFormed p) (n : Node) (f : Facts) (y : ℕ
   -- ---- the steps
   module _ (d : ℤ) (covers : List Cover) (t : Terms) (is_in : t.is_in ≡ n.inside u)
       (size : t.costs.size ≡ size_cost (net_of p) u)
-      (fixed : t.costs.fixed ≡ (net_of p).fix u *ℤ trillion) (pays : t.paid ≡ paid covers u)
+      (fixed : t.costs.fixed ≡ (net_of p).fix u *ℤ trillion)
+      (worth : t.used.worth ≡ worth_asked f.demand)
+      (used : t.used.rate ≡ rate_asked (net_of p) f.demand u) (pays : t.paid ≡ paid covers u)
       (low : t.sizes.low ≡ f.least u) (high : t.sizes.high ≡ f.most u) (sum : ℤ) where
     same_left : (z : ℤ) → left_of y (entry rates) materials z ≡ z
         -ℤ total (λ j. y j *ℤ (net_of p).rate j u) (rows (net_of p) n)
@@ -142,15 +158,22 @@ module _ (p : Problem) (formed : IsWellFormed p) (n : Node) (f : Facts) (y : ℕ
         (materials_are_rows p formed n u materials rates set h l stay)
         ∙ total_at_rows (net_of p) n y u)
 
-    same_owed : owed_in d t.costs.size t.costs.fixed t.paid y (entry rates) materials
-        ≡ owed (net_of p) n d y covers u
+    same_use : t.used.worth *ℤ t.used.rate ≡ demanded_by (net_of p) f.demand u
+    same_use = (λ i. worth i *ℤ used i) ∙ use_asked (net_of p) u f.demand
+
+    same_use_steps : (each : ℤ) → used_steps t.used.worth t.used.rate each
+        ≡ use_steps (net_of p) f.demand u each
+    same_use_steps each =
+        (λ i. used_steps (worth i) (used i) each) ∙ use_steps_asked (net_of p) u each f.demand
+
+    same_owed : owed_in t d y (entry rates) materials ≡ owed (net_of p) n f d y covers u
     same_owed =
         let each_is : left_of y (entry rates) materials (d *ℤ t.costs.size) ≡ d
         *ℤ size_cost (net_of p) u -ℤ total (λ j. y j *ℤ (net_of p).rate j u) (rows (net_of p) n)
         = same_left (d *ℤ t.costs.size)
         ∙ ap (λ (z : ℤ). d *ℤ z -ℤ total (λ j. y j *ℤ (net_of p).rate j u) (rows (net_of p) n))
         size in
-        λ i. record { each = each_is i; once = d *ℤ fixed i -ℤ pays i }
+        λ i. record { each = each_is i -ℤ same_use i; once = d *ℤ fixed i -ℤ pays i }
 
     same_rows : reduced_steps y (entry rates) materials (d *ℤ size_cost (net_of p) u)
         ≡ reduced_steps y (λ j. (net_of p).rate j u) (rows_at (net_of p) n u)
@@ -167,44 +190,61 @@ module _ (p : Problem) (formed : IsWellFormed p) (n : Node) (f : Facts) (y : ℕ
     late low high ks o b = knee_steps low high ks o
         ++ (size_steps low high (bent low high ks o) ++ sum_steps b (charge_in low high ks o) sum)
 
-    flat : (a : ℤ) (r : List ℤ) (x z : ℤ) (ks sizes last : List ℤ) → (a ∷ (r ++ (x ∷ z ∷ [])))
-        ++ ((ks ++ sizes) ++ last) ≡ a ∷ (r ++ (x ∷ z ∷ (ks ++ (sizes ++ last))))
-    flat a r x z ks sizes last =
-        ap (λ (zs : List ℤ). a ∷ zs) (append_assoc r (x ∷ z ∷ []) ((ks ++ sizes) ++ last)
-        ∙ ap (λ (zs : List ℤ). r ++ (x ∷ z ∷ zs)) (append_assoc ks sizes last))
+    flat : (a : ℤ) (r q : List ℤ) (x z : ℤ) (ks sizes last : List ℤ)
+        → ((a ∷ (r ++ q)) ++ (x ∷ z ∷ [])) ++ ((ks ++ sizes) ++ last)
+        ≡ a ∷ (r ++ (q ++ (x ∷ z ∷ (ks ++ (sizes ++ last)))))
+    flat a r q x z ks sizes last =
+        ap (λ (zs : List ℤ). a ∷ zs) (append_assoc (r ++ q) (x ∷ z ∷ []) ((ks ++ sizes) ++ last)
+        ∙ append_assoc r q (x ∷ z ∷ ((ks ++ sizes) ++ last))
+        ∙ ap (λ (zs : List ℤ). r ++ (q ++ (x ∷ z ∷ zs))) (append_assoc ks sizes last))
+
+    -- the steps after those of what is left of the cost of a size
+    abbrev behind : List ℤ
+    behind = (d *ℤ ((net_of p).fix u *ℤ trillion))
+        ∷ (d *ℤ ((net_of p).fix u *ℤ trillion) -ℤ paid covers u)
+        ∷ late (f.least u) (f.most u) (knees (net_of p) n f y u)
+        (owed (net_of p) n f d y covers u) (n.inside u)
 
     pub same_column : column_steps t (knees (net_of p) n f y u) d y (entry rates) materials sum
         ≡ unit_steps (net_of p) n f d y covers u sum
     same_column =
         flat (d *ℤ t.costs.size) (reduced_steps y (entry rates) materials (d *ℤ t.costs.size))
+        (used_steps t.used.worth t.used.rate
+        (left_of y (entry rates) materials (d *ℤ t.costs.size)))
         (d *ℤ t.costs.fixed) (d *ℤ t.costs.fixed -ℤ t.paid)
         (knee_steps t.sizes.low t.sizes.high (knees (net_of p) n f y u)
-        (owed_in d t.costs.size t.costs.fixed t.paid y (entry rates) materials))
+        (owed_in t d y (entry rates) materials))
         (size_steps t.sizes.low t.sizes.high
         (bent t.sizes.low t.sizes.high (knees (net_of p) n f y u)
-        (owed_in d t.costs.size t.costs.fixed t.paid y (entry rates) materials)))
+        (owed_in t d y (entry rates) materials)))
         (sum_steps t.is_in
         (charge_in t.sizes.low t.sizes.high (knees (net_of p) n f y u)
-        (owed_in d t.costs.size t.costs.fixed t.paid y (entry rates) materials)) sum)
+        (owed_in t d y (entry rates) materials)) sum)
         ∙
         (λ i. (d *ℤ size i)
         ∷ (reduced_steps y (entry rates) materials (d *ℤ size i)
         ++
+        (used_steps t.used.worth t.used.rate (left_of y (entry rates) materials (d *ℤ size i))
+        ++
         ((d *ℤ fixed i) ∷ (d *ℤ fixed i -ℤ pays i)
-        ∷ late (low i) (high i) (knees (net_of p) n f y u) (same_owed i) (is_in i))))
+        ∷ late (low i) (high i) (knees (net_of p) n f y u) (same_owed i) (is_in i)))))
+        ∙ ap
+        (λ (zs : List ℤ). (d *ℤ size_cost (net_of p) u)
+        ∷ (reduced_steps y (entry rates) materials (d *ℤ size_cost (net_of p) u) ++ (zs ++ behind)))
+        (same_use_steps (left_of y (entry rates) materials (d *ℤ size_cost (net_of p) u))
+        ∙ ap (λ (z : ℤ). use_steps (net_of p) f.demand u z)
+        (same_left (d *ℤ size_cost (net_of p) u)))
         ∙ ap
         (λ (zs : List ℤ). (d *ℤ size_cost (net_of p) u)
         ∷
         (zs
         ++
-        ((d *ℤ ((net_of p).fix u *ℤ trillion))
-        ∷ (d *ℤ ((net_of p).fix u *ℤ trillion) -ℤ paid covers u)
-        ∷ late (f.least u) (f.most u) (knees (net_of p) n f y u) (owed (net_of p) n d y covers u)
-        (n.inside u)))) same_rows
+        (use_steps (net_of p) f.demand u (d *ℤ size_cost (net_of p) u
+        -ℤ total (λ j. y j *ℤ (net_of p).rate j u) (rows (net_of p) n)) ++ behind))) same_rows
 
     pub same_part : or_none t.is_in
         (charge_in t.sizes.low t.sizes.high (knees (net_of p) n f y u)
-        (owed_in d t.costs.size t.costs.fixed t.paid y (entry rates) materials))
+        (owed_in t d y (entry rates) materials))
         ≡ unit_part (net_of p) n f d y covers u
     same_part =
         λ i. or_none (is_in i) (charge_in (low i) (high i) (knees (net_of p) n f y u) (same_owed i))
@@ -226,32 +266,33 @@ module _ (p : Problem) (formed : IsWellFormed p) (n : Node) (f : Facts) (y : ℕ
       first_part [] zs g = tt
       first_part (x ∷ xs) zs g = (g.0, first_part xs zs g.1)
 
-      from_owed : AreInRange
-          (owed_steps d t.costs.size t.costs.fixed t.paid y (entry rates) materials) → ks
+      from_owed : AreInRange (owed_steps t d y (entry rates) materials) → ks
           ≡ knees (net_of p) n f y u
       from_owed fit =
           right
           (product_fits y (entry rates) materials (d *ℤ t.costs.size)
           (first_part (reduced_steps y (entry rates) materials (d *ℤ t.costs.size))
-          ((d *ℤ t.costs.fixed) ∷ (d *ℤ t.costs.fixed -ℤ t.paid) ∷ []) fit.1))
+          (used_steps t.used.worth t.used.rate
+          (left_of y (entry rates) materials (d *ℤ t.costs.size)))
+          (first_part (each_steps t d y (entry rates) materials) (once_steps t d) fit).1))
 
       abbrev after : List Knee → List ℤ
       after ks =
           bent_steps t.sizes.low t.sizes.high ks
-          (owed_in d t.costs.size t.costs.fixed t.paid y (entry rates) materials)
+          (owed_in t d y (entry rates) materials)
           ++ sum_steps t.is_in
           (charge_in t.sizes.low t.sizes.high ks
-          (owed_in d t.costs.size t.costs.fixed t.paid y (entry rates) materials)) sum
+          (owed_in t d y (entry rates) materials)) sum
 
       pub column_past : (k : ℕ) → IsFirstPast (column_steps t ks d y (entry rates) materials sum) k
           → IsFirstPast (unit_steps (net_of p) n f d y covers u sum) k
       column_past k g = subst (λ (zs : List ℤ). IsFirstPast zs k) same_column
           (elim (split_past
-          (owed_steps d t.costs.size t.costs.fixed t.paid y (entry rates) materials) (after ks) k
+          (owed_steps t d y (entry rates) materials) (after ks) k
           g) [
             | inl a ↦
                 IsFirstPast-left
-                (owed_steps d t.costs.size t.costs.fixed t.paid y (entry rates) materials)
+                (owed_steps t d y (entry rates) materials)
                 (after (knees (net_of p) n f y u)) k a
             | inr b ↦
                 subst
@@ -264,7 +305,7 @@ module _ (p : Problem) (formed : IsWellFormed p) (n : Node) (f : Facts) (y : ℕ
           ≡ knees (net_of p) n f y u
       column_right g =
           from_owed
-          (first_part (owed_steps d t.costs.size t.costs.fixed t.paid y (entry rates) materials)
+          (first_part (owed_steps t d y (entry rates) materials)
           (after ks) g)
 
       pub column_fits : AreInRange (column_steps t ks d y (entry rates) materials sum)
@@ -286,7 +327,7 @@ module _ (p : Problem) (formed : IsWellFormed p) (n : Node) (f : Facts) (y : ℕ
           → new ≡ sum
           +ℤ or_none t.is_in
           (charge_in t.sizes.low t.sizes.high ks
-          (owed_in d t.costs.size t.costs.fixed t.paid y (entry rates) materials)) → new ≡ sum
+          (owed_in t d y (entry rates) materials)) → new ≡ sum
           +ℤ unit_part (net_of p) n f d y covers u
       column_adds new g e =
           e
@@ -294,7 +335,7 @@ module _ (p : Problem) (formed : IsWellFormed p) (n : Node) (f : Facts) (y : ℕ
           (λ (qs : List Knee). sum
           +ℤ or_none t.is_in
           (charge_in t.sizes.low t.sizes.high qs
-          (owed_in d t.costs.size t.costs.fixed t.paid y (entry rates) materials))) (column_right g)
+          (owed_in t d y (entry rates) materials))) (column_right g)
           ∙ ap (λ (z : ℤ). sum +ℤ z) same_part
 
 -- ---- the walk over the units

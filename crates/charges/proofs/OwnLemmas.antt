@@ -1,10 +1,11 @@
 -- The bounds of units, written into a table.
 use Rattle.std.proofs.Common.{◌≡◌, ◌≢◌, ℕ, zero, suc, [], ◌∷◌, replicate, ◌+◌, ◌<◌, ◌≤◌, refl, sym}
 use Rattle.std.proofs.Common.{ap, ◌∙◌, arith, inl, inr, pos, ℤ, List, length, get_or, set, subst}
+use Rattle.std.specs.Prelude.{Option, Some, None}
 use Rattle.std.proofs.lemmas.List.{get_or-set_same, get_or-set_other, length-set}
 use Rattle.std.proofs.lemmas.Bool.{cases_eq, cases_order, eq-eqb, ne_eqb}
 use Rattle.problem_rules.specs.Problem.{Problem, OperatingUnit, unit_at, no_unit}
-use Rattle.charges.specs.Known.{at_one}
+use Rattle.charges.specs.Known.{at_one, known_at}
 
 -- the table has f at each number below u, and 0 from there on
 pub record IsWritten (f : ℕ → ℤ) (table : List ℤ) (u : ℕ) : Type 0 where
@@ -60,7 +61,7 @@ no_lower p i h = ap (λ (u : OperatingUnit). u.lower) (past p.units i no_unit h)
 pub no_upper : (p : Problem) (i : ℕ) → length p.units ≤ i → (unit_at p i).upper ≡ pos 0
 no_upper p i h = ap (λ (u : OperatingUnit). u.upper) (past p.units i no_unit h)
 
--- ---- a table in which one number is written
+-- ---- a table in which one number, or one amount, is written
 
 pub one_written : (table : List ℤ) (u : ℕ) (value : ℤ) → u < length table
     → (i : ℕ) → get_or (set table u value) i (pos 0) ≡ at_one (λ i. get_or table i
@@ -71,4 +72,15 @@ one_written table u value l i = elim (cases_eq u i) [
       (let w : u < length table = l in rw get_or-set_same refl))
   | inr other ↦ rw (ne_eqb u i other)
       (let o : i ≢ u = λ e. other (sym e) in rw get_or-set_other refl)
+]
+
+pub one_known : (table : List (Option ℤ)) (j : ℕ) (amount : ℤ) → j < length table
+    → (m : ℕ) → get_or (set table j (Some amount)) m None
+    ≡ known_at (λ m. get_or table m None) j amount m
+one_known table j amount l m = elim (cases_eq j m) [
+  | inl same ↦ rw (eq-eqb j m same)
+      (subst (λ (k : ℕ). get_or (set table j (Some amount)) k None ≡ Some amount) same
+      (let w : j < length table = l in rw get_or-set_same refl))
+  | inr other ↦ rw (ne_eqb j m other)
+      (let o : m ≢ j = λ e. other (sym e) in rw get_or-set_other refl)
 ]

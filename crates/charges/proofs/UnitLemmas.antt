@@ -20,7 +20,9 @@ use Rattle.flow_program.specs.Columns.{left_of, least_of}
 use Rattle.flow_program.proofs.BoundSumLemmas.{IsReducedSoFar, reduced_ends}
 use Rattle.charge_rules.specs.Charge.{Knee, Owed, bent, least_owed, or_none}
 use Rattle.charge_rules.specs.ChargeSteps.{knee_steps, size_steps, sum_steps}
-use Rattle.charges.specs.Columns.{owed_in, owed_steps, bent_steps, charge_in}
+use Rattle.charges.specs.declared.unit.Terms.{Terms}
+use Rattle.charges.specs.Columns.{used_steps, each_in, each_steps, once_steps, owed_steps}
+use Rattle.charges.specs.Columns.{bent_steps, charge_in}
 use Rattle.charges.proofs.KneeLemmas.{lt_from}
 
 -- ---- what is owed before the knees
@@ -30,56 +32,86 @@ length_of_reduced y rate [] c = refl
 length_of_reduced y rate (j ∷ js) c = let h = length_of_reduced y rate js (c -ℤ y j *ℤ rate j) in
     omega arith
 
-abbrev pub two_steps : ℤ → ℤ → ℤ → List ℤ
-two_steps d fixed paid = (d *ℤ fixed) ∷ (d *ℤ fixed -ℤ paid) ∷ []
+-- the cost of a size, what the rows leave of it, and what the use leaves of that
+module _ (t : Terms) (d : ℤ) (y rate : ℕ → ℤ) (js : List ℕ) (cost : ℤ) (start : ℕ)
+    (f : InRange (d *ℤ t.costs.size)) (e : cost ≡ d *ℤ t.costs.size) where
+  abbrev rest : ℤ
+  rest = left_of y rate js (d *ℤ t.costs.size)
 
-module _ (d size fixed paid : ℤ) (y rate : ℕ → ℤ) (js : List ℕ) (cost : ℤ) (start : ℕ)
-    (f : InRange (d *ℤ size)) (e : cost ≡ d *ℤ size) where
   pub reduced_past : (n : ℕ) → start + 1 ≤ n → IsFirstPast (reduced_steps y rate js cost)
-      (n - (start + 1)) → IsFirstPast (owed_steps d size fixed paid y rate js) (n - start)
+      (n - (start + 1)) → IsFirstPast (each_steps t d y rate js) (n - start)
   reduced_past n le h =
       let q : n - start ≡ suc (n - (start + 1)) = omega arith in
       rw q (
         f,
-        IsFirstPast-left (reduced_steps y rate js (d *ℤ size)) (two_steps d fixed paid)
-            (n - (start + 1))
+        IsFirstPast-left (reduced_steps y rate js (d *ℤ t.costs.size))
+            (used_steps t.used.worth t.used.rate rest) (n - (start + 1))
             (subst (λ (c : ℤ). IsFirstPast (reduced_steps y rate js c) (n - (start + 1))) e h),
       )
 
-  module _ (each : ℤ) (at : ℕ) (value : each ≡ left_of y rate js cost)
+  module _ (left : ℤ) (at : ℕ) (value : left ≡ left_of y rate js cost)
       (count : at ≡ start + 1 + length (reduced_steps y rate js cost))
       (fit : AreInRange (reduced_steps y rate js cost)) where
-    long : at ≡ start + 1 + length (reduced_steps y rate js (d *ℤ size))
+    long : at ≡ start + 1 + length (reduced_steps y rate js (d *ℤ t.costs.size))
     long = count ∙ ap (λ (c : ℤ). start + 1 + length (reduced_steps y rate js c)) e
 
-    fits : AreInRange (reduced_steps y rate js (d *ℤ size))
+    fits : AreInRange (reduced_steps y rate js (d *ℤ t.costs.size))
     fits = subst (λ (c : ℤ). AreInRange (reduced_steps y rate js c)) e fit
 
-    pub once_past : (n : ℕ) → at ≤ n → IsFirstPast (two_steps d fixed paid) (n - at)
-        → IsFirstPast (owed_steps d size fixed paid y rate js) (n - start)
-    once_past n le h =
+    same : left ≡ rest
+    same = value ∙ ap (λ (c : ℤ). left_of y rate js c) e
+
+    pub used_past : (n : ℕ) → at ≤ n → IsFirstPast (used_steps t.used.worth t.used.rate left)
+        (n - at) → IsFirstPast (each_steps t d y rate js) (n - start)
+    used_past n le h =
         let l = long in
-        let q : n - start ≡ suc (length (reduced_steps y rate js (d *ℤ size)) + (n - at)) =
+        let q : n - start ≡ suc (length (reduced_steps y rate js (d *ℤ t.costs.size)) + (n - at)) =
         omega arith in
         rw q (
           f,
-          IsFirstPast-right (reduced_steps y rate js (d *ℤ size)) (two_steps d fixed paid)
-              (n - at) (length (reduced_steps y rate js (d *ℤ size)) + (n - at)) refl fits h,
+          IsFirstPast-right (reduced_steps y rate js (d *ℤ t.costs.size))
+              (used_steps t.used.worth t.used.rate rest) (n - at)
+              (length (reduced_steps y rate js (d *ℤ t.costs.size)) + (n - at)) refl fits
+              (subst
+              (λ (z : ℤ). IsFirstPast (used_steps t.used.worth t.used.rate z) (n - at)) same h),
         )
 
-    pub owed_fit : AreInRange (two_steps d fixed paid)
-        → AreInRange (owed_steps d size fixed paid y rate js)
-    owed_fit h =
-        (f, AreInRange-append (reduced_steps y rate js (d *ℤ size)) (two_steps d fixed paid) fits h)
+    pub each_fit : AreInRange (used_steps t.used.worth t.used.rate left)
+        → AreInRange (each_steps t d y rate js)
+    each_fit h = (
+      f,
+      AreInRange-append (reduced_steps y rate js (d *ℤ t.costs.size))
+          (used_steps t.used.worth t.used.rate rest) fits
+          (subst (λ (z : ℤ). AreInRange (used_steps t.used.worth t.used.rate z)) same h),
+    )
 
-    pub owed_count : at + 2 ≡ start + length (owed_steps d size fixed paid y rate js)
-    owed_count = let l = long in let a = length-append (reduced_steps y rate js (d *ℤ size))
-        (two_steps d fixed paid) in omega arith
+    pub each_count : (to : ℕ) → to ≡ at + length (used_steps t.used.worth t.used.rate left)
+        → to ≡ start + length (each_steps t d y rate js)
+    each_count to h =
+        let l = long in
+        let a = length-append (reduced_steps y rate js (d *ℤ t.costs.size))
+        (used_steps t.used.worth t.used.rate rest) in
+        let s : length (used_steps t.used.worth t.used.rate left)
+        ≡ length (used_steps t.used.worth t.used.rate rest) =
+        ap (λ (z : ℤ). length (used_steps t.used.worth t.used.rate z)) same in
+        omega arith
 
-    pub owed_value : (once : ℤ) (o : Owed) → o ≡ record { each = each; once = once } → once ≡ d
-        *ℤ fixed -ℤ paid → o ≡ owed_in d size fixed paid y rate js
-    owed_value once o s h =
-        s ∙ (λ i. record { each = (value ∙ ap (λ (c : ℤ). left_of y rate js c) e) i; once = h i })
+    pub each_value : (z : ℤ) → z ≡ left -ℤ t.used.worth *ℤ t.used.rate → z ≡ each_in t d y rate js
+    each_value z h = h ∙ ap (λ (w : ℤ). w -ℤ t.used.worth *ℤ t.used.rate) same
+
+-- and what it costs to be there
+module _ (t : Terms) (d : ℤ) (y rate : ℕ → ℤ) (js : List ℕ) (start at : ℕ)
+    (count : at ≡ start + length (each_steps t d y rate js))
+    (fit : AreInRange (each_steps t d y rate js)) where
+  pub once_past : (n : ℕ) → at ≤ n → IsFirstPast (once_steps t d) (n - at)
+      → IsFirstPast (owed_steps t d y rate js) (n - start)
+  once_past n le h =
+      IsFirstPast-right (each_steps t d y rate js) (once_steps t d) (n - at) (n - start)
+      (omega arith) fit h
+
+  pub owed_count : at + 2 ≡ start + length (owed_steps t d y rate js)
+  owed_count =
+      let a = length-append (each_steps t d y rate js) (once_steps t d) in omega arith
 
 -- ---- the knees and the sizes
 module _ (low high : ℤ) (ks : List Knee) (o left : Owed) (start at : ℕ)

@@ -18,6 +18,7 @@ ghost use Rattle.charges.specs.Sets.{AreBesideSmall};
 ghost use Rattle.charge_rules.specs.Cover as rules;
 ghost use Rattle.charges.specs.Ground.{IsGround, ArePaid};
 
+use crate::asked::{used_by, with_worth};
 use crate::bending::Sizes;
 use crate::facts::Facts;
 use crate::knees::knees_of;
@@ -102,6 +103,7 @@ fn with_units(
         let terms = Terms {
             is_in: ground.node.inside.has(u),
             costs: costs_of(problem, u, materials, &rates),
+            used: used_by(site, &ground.facts, u),
             paid: paid[u as usize],
             sizes: sizes_of(&ground.facts, u),
         };
@@ -160,26 +162,29 @@ pub fn charge_of(
     };
     match rows_sum(problem, node, sets.rows, sets.needed, &multipliers.ys) {
         Err(past) => Err(past),
-        Ok(rows) => match with_weights(rows, handed.covers) {
+        Ok(rows) => match with_worth(rows, facts.demand()) {
             Err(past) => Err(past),
-            Ok(sum) => match paid_of(sum.at, handed.covers) {
+            Ok(asked) => match with_weights(asked, handed.covers) {
                 Err(past) => Err(past),
-                Ok(paid) => {
-                    let ground = Ground {
-                        node: *node,
-                        facts: *facts,
-                        units: sets.units,
-                        useful: useful_at(site, node, &sets, facts),
-                    };
-                    let from = Running {
-                        sum: sum.sum,
-                        at: paid.at,
-                    };
-                    match with_units(from, site, &ground, &multipliers, &paid.to) {
-                        Err(past) => Err(past),
-                        Ok(all) => Ok(all.sum),
+                Ok(sum) => match paid_of(sum.at, handed.covers) {
+                    Err(past) => Err(past),
+                    Ok(paid) => {
+                        let ground = Ground {
+                            node: *node,
+                            facts: *facts,
+                            units: sets.units,
+                            useful: useful_at(site, node, &sets, facts),
+                        };
+                        let from = Running {
+                            sum: sum.sum,
+                            at: paid.at,
+                        };
+                        match with_units(from, site, &ground, &multipliers, &paid.to) {
+                            Err(past) => Err(past),
+                            Ok(all) => Ok(all.sum),
+                        }
                     }
-                }
+                },
             },
         },
     }

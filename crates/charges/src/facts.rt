@@ -2,16 +2,27 @@
 ghost use Rattle.std.specs.Prelude.{◌≡◌, ◌<◌};
 ghost use Rattle.flow_rules.specs.Net.{net_of};
 ghost use Rattle.charge_rules.specs.Facts.{own_facts};
-ghost use Rattle.charges.specs.Known.{facts_of, at_one};
+ghost use Rattle.charges.specs.Known.{demand_of, asked_of, facts_of, at_one, known_at};
 
 use pns_problem::Problem;
 
-/// Between which sizes each unit is, and how much is used of each material at most.
+/// A material of which at least so much is used, in millionths, and what the sum gets for each part
+/// of its use.
+#[derive(Clone, Copy, Debug)]
+pub struct Demand {
+    pub of: u32,
+    pub amount: i128,
+    pub worth: i128,
+}
+
+/// Between which sizes each unit is, and how much is used of each material at most. Of one material
+/// it may be asked what follows if more is used.
 #[derive(Clone, Copy)]
 pub struct Facts {
     least: [i64; 128],
     most: [i64; 128],
     used: [Option<i64>; 256],
+    demand: Option<Demand>,
 }
 
 impl Facts {
@@ -32,6 +43,7 @@ impl Facts {
             least,
             most,
             used: [None; 256],
+            demand: None,
         }
     }
 
@@ -52,7 +64,7 @@ impl Facts {
     }
 
     /// How much is used of a material at most, if that is known.
-    pub(crate) fn used_of(&self, j: u32) -> Option<i64>
+    pub fn used_of(&self, j: u32) -> Option<i64>
         requires { j < 256 }
         ensures { result ≡ (facts_of self.now).used j }
     {
@@ -66,6 +78,7 @@ impl Facts {
           least = at_one (facts_of self.now).least u size;
           most = (facts_of self.now).most;
           used = (facts_of self.now).used;
+          demand = (facts_of self.now).demand;
         } }
     {
         let mut least = self.least;
@@ -74,6 +87,7 @@ impl Facts {
             least,
             most: self.most,
             used: self.used,
+            demand: self.demand,
         }
     }
 
@@ -84,6 +98,7 @@ impl Facts {
           least = (facts_of self.now).least;
           most = at_one (facts_of self.now).most u size;
           used = (facts_of self.now).used;
+          demand = (facts_of self.now).demand;
         } }
     {
         let mut most = self.most;
@@ -92,6 +107,51 @@ impl Facts {
             least: self.least,
             most,
             used: self.used,
+            demand: self.demand,
+        }
+    }
+
+    /// The use that is asked for.
+    pub(crate) fn demand(&self) -> Option<Demand>
+        ensures { asked_of result ≡ (facts_of self.now).demand }
+    {
+        self.demand
+    }
+
+    /// These facts, but with another greatest use of a material.
+    pub fn with_used(&self, j: u32, amount: i64) -> Facts
+        requires { j < 256 }
+        ensures { facts_of result ≡ record {
+          least = (facts_of self.now).least;
+          most = (facts_of self.now).most;
+          used = known_at (facts_of self.now).used j amount;
+          demand = (facts_of self.now).demand;
+        } }
+    {
+        let mut used = self.used;
+        used[j as usize] = Some(amount);
+        Facts {
+            least: self.least,
+            most: self.most,
+            used,
+            demand: self.demand,
+        }
+    }
+
+    /// These facts, and a use that is asked for.
+    pub fn with_demand(&self, demand: Demand) -> Facts
+        ensures { facts_of result ≡ record {
+          least = (facts_of self.now).least;
+          most = (facts_of self.now).most;
+          used = (facts_of self.now).used;
+          demand = Some (demand_of demand);
+        } }
+    {
+        Facts {
+            least: self.least,
+            most: self.most,
+            used: self.used,
+            demand: Some(demand),
         }
     }
 }

@@ -11,8 +11,10 @@ ghost use Rattle.flow_program.specs.Rates.{AreRates};
 ghost use Rattle.charge_rules.specs.Charge.{bent, least_owed, or_none};
 ghost use Rattle.charge_rules.specs.ChargeSteps.{knee_steps, size_steps, sum_steps};
 ghost use Rattle.charges.specs.Bends.{as_owed, knees_in};
-ghost use Rattle.charges.specs.Columns.{owed_in, owed_steps, bent_steps, charge_in, column_steps};
+ghost use Rattle.charges.specs.Columns.{each_in, each_steps, owed_in, owed_steps, bent_steps};
+ghost use Rattle.charges.specs.Columns.{charge_in, column_steps};
 
+use crate::asked::{Used, less_use};
 use crate::bending::{Owed, Sizes, bent};
 use crate::knees::Knees;
 use crate::products::{quick_product, with_least};
@@ -55,12 +57,13 @@ pub fn costs_of(problem: &Problem, u: u32, materials: MatSet, rates: &[i64]) -> 
     }
 }
 
-/// What is read of a unit: whether it is taken in, its costs, what the covers pay to it, and its
-/// sizes.
+/// What is read of a unit: whether it is taken in, its costs, what it uses of the material that is
+/// asked for, what the covers pay to it, and its sizes.
 #[derive(Clone, Copy)]
 pub(crate) struct Terms {
     pub(crate) is_in: bool,
     pub(crate) costs: Costs,
+    pub(crate) used: Used,
     pub(crate) paid: i128,
     pub(crate) sizes: Sizes,
 }
@@ -121,6 +124,39 @@ fn once_of(start: u32, d: i128, fixed: i128, paid: i128) -> Result<i128, PastSum
     }
 }
 
+/// What is left of the cost of a size of a unit.
+fn each_of(
+    start: u32,
+    multipliers: &Multipliers,
+    terms: Terms,
+    materials: MatSet,
+    rates: &[i64],
+) -> Result<Running, PastSum>
+    requires all_rates { length rates.now ≡ 256 }
+    requires room { start ≤ 200000000 }
+    ensures value { IfOk result (λ to. to.sum ≡ each_in terms multipliers.now.d
+        (entry multipliers.now.ys) (entry rates.now) materials) }
+    ensures in_range { OnOk result (AreInRange (each_steps terms multipliers.now.d
+        (entry multipliers.now.ys) (entry rates.now) materials)) }
+    ensures count { IfOk result (λ to. to.at ≡ start + length (each_steps terms multipliers.now.d
+        (entry multipliers.now.ys) (entry rates.now) materials)) }
+    ensures small { IfOk result (λ to. to.at ≤ start + 515) }
+    ensures from_start { IfErr result (λ e. start ≤ e.at) }
+    ensures past { IfErr result (λ e. IsFirstPast (each_steps terms multipliers.now.d
+        (entry multipliers.now.ys) (entry rates.now) materials) (e.at - start)) }
+{
+    let Some(cost) = quick_product(multipliers.d, terms.costs.size) else {
+        return Err(PastSum { at: start });
+    };
+    match reduced(start + 1, cost, materials, rates, &multipliers.ys) {
+        Err(past) => Err(past),
+        Ok((rest, at)) => match less_use(Running { sum: rest, at }, terms.used) {
+            Err(past) => Err(past),
+            Ok(to) => Ok(to),
+        },
+    }
+}
+
 /// What a unit owes before its knees, and the number of the step that comes next.
 fn owed_of(
     start: u32,
@@ -131,30 +167,28 @@ fn owed_of(
 ) -> Result<(Owed, u32), PastSum>
     requires all_rates { length rates.now ≡ 256 }
     requires room { start ≤ 200000000 }
-    ensures value { IfOk result (λ p. as_owed p.0
-        ≡ owed_in multipliers.now.d terms.costs.size terms.costs.fixed terms.paid
+    ensures value { IfOk result (λ p. as_owed p.0 ≡ owed_in terms multipliers.now.d
         (entry multipliers.now.ys) (entry rates.now) materials) }
-    ensures in_range { OnOk result (AreInRange
-        (owed_steps multipliers.now.d terms.costs.size terms.costs.fixed terms.paid
+    ensures in_range { OnOk result (AreInRange (owed_steps terms multipliers.now.d
         (entry multipliers.now.ys) (entry rates.now) materials)) }
-    ensures count { IfOk result (λ p. p.1 ≡ start + length
-        (owed_steps multipliers.now.d terms.costs.size terms.costs.fixed terms.paid
+    ensures count { IfOk result (λ p. p.1 ≡ start + length (owed_steps terms multipliers.now.d
         (entry multipliers.now.ys) (entry rates.now) materials)) }
-    ensures small { IfOk result (λ p. p.1 ≤ start + 515) }
+    ensures small { IfOk result (λ p. p.1 ≤ start + 517) }
     ensures from_start { IfErr result (λ e. start ≤ e.at) }
-    ensures past { IfErr result (λ e. IsFirstPast
-        (owed_steps multipliers.now.d terms.costs.size terms.costs.fixed terms.paid
-        (entry multipliers.now.ys) (entry rates.now) materials)
-        (e.at - start)) }
+    ensures past { IfErr result (λ e. IsFirstPast (owed_steps terms multipliers.now.d
+        (entry multipliers.now.ys) (entry rates.now) materials) (e.at - start)) }
 {
-    let Some(cost) = quick_product(multipliers.d, terms.costs.size) else {
-        return Err(PastSum { at: start });
-    };
-    match reduced(start + 1, cost, materials, rates, &multipliers.ys) {
+    match each_of(start, multipliers, terms, materials, rates) {
         Err(past) => Err(past),
-        Ok((each, at)) => match once_of(at, multipliers.d, terms.costs.fixed, terms.paid) {
+        Ok(left) => match once_of(left.at, multipliers.d, terms.costs.fixed, terms.paid) {
             Err(past) => Err(past),
-            Ok(once) => Ok((Owed { each, once }, at + 2)),
+            Ok(once) => Ok((
+                Owed {
+                    each: left.sum,
+                    once,
+                },
+                left.at + 2,
+            )),
         },
     }
 }
@@ -232,8 +266,8 @@ pub(crate) fn with_unit(
     requires room { from.at ≤ 200000000 }
     ensures value { IfOk result (λ to. to.sum ≡ from.sum +ℤ or_none terms.is_in
         (charge_in terms.sizes.low terms.sizes.high (knees_in knees.now knees.now.set)
-        (owed_in multipliers.now.d terms.costs.size terms.costs.fixed terms.paid
-        (entry multipliers.now.ys) (entry rates.now) materials))) }
+        (owed_in terms multipliers.now.d (entry multipliers.now.ys) (entry rates.now)
+        materials))) }
     ensures in_range { OnOk result (AreInRange
         (column_steps terms (knees_in knees.now knees.now.set) multipliers.now.d
         (entry multipliers.now.ys) (entry rates.now) materials from.sum)) }

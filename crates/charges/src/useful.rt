@@ -28,7 +28,7 @@ pub(crate) struct Useful {
 }
 
 /// The rate at which a unit uses a material, if it makes it at this rate.
-fn use_rate_of(rate: i64) -> i64
+pub(crate) fn use_rate_of(rate: i64) -> i64
     requires { unsigned_abs rate ≤ 2000000000000000 }
     ensures value { result ≡ int_max (pos 0) (neg_ℤ rate) }
     ensures small { unsigned_abs result ≤ 2000000000000000 }

@@ -1,7 +1,7 @@
-//! The best plants that really differ, with a tree that proves that none is left out.
+//! The best plants that really differ, with a tree that proves it.
 //!
-//! [`alternatives_watched`] is called as `rank_watched` of `rank_search`, with the site of the
-//! problem, the count and the effort, and has the same kind of answer. `IsListedTo` of
+//! [`alternatives_with`] is called as `rank_with` of `rank_search`, with a workspace, the site of
+//! the problem, the count and the effort, and has the same kind of answer. `IsListedBy` of
 //! `specs/Listed` says what the answer is.
 //!
 //! The search is that of `abb_search`, and no cost has to be undercut while its tree grows. Beside
@@ -25,4 +25,4 @@ mod told;
 mod turns;
 mod whole;
 
-pub use whole::{alternatives_watched, alternatives_with};
+pub use whole::alternatives_with;

@@ -1,15 +1,15 @@
-//! The whole search: over any evaluator of nodes, and over the simplex method.
+//! The whole search, over any evaluator of nodes.
 ghost use Rattle.std.specs.Prelude.{◌≡◌, ◌≤◌, IfOk};
 ghost use Rattle.pns_rules.specs.Shape.{shape_of};
 ghost use Rattle.neutral_extension.specs.Candidates.{AreMakersOf};
-ghost use Rattle.distinct_search.specs.Listed.{IsListedBy, IsListedTo};
+ghost use Rattle.distinct_search.specs.Listed.{IsListedBy};
 ghost use Rattle.distinct_search.specs.Turns.{IsSearching};
 
 use crate::listing::{Listing, take_networks};
 use crate::plants::Plants;
 use crate::told::listed_by;
 use crate::turns::run;
-use abb_search::{Growing, look_at_root, workspace_of};
+use abb_search::{Growing, look_at_root};
 use node_evaluation::{Evaluator, Workspace, copy_of_network};
 use pgraph::Site;
 use progress::{Effort, Watch};
@@ -97,23 +97,6 @@ pub fn alternatives_with<E: Evaluator, W: Watch>(
 {
     match listed(workspace, site, count, effort) {
         Ok(found) => found,
-        Err(_) => Ranked::Memory,
-    }
-}
-
-/// Searches over the simplex method, and reports how far it is.
-pub fn alternatives_watched<W: Watch>(
-    alloc: Global,
-    site: &Site<'_>,
-    count: u32,
-    effort: Effort<W>,
-) -> Ranked
-    requires asked { 1 ≤ count }
-    requires some { 1 ≤ effort.budget }
-    ensures { IsListedTo site.now count effort.budget result }
-{
-    match workspace_of(alloc, site) {
-        Ok(mut workspace) => alternatives_with(&mut workspace, site, count, effort),
         Err(_) => Ranked::Memory,
     }
 }

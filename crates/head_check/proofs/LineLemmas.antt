@@ -9,7 +9,7 @@ use Rattle.pns_rules.specs.Nodes.{IsPossible, after}
 use Rattle.tree_rules.specs.Tree.{StepsPass, after_all}
 use Rattle.tree_rules.specs.Claim.{CostOver, IsAtLeast}
 use Rattle.tree_rules.specs.Leaf.{IsClaimed}
-use Rattle.charge_rules.specs.Facts.{Facts}
+use Rattle.charge_rules.specs.Facts.{Demand, Facts}
 use Rattle.charge_rules.specs.Cover.{Cover, IsFree}
 use Rattle.charge_rules.specs.Leaf.{Handed}
 use Rattle.flow_rules.specs.Net.{net_of}
@@ -19,9 +19,10 @@ use Rattle.head_rules.specs.declared.line_why.LineWhy.TheVariants as causes
 use Rattle.head_rules.specs.Charged.{IsCharged}
 use Rattle.head_rules.specs.Trim.{trimmed_size, MayTrim}
 use Rattle.head_rules.specs.Head as rules
-use Rattle.head_rules.specs.Head.{step, cap, out, trim, with_in, with_out, with_least, with_most}
-use Rattle.head_rules.specs.Head.{MayCap, MayLeave, LinePasses, after_line}
-use Rattle.head_rules.specs.Faults.{ChargeFails, IsSize, LineFails}
+use Rattle.head_rules.specs.Head.{step, cap, out, trim, uses, with_in, with_out, with_least}
+use Rattle.head_rules.specs.Head.{with_most, with_used, with_demand, MayCap, MayLeave, LinePasses}
+use Rattle.head_rules.specs.Head.{after_line}
+use Rattle.head_rules.specs.Faults.{ChargeFails, IsSize, IsUse, LineFails}
 
 -- ---- what a charge hands in
 
@@ -153,3 +154,36 @@ module _ (p : Problem) (claimed : Option CostOver) (k : rules.Known) where
   pub trim_fails : (u : ℕ) → (MayTrim (net_of p) k.node k.facts u → ⊥)
       → LineFails p claimed k (trim u) causes.Trim
   trim_fails u never = inl (refl, never)
+
+  -- ---- uses of materials
+
+  module _ (q : Demand) (d : ℤ) (ys : List ℤ) (covers : List Cover) where
+    pub amount_fails : (IsUse p k q → ⊥) → LineFails p claimed k (uses q d ys covers) causes.Fact
+    amount_fails never = inl (refl, never)
+
+    module _ (is : IsUse p k q) (f : Facts) (f_is : f ≡ with_demand k.facts q) where
+      pub use_passes : IsCharged p claimed k.node f d ys covers
+          → LinePasses p claimed k (uses q d ys covers)
+      use_passes charged = record {
+        row = is.0;
+        not_raw = is.1;
+        at_least = is.2;
+        at_most = is.3;
+        less = is.4;
+        worth = is.5;
+        charged = subst (λ (e : Facts). IsCharged p claimed k.node e d ys covers) f_is charged;
+      }
+
+      pub use_fails : (why : LineWhy) → ChargeFails p claimed k.node f d ys covers why
+          → LineFails p claimed k (uses q d ys covers) why
+      use_fails why fails =
+          inr (
+            is,
+            subst (λ (e : Facts). ChargeFails p claimed k.node e d ys covers why) f_is fails,
+          )
+
+    pub use_leads : (w : ℤ) → w ≡ q.amount → (f : Facts) → f ≡ with_used k.facts q.of w
+        → known_by k.node f ≡ after_line p k (uses q d ys covers)
+    use_leads w same f e =
+        same_known k.node k.node f (with_used k.facts q.of q.amount) refl
+        (e ∙ ap (λ (x : ℤ). with_used k.facts q.of x) same)

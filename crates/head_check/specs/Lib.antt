@@ -1,3 +1,4 @@
 pub mod Lines
 pub mod Trims
+pub mod Uses
 pub mod View

@@ -29,29 +29,37 @@ fn line_why(why: ChargeWhy) -> LineWhy
     }
 }
 
+/// What a line gives for its charge, and the cost that is claimed.
+#[derive(Clone, Copy)]
+pub(crate) struct Given<'a> {
+    pub(crate) claimed: Option<CostOver>,
+    pub(crate) scaled: &'a Scaled,
+    pub(crate) covers: &'a Covers,
+}
+
 /// The node is to be charged what is claimed, with these facts.
 pub(crate) fn judge_charged(
     site: &Site<'_>,
     known: &Known,
-    claimed: Option<CostOver>,
-    scaled: &Scaled,
-    covers: &Covers,
+    given: &Given<'_>,
 ) -> Result<(), LineWhy>
     requires inside { KnowsInside (shape_of site.now) (node_of known.now.node) }
     ensures passes { OnOk result
-        (IsCharged site.now (cost_over claimed) (node_of known.now.node)
-        (facts_of known.now.facts) scaled.now.d scaled.now.ys covers.now) }
+        (IsCharged site.now (cost_over given.now.claimed) (node_of known.now.node)
+        (facts_of known.now.facts) given.now.scaled.now.d given.now.scaled.now.ys
+        given.now.covers.now) }
     ensures fails { IfErr result
-        (rules.ChargeFails site.now (cost_over claimed) (node_of known.now.node)
-        (facts_of known.now.facts) scaled.now.d scaled.now.ys covers.now) }
+        (rules.ChargeFails site.now (cost_over given.now.claimed) (node_of known.now.node)
+        (facts_of known.now.facts) given.now.scaled.now.d given.now.scaled.now.ys
+        given.now.covers.now) }
 {
-    covers.are_kept();
+    given.covers.are_kept();
     let charge = Charge {
-        d: scaled.d(),
-        ys: scaled.ys(),
-        covers: covers.covers(),
+        d: given.scaled.d(),
+        ys: given.scaled.ys(),
+        covers: given.covers.covers(),
     };
-    match judge_charge(site, &known.node, &known.facts, claimed, &charge) {
+    match judge_charge(site, &known.node, &known.facts, given.claimed, &charge) {
         Ok(()) => Ok(()),
         Err(why) => Err(line_why(why)),
     }

@@ -2,21 +2,21 @@
 ghost use Rattle.std.specs.Prelude.{◌≡◌, IfOk, IfErr};
 ghost use Rattle.pns_rules.specs.Shape.{shape_of};
 ghost use Rattle.pgraph.specs.View.{node_of, step_of};
+ghost use Rattle.charges.specs.Known.{demand_of};
 ghost use Rattle.cert_parts.specs.Known.{KnowsInside};
 ghost use Rattle.cert_parts.specs.Shown.{cost_over};
-ghost use Rattle.head_rules.specs.Head.{step, cap, out, trim};
+ghost use Rattle.head_rules.specs.Head.{step, cap, out, trim, uses};
 ghost use Rattle.head_lines.specs.View.{line_of};
 ghost use Rattle.head_check.specs.View.{known_of};
 ghost use Rattle.head_check.specs.Lines.{IsJudged, Fails};
 
-use crate::charged::judge_charged;
+use crate::charged::{Given, judge_charged};
 use crate::known::{Known, with_in, with_out};
 use crate::sizes::size_of_cap;
 use crate::trim::trimmed;
-use branch_tree::Scaled;
+use crate::uses::amount_of_use;
 use cert_parts::after_steps;
-use charges::is_free;
-use covers::Covers;
+use charges::{Demand, is_free};
 use frac128::CostOver;
 use head_lines::HeadLine;
 use head_rules::LineWhy;
@@ -50,19 +50,17 @@ fn judge_step(
 fn judge_cap(
     site: &Site<'_>,
     known: &Known,
-    claimed: Option<CostOver>,
     unit: u32,
     size: i128,
-    scaled: &Scaled,
-    covers: &Covers,
+    given: &Given<'_>,
 ) -> Result<Known, LineWhy>
     requires inside { KnowsInside (shape_of site.now) (node_of known.now.node) }
     ensures passes { IfOk result
-        (IsJudged site.now (cost_over claimed) (known_of known.now)
-        (cap unit size scaled.now.d scaled.now.ys covers.now)) }
+        (IsJudged site.now (cost_over given.now.claimed) (known_of known.now)
+        (cap unit size given.now.scaled.now.d given.now.scaled.now.ys given.now.covers.now)) }
     ensures fails { IfErr result
-        (Fails site.now (cost_over claimed) (known_of known.now)
-        (cap unit size scaled.now.d scaled.now.ys covers.now)) }
+        (Fails site.now (cost_over given.now.claimed) (known_of known.now)
+        (cap unit size given.now.scaled.now.d given.now.scaled.now.ys given.now.covers.now)) }
 {
     site.graph();
     let Some(most) = size_of_cap(site, known, unit, size) else {
@@ -72,7 +70,7 @@ fn judge_cap(
         node: with_in(&known.node, unit),
         facts: known.facts.with_least(unit, most),
     };
-    match judge_charged(site, &larger, claimed, scaled, covers) {
+    match judge_charged(site, &larger, given) {
         Ok(()) => Ok(Known {
             node: known.node,
             facts: known.facts.with_most(unit, most),
@@ -82,21 +80,14 @@ fn judge_cap(
 }
 
 /// Judges a unit that is left out.
-fn judge_out(
-    site: &Site<'_>,
-    known: &Known,
-    claimed: Option<CostOver>,
-    unit: u32,
-    scaled: &Scaled,
-    covers: &Covers,
-) -> Result<Known, LineWhy>
+fn judge_out(site: &Site<'_>, known: &Known, unit: u32, given: &Given<'_>) -> Result<Known, LineWhy>
     requires inside { KnowsInside (shape_of site.now) (node_of known.now.node) }
     ensures passes { IfOk result
-        (IsJudged site.now (cost_over claimed) (known_of known.now)
-        (out unit scaled.now.d scaled.now.ys covers.now)) }
+        (IsJudged site.now (cost_over given.now.claimed) (known_of known.now)
+        (out unit given.now.scaled.now.d given.now.scaled.now.ys given.now.covers.now)) }
     ensures fails { IfErr result
-        (Fails site.now (cost_over claimed) (known_of known.now)
-        (out unit scaled.now.d scaled.now.ys covers.now)) }
+        (Fails site.now (cost_over given.now.claimed) (known_of known.now)
+        (out unit given.now.scaled.now.d given.now.scaled.now.ys given.now.covers.now)) }
 {
     if !is_free(site.graph(), &known.node, unit) {
         return Err(LineWhy::Fact);
@@ -105,7 +96,7 @@ fn judge_out(
         node: with_in(&known.node, unit),
         facts: known.facts,
     };
-    match judge_charged(site, &taken, claimed, scaled, covers) {
+    match judge_charged(site, &taken, given) {
         Ok(()) => Ok(Known {
             node: with_out(&known.node, unit),
             facts: known.facts,
@@ -137,6 +128,39 @@ fn judge_trim(
     }
 }
 
+/// Judges an amount of a material that is used at most.
+fn judge_use(
+    site: &Site<'_>,
+    known: &Known,
+    demand: Demand,
+    given: &Given<'_>,
+) -> Result<Known, LineWhy>
+    requires inside { KnowsInside (shape_of site.now) (node_of known.now.node) }
+    ensures passes { IfOk result
+        (IsJudged site.now (cost_over given.now.claimed) (known_of known.now)
+        (uses (demand_of demand) given.now.scaled.now.d given.now.scaled.now.ys
+        given.now.covers.now)) }
+    ensures fails { IfErr result
+        (Fails site.now (cost_over given.now.claimed) (known_of known.now)
+        (uses (demand_of demand) given.now.scaled.now.d given.now.scaled.now.ys
+        given.now.covers.now)) }
+{
+    let Some(amount) = amount_of_use(site, known, demand) else {
+        return Err(LineWhy::Fact);
+    };
+    let asked = Known {
+        node: known.node,
+        facts: known.facts.with_demand(demand),
+    };
+    match judge_charged(site, &asked, given) {
+        Ok(()) => Ok(Known {
+            node: known.node,
+            facts: known.facts.with_used(demand.of, amount),
+        }),
+        Err(why) => Err(why),
+    }
+}
+
 /// Judges one line by what is known at its place, and gives what is known after it.
 pub fn judge_line(
     site: &Site<'_>,
@@ -157,12 +181,45 @@ pub fn judge_line(
             size,
             scaled,
             covers,
-        } => judge_cap(site, known, claimed, *unit, *size, scaled, covers),
+        } => {
+            let given = Given {
+                claimed,
+                scaled,
+                covers,
+            };
+            judge_cap(site, known, *unit, *size, &given)
+        }
         HeadLine::Out {
             unit,
             scaled,
             covers,
-        } => judge_out(site, known, claimed, *unit, scaled, covers),
+        } => {
+            let given = Given {
+                claimed,
+                scaled,
+                covers,
+            };
+            judge_out(site, known, *unit, &given)
+        }
         HeadLine::Trim(unit) => judge_trim(site, known, claimed, *unit),
+        HeadLine::Use {
+            material,
+            amount,
+            worth,
+            scaled,
+            covers,
+        } => {
+            let demand = Demand {
+                of: *material,
+                amount: *amount,
+                worth: *worth,
+            };
+            let given = Given {
+                claimed,
+                scaled,
+                covers,
+            };
+            judge_use(site, known, demand, &given)
+        }
     }
 }

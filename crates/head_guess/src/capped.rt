@@ -5,13 +5,6 @@ use pgraph::{Graph, Site};
 use pns_problem::{Parts, Problem};
 use std::alloc::{AllocError, Global};
 
-/// What a unit earns by its size, on top of its own price, so that it becomes large.
-#[derive(Clone, Copy)]
-pub(crate) struct Gain {
-    pub(crate) unit: u32,
-    pub(crate) price: i64,
-}
-
 /// Gives each unit the sizes of the facts.
 fn put_sizes(parts: &mut Parts, facts: &Facts) {
     for (number, unit) in parts.units.iter_mut().enumerate() {
@@ -22,26 +15,15 @@ fn put_sizes(parts: &mut Parts, facts: &Facts) {
     }
 }
 
-/// Lets a unit earn by its size.
-fn put_gain(parts: &mut Parts, gain: Gain) {
-    if let Some(unit) = parts.units.get_mut(gain.unit as usize) {
-        unit.proportional = unit.proportional.saturating_sub(gain.price);
-    }
-}
-
-/// A guess over the plant whose units have the sizes of the facts, if it is one. One unit may earn
-/// by its size. `Err` comes only when memory runs out.
+/// A guess over the plant whose units have the sizes of the facts, if it is one. `Err` comes only
+/// when memory runs out.
 pub(crate) fn guess_within(
     alloc: Global,
     problem: &Problem,
     facts: &Facts,
-    gain: Option<Gain>,
 ) -> Result<Option<ChargeGuess>, AllocError> {
     let mut parts = problem.parts(alloc)?;
     put_sizes(&mut parts, facts);
-    if let Some(gain) = gain {
-        put_gain(&mut parts, gain);
-    }
     match Problem::build(alloc, parts) {
         Ok(capped) => {
             let graph = Graph::of(alloc, &capped)?;

@@ -1,4 +1,4 @@
-//! Multipliers and sets for a charge, and what they sum up to.
+//! Multipliers and sets for a charge.
 ghost use Rattle.std.specs.Prelude.{◌≡◌, ◌<◌, ℕ, true, length, IsTrue, IfSome};
 ghost use Rattle.integer_laws.specs.Range.{InRange};
 ghost use Rattle.number_sets.specs.Sets.{has};
@@ -14,13 +14,11 @@ ghost use Rattle.cert_parts.specs.Known.{KnowsInside};
 
 use branch_tree::Scaled;
 use charge_guess::Proposal;
-use charges::{Charge, charge_of};
 use covers::{Cover, Covers};
 use flow_program::sets_of;
-use head_check::Known;
 use pgraph::{Graph, Site};
 use std::alloc::{AllocError, Global};
-use unit_sets::{Node, UnitSet};
+use unit_sets::{MatSet, Node, UnitSet};
 
 /// Multipliers over their scale, one for each row of a node, and sets.
 #[derive(Drop)]
@@ -66,12 +64,30 @@ fn may_keep(cover: &Cover) -> bool
     cover.weight >= 0 && is_small(cover.beside)
 }
 
-/// The sets that covers can keep.
-fn kept_covers(alloc: Global, covers: &[Cover]) -> Result<Covers, AllocError> {
+/// The set without units that are left out.
+fn without(cover: &Cover, outside: UnitSet) -> Cover {
+    Cover {
+        weight: cover.weight,
+        beside: cover.beside,
+        units: cover.units.minus(outside),
+    }
+}
+
+/// Whether a set says something if these units are left out.
+fn says(cover: &Cover, outside: UnitSet) -> bool {
+    match cover.beside {
+        Some(unit) if unit < 128 && outside.has(unit) => false,
+        _ => !cover.units.is_empty(),
+    }
+}
+
+/// The sets that covers can keep if these units are left out.
+fn kept_covers(alloc: Global, covers: &[Cover], outside: UnitSet) -> Result<Covers, AllocError> {
     let mut kept = Vec::new(alloc);
     'covers: for cover in covers {
-        if kept.len() < MOST_COVERS && may_keep(cover) {
-            kept.push(*cover)?;
+        let rest = without(cover, outside);
+        if kept.len() < MOST_COVERS && says(&rest, outside) && may_keep(&rest) {
+            kept.push(rest)?;
         }
     }
     Ok(Covers::from_vec(kept))
@@ -93,44 +109,38 @@ pub(crate) fn knows_inside(site: &Site<'_>, node: &Node) -> bool
     are_units(site.graph(), node.inside)
 }
 
-/// How many rows the program of the node has.
-fn row_count(graph: &Graph, node: &Node) -> usize
-    requires { (u : ℕ) → has node.now.inside u ≡ true → u < (shape graph.now).units }
-    ensures { (p : Problem) → shape graph.now ≡ shape_of p
-        → result ≡ length (rows (net_of p) (node_of node.now)) }
-{
-    sets_of(graph, node).rows.count() as usize
+/// The materials that are rows of the node, if it takes in units of the plant only.
+pub(crate) fn rows_of(site: &Site<'_>, node: &Node) -> Option<MatSet> {
+    if knows_inside(site, node) {
+        Some(sets_of(site.graph(), node).rows)
+    } else {
+        None
+    }
 }
 
 impl Evidence {
-    /// What is proposed, as far as a head can have it.
-    pub(crate) fn of(alloc: Global, proposal: &Proposal) -> Result<Evidence, AllocError> {
-        let scaled = scaled_by(alloc, proposal.d, &proposal.ys)?;
-        let covers = kept_covers(alloc, &proposal.covers)?;
-        Ok(Evidence { scaled, covers })
-    }
-
-    /// What the charge is, if there is a multiplier for each row and no number of its sum
-    /// overflows.
-    pub(crate) fn sum(&self, site: &Site<'_>, known: &Known) -> Option<i128> {
-        if !knows_inside(site, &known.node) {
-            return None;
+    /// What is proposed for a node with these rows, as far as a head can have it at another one
+    /// that leaves out more units.
+    pub(crate) fn of(
+        alloc: Global,
+        proposal: &Proposal,
+        from: MatSet,
+        to: MatSet,
+        outside: UnitSet,
+    ) -> Result<Evidence, AllocError> {
+        let mut ys = Vec::new(alloc);
+        let mut row = 0usize;
+        for material in from {
+            if let Some(y) = proposal.ys.get(row) {
+                if material < 256 && to.has(material) {
+                    ys.push(*y)?;
+                }
+            }
+            row = row.saturating_add(1);
         }
-        let ys = self.scaled.ys();
-        let count = ys.len();
-        let rows = row_count(site.graph(), &known.node);
-        if count != rows {
-            return None;
-        }
-        self.covers.are_kept();
-        let charge = Charge {
-            d: self.scaled.d(),
-            ys,
-            covers: self.covers.covers(),
-        };
-        match charge_of(site, &known.node, &known.facts, &charge) {
-            Ok(sum) => Some(sum),
-            Err(_) => None,
-        }
+        Ok(Evidence {
+            scaled: scaled_by(alloc, proposal.d, &ys)?,
+            covers: kept_covers(alloc, &proposal.covers, outside)?,
+        })
     }
 }

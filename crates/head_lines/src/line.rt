@@ -25,4 +25,13 @@ pub enum HeadLine {
     },
     /// The unit is not larger than can be of use.
     Trim(u32),
+    /// No more of the material is used than the amount. If as much were used, the multipliers, the
+    /// worth of the use and the covers would charge what is claimed, over their scale.
+    Use {
+        material: u32,
+        amount: i128,
+        worth: i128,
+        scaled: Scaled,
+        covers: Covers,
+    },
 }

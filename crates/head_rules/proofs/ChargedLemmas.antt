@@ -16,7 +16,7 @@ use Rattle.tree_rules.specs.Claim.{CostOver, IsAtLeast}
 use Rattle.tree_rules.specs.Costs.{HasFallen}
 use Rattle.tree_rules.specs.Leaf.{IsClaimed}
 use Rattle.head_rules.specs.Charged.{handed}
-use Rattle.head_rules.specs.Head.{HeadLine, step, cap, out, trim, after_line, LinePasses}
+use Rattle.head_rules.specs.Head.{HeadLine, step, cap, out, trim, uses, after_line, LinePasses}
 use Rattle.head_rules.specs.Keeps.{IsBelow}
 use Rattle.head_rules.specs.Laws.{IsCost, ChargedIsEmpty, CheaperIsCharged, CheaperPasses}
 
@@ -136,3 +136,12 @@ cheaper_passes p claimed cheaper o q fallen k (line ∷ lines) h =
       charged = cheaper_is_charged p claimed cheaper o q fallen _ _ d ys covers h.charged;
     }
     at (trim u) h = h
+    at (uses w d ys covers) h = record {
+      row = h.row;
+      not_raw = h.not_raw;
+      at_least = h.at_least;
+      at_most = h.at_most;
+      less = h.less;
+      worth = h.worth;
+      charged = cheaper_is_charged p claimed cheaper o q fallen _ _ d ys covers h.charged;
+    }

@@ -26,7 +26,7 @@ use Rattle.head_rules.proofs.Worked.{in_range, at_most, not_at_most, EachBelow, 
 abbrev pub net : Net
 net = net_of example
 
-abbrev claimed : Option CostOver
+abbrev pub claimed : Option CostOver
 claimed = Some (record { cost = pos 65000000000000000000; d = pos 1 })
 
 abbrev pub prices : List ℤ

@@ -6,7 +6,8 @@ use Rattle.charge_rules.proofs.LeafLemmas.{holds, one_of, passing_has_no_cause, 
 use Rattle.tree_rules.specs.Claim.{CostOver, IsAtLeast}
 use Rattle.tree_rules.specs.Leaf.{IsClaimed}
 use Rattle.head_rules.specs.declared.line_why.LineWhy.{LineWhy}
-use Rattle.head_rules.specs.Head.{HeadLine, step, cap, out, trim, Known, after_line, LinePasses}
+use Rattle.head_rules.specs.Head.{HeadLine, step, cap, out, trim, uses, Known, after_line}
+use Rattle.head_rules.specs.Head.{with_demand, LinePasses}
 use Rattle.head_rules.specs.Charged.{handed}
 use Rattle.head_rules.specs.Faults.{line_why, LineFails}
 use Rattle.head_rules.specs.Laws.{PassingHasNoFault, FaultIsOne, ChargedHasNoFault}
@@ -47,6 +48,9 @@ line_passes p claimed k (cap u v d ys covers) why h fails =
 line_passes p claimed k (out u d ys covers) why h fails =
     holds _ _ _ why h.free (charged_has_no_fault p claimed _ _ d ys covers h.charged why) fails
 line_passes p claimed k (trim u) why h fails = holds _ _ _ why h none fails
+line_passes p claimed k (uses q d ys covers) why h fails =
+    holds _ _ _ why (h.row, h.not_raw, h.at_least, h.at_most, h.less, h.worth)
+    (charged_has_no_fault p claimed _ _ d ys covers h.charged why) fails
 
 line_one : (p : Problem) (claimed : Option CostOver) (k : Known) (line : HeadLine)
     (why other : LineWhy) → LineFails p claimed k line why → LineFails p claimed k line other
@@ -57,6 +61,9 @@ line_one p claimed k (cap u v d ys covers) why other =
 line_one p claimed k (out u d ys covers) why other =
     one_of _ _ _ _ why other (charge_fault_is_one p claimed _ _ d ys covers why other)
 line_one p claimed k (trim u) why other = one_of _ _ _ _ why other (neither why other)
+line_one p claimed k (uses q d ys covers) why other =
+    one_of _ _ _ _ why other
+    (charge_fault_is_one p claimed k.node (with_demand k.facts q) d ys covers why other)
 
 pub passing_has_no_fault : PassingHasNoFault
 passing_has_no_fault p claimed k [] h i why fails = fails

@@ -2,7 +2,7 @@
 -- are facts.
 use Rattle.std.proofs.Common.{◌≡◌, ℕ, ◌==◌, inl, inr, refl, sym, ap, ◌∙◌, subst, arith, pos, ℤ}
 use Rattle.std.proofs.Common.{◌*ℤ◌, ◌≤ℤ◌, ◌<ℤ◌, List, [], ◌∷◌, not, Bool, true, false, eqb-true}
-use Rattle.std.specs.Prelude.{Option}
+use Rattle.std.specs.Prelude.{Option, None}
 use Rattle.std.proofs.lemmas.Int.{ints, by_lt_z}
 use Rattle.std.proofs.lemmas.Bool.{or_cases, cases_Bool, both_ways, false_from_ne_true}
 use Rattle.integer_laws.proofs.Order.{le_trans_z}
@@ -14,21 +14,22 @@ use Rattle.pns_rules.specs.Structure.{IsBetween, InFamily}
 use Rattle.pns_rules.specs.Nodes.{Node}
 use Rattle.pns_rules.proofs.ProperLemmas.{proper_if_valid}
 use Rattle.pns_rules.proofs.StepLemmas.{steps_keep_families}
-use Rattle.flow_rules.specs.Net.{net_of}
+use Rattle.flow_rules.specs.Net.{million, net_of}
 use Rattle.flow_rules.specs.Relaxed.{stays}
 use Rattle.flow_rules.proofs.NetLemmas.{net_of_valid}
-use Rattle.charge_rules.specs.Facts.{AreFacts}
+use Rattle.charge_rules.specs.Facts.{AreFacts, use_of}
 use Rattle.charge_rules.proofs.DualityLemmas.{own_facts_hold, flows_fit}
 use Rattle.tree_rules.specs.Claim.{CostOver}
 use Rattle.head_rules.specs.Trim.{trimmed_size}
-use Rattle.head_rules.specs.Head.{HeadLine, step, cap, out, trim, Known, known_first, with_in}
-use Rattle.head_rules.specs.Head.{with_out, with_least, with_most, after_line, after_lines}
-use Rattle.head_rules.specs.Head.{LinePasses, LinesPass}
+use Rattle.head_rules.specs.Head.{HeadLine, step, cap, out, trim, uses, Known, known_first}
+use Rattle.head_rules.specs.Head.{with_in, with_out, with_least, with_most, with_used, with_demand}
+use Rattle.head_rules.specs.Head.{after_line, after_lines, LinePasses, LinesPass}
 use Rattle.head_rules.specs.Keeps.{MayFit}
 use Rattle.head_rules.specs.Laws.{IsCost, HeadKeeps, HeadHasFacts, HeadKeepsLeast}
 use Rattle.head_rules.proofs.ChargedLemmas.{charged_is_empty}
-use Rattle.head_rules.proofs.FactLemmas.{with_most_facts, with_least_facts, with_most_fit}
-use Rattle.head_rules.proofs.FactLemmas.{with_least_fit}
+use Rattle.head_rules.proofs.FactLemmas.{with_most_facts, with_least_facts, with_used_facts}
+use Rattle.head_rules.proofs.FactLemmas.{with_demand_facts, with_most_fit, with_least_fit}
+use Rattle.head_rules.proofs.FactLemmas.{with_used_fit, with_demand_fit}
 use Rattle.head_rules.proofs.TrimLemmas.{trimmed_least, trim_fits}
 
 -- ---- facts
@@ -39,6 +40,7 @@ line_keeps_least p k (step s) i = refl
 line_keeps_least p k (cap u v d ys covers) i = refl
 line_keeps_least p k (out u d ys covers) i = refl
 line_keeps_least p k (trim u) i = refl
+line_keeps_least p k (uses q d ys covers) i = refl
 
 lines_keep_least : (p : Problem) (k : Known) (lines : List HeadLine) (i : ℕ)
     → (after_lines p k lines).facts.least i ≡ k.facts.least i
@@ -46,28 +48,37 @@ lines_keep_least p k [] i = refl
 lines_keep_least p k (line ∷ lines) i =
     lines_keep_least p (after_line p k line) lines i ∙ line_keeps_least p k line i
 
--- what is known are facts, with the problem's own least sizes
+-- what is known are facts, with the problem's own least sizes, and no use is asked for
 record AreKnown (p : Problem) (k : Known) : Type 0 where
   facts : AreFacts (net_of p) k.facts
   least : (i : ℕ) → k.facts.least i ≡ (net_of p).least i
+  no_demand : k.facts.demand ≡ None
 
 line_keeps_facts : (p : Problem) (claimed : Option CostOver) (k : Known) → AreKnown p k
     → (line : HeadLine) → LinePasses p claimed k line → AreKnown p (after_line p k line)
-line_keeps_facts p claimed k known (step s) h = record { facts = known.facts; least = known.least }
+line_keeps_facts p claimed k known (step s) h =
+    record { facts = known.facts; least = known.least; no_demand = known.no_demand }
 line_keeps_facts p claimed k known (cap u v d ys covers) h = record {
   facts =
       with_most_facts (net_of p) k.facts known.facts u v
       (subst (λ (x : ℤ). x ≤ℤ v) (sym (known.least u)) h.at_least);
   least = known.least;
+  no_demand = known.no_demand;
 }
 line_keeps_facts p claimed k known (out u d ys covers) h =
-    record { facts = known.facts; least = known.least }
+    record { facts = known.facts; least = known.least; no_demand = known.no_demand }
 line_keeps_facts p claimed k known (trim u) h = record {
   facts =
       with_most_facts (net_of p) k.facts known.facts u (trimmed_size (net_of p) k.node k.facts u)
       (subst (λ (x : ℤ). x ≤ℤ trimmed_size (net_of p) k.node k.facts u) (sym (known.least u))
       (trimmed_least (net_of p) k.node k.facts u));
   least = known.least;
+  no_demand = known.no_demand;
+}
+line_keeps_facts p claimed k known (uses q d ys covers) h = record {
+  facts = with_used_facts (net_of p) k.facts known.facts q.of q.amount h.at_least;
+  least = known.least;
+  no_demand = known.no_demand;
 }
 
 lines_keep_facts : (p : Problem) (claimed : Option CostOver) (k : Known) → AreKnown p k
@@ -78,7 +89,8 @@ lines_keep_facts p claimed k known (line ∷ lines) h =
     (line_keeps_facts p claimed k known line h.0) lines h.1
 
 known_at_first : (p : Problem) → IsValid p → (start : Node) → AreKnown p (known_first p start)
-known_at_first p valid start = record { facts = own_facts_hold p valid; least = λ i. refl }
+known_at_first p valid start =
+    record { facts = own_facts_hold p valid; least = λ i. refl; no_demand = refl }
 
 -- ---- one line
 
@@ -181,9 +193,36 @@ line_keeps p valid claimed over k known (trim u) h s fam fit = (
     has e =
         by_lt_z (v *ℤ fit.d) (fit.sizes u)
         (λ over_it. trim_fits p (net_of_valid p valid) claimed over k.node k.facts known.facts
-        known.least u h s within e fit.sizes fit.d fit.undercuts fit.fit
+        known.least known.no_demand u h s within e fit.sizes fit.d fit.undercuts fit.fit
         (weak (v *ℤ fit.d) (fit.sizes u) over_it))
         (λ under. same (λ q. under))
+line_keeps p valid claimed over k known (uses q d ys covers) h s fam fit = (
+  fam,
+  record {
+    sizes = fit.sizes;
+    d = fit.d;
+    undercuts = fit.undercuts;
+    fit = with_used_fit (net_of p) k.facts s fit.sizes fit.d fit.fit q.of q.amount less_used;
+  },
+)
+  where
+    used : ℤ
+    used = use_of (net_of p) s fit.sizes q.of
+
+    asked : ℤ
+    asked = million *ℤ q.amount *ℤ fit.d
+
+    less : (x y : ℤ) → x <ℤ y → x ≤ℤ y
+    less x y a = omega (arith, ints)
+
+    -- if as much were used, the node would be charged what is claimed
+    less_used : used ≤ℤ asked
+    less_used =
+        by_lt_z used asked (less used asked)
+        (λ as_much. absurd (charged_is_empty p valid claimed over k.node (with_demand k.facts q)
+        (with_demand_facts (net_of p) k.facts known.facts q h.worth) d ys covers h.charged s
+        fam.between fit.sizes fit.d fit.undercuts
+        (with_demand_fit (net_of p) k.facts s fit.sizes fit.d fit.fit q as_much)))
 
 -- ---- all lines
 

@@ -2,6 +2,7 @@ pub mod ChargedLemmas
 mod ExampleHead
 mod ExampleProblem
 mod ExampleTree
+mod ExampleUse
 pub mod FactLemmas
 pub mod FaultLemmas
 pub mod HeadLemmas

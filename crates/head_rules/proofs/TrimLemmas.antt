@@ -21,7 +21,7 @@ use Rattle.flow_rules.specs.Flows.{IsFlows, balance, cost}
 use Rattle.flow_rules.specs.Relaxed.{stays}
 use Rattle.flow_rules.proofs.ListedLemmas.{All-listed}
 use Rattle.flow_rules.proofs.NetLemmas.{IsNet}
-use Rattle.charge_rules.specs.Facts.{Facts, AreFacts, Fit, use_rate, use_of}
+use Rattle.charge_rules.specs.Facts.{Demand, Facts, AreFacts, Fit, use_rate, use_of}
 use Rattle.charge_rules.specs.Charge.{users_most, at_most}
 use Rattle.charge_rules.proofs.UsefulLemmas.{rounded_up_most, use_rate_nonneg, users_most_nonneg}
 use Rattle.charge_rules.proofs.UsefulLemmas.{use_of_under}
@@ -223,12 +223,13 @@ trimmed_least net n f u =
 
 pub trim_fits : (p : Problem) → IsNet (net_of p) → (claimed : Option CostOver) → IsCost claimed
     → (n : Node) (f : Facts) → AreFacts (net_of p) f
-    → ((i : ℕ) → f.least i ≡ (net_of p).least i) → (u : ℕ) → MayTrim (net_of p) n f u
+    → ((i : ℕ) → f.least i ≡ (net_of p).least i) → f.demand ≡ None
+    → (u : ℕ) → MayTrim (net_of p) n f u
     → (s : ℕ → Bool) → IsWithin s (stays n) → s u ≡ true
     → (z : ℕ → ℤ) (d : ℤ) → Undercuts p claimed s z d → Fit (net_of p) f s z d
     → (trimmed_size (net_of p) n f u *ℤ d) ≤ℤ z u
     → MayFit p claimed s (with_most f u (trimmed_size (net_of p) n f u))
-trim_fits p valid claimed over n f facts least u may s sub su z d under fit h = record {
+trim_fits p valid claimed over n f facts least no_demand u may s sub su z d under fit h = record {
   sizes = down;
   d = d;
   undercuts = record { flows = flows; cheaper = cheaper claimed over under.cheaper };
@@ -238,6 +239,7 @@ trim_fits p valid claimed over n f facts least u may s sub su z d under fit h = 
         of_two (u == i) (λ x m. x ≤ℤ (m *ℤ d)) w (z i) v (f.most i) (same_le w)
         (fit.at_most i l e);
     used = λ j l. fits.used j l;
+    demand = fits.demand;
   };
 }
   where
@@ -296,6 +298,11 @@ trim_fits p valid claimed over n f facts least u may s sub su z d under fit h = 
       used = λ j l.
           fewer (f.used j) (use_of (net_of p) s down j) (use_of (net_of p) s z j) (uses_less j)
           (fit.used j l);
+      demand =
+          subst
+          (λ (o : Option Demand).
+          IfSome o (λ q. (million *ℤ q.amount *ℤ d) ≤ℤ use_of (net_of p) s down q.of))
+          (sym no_demand) tt;
     }
 
     enough : (j : ℕ) → j < (net_of p).graph.materials → pos 0 <ℤ (net_of p).rate j u

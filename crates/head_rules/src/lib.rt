@@ -1,8 +1,9 @@
 //! A head that passes loses no structure below the claim; trees with a head.
 //!
 //! The head of a branch tree is lines with facts that are found before the first branch. A line
-//! takes units in or leaves them out, or bounds the size of a unit. It passes by what is known at
-//! its place, and by the cost that is claimed: what it rules out has no flows that cost less.
+//! takes units in or leaves them out, or bounds the size of a unit or the use of a material. It
+//! passes by what is known at its place, and by the cost that is claimed: what it rules out has no
+//! flows that cost less.
 //!
 //! The definitions are in `specs/`: `Charged` (nodes whose charge reaches the claim), `Trim` (units
 //! of which no more than so much can be of use), `Head` (the lines), `Keeps` (what is not lost),

@@ -5,7 +5,8 @@ pub enum LineWhy {
     /// A step is not possible at its place.
     Step,
     /// The unit is left out, or has to be free and is not; or the size is not between those that it
-    /// may have.
+    /// may have. Or the material is raw, or no unit that may stay makes or uses it; or the amount
+    /// is not from 0 to 10^18 and below what is known of its use; or the use is worth less than 0.
     Fact,
     /// The unit earns by its size, or a material does not bear less of it.
     Trim,

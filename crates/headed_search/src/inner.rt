@@ -9,7 +9,7 @@ ghost use Rattle.node_evaluation.specs.Children.{claim_with};
 ghost use Rattle.headed_search.specs.Lean.{IsLeanFor};
 
 use crate::room::with_room;
-use abb_search::{Found, search_watched};
+use abb_search::Found;
 use branch_tree::{Claim, Network, Tree};
 use capped_plants::{capped, recharged};
 use capping_laws::{
@@ -19,6 +19,7 @@ use cert_check::check_claim;
 use head_check::Known;
 use pgraph::{Graph, Site};
 use progress::{Effort, Watch};
+use solver::search_watched;
 use std::alloc::Global;
 use unit_sets::Node;
 

@@ -102,6 +102,18 @@ fn knows_line(site: &Site<'_>, line: &HeadLine) -> bool
             covers,
         } => knows_unit(site, *unit) && knows_charge(site, scaled, covers),
         HeadLine::Trim(unit) => knows_unit(site, *unit),
+        HeadLine::Use {
+            material,
+            amount,
+            worth,
+            scaled,
+            covers,
+        } => {
+            *amount >= 0
+                && *worth >= 0
+                && knows_material(site, *material)
+                && knows_charge(site, scaled, covers)
+        }
     }
 }
 

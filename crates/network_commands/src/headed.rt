@@ -123,8 +123,9 @@ fn plain_report(
     }
 }
 
-/// The report of a tree with a head.
-fn headed_report(
+/// What a head and a tree prove of the claim, as if the head had lines. The tables of the network
+/// follow if one is claimed. `Err` says that the claim fails, or that there is no memory.
+pub fn report_text_by(
     alloc: Global,
     plant: &Plant<'_>,
     claim: &Claim,
@@ -166,6 +167,6 @@ pub fn headed_report_text(
     if is_plain(head) {
         plain_report(alloc, plant, claim, tree)
     } else {
-        headed_report(alloc, plant, claim, head, tree)
+        report_text_by(alloc, plant, claim, head, tree)
     }
 }

@@ -23,7 +23,7 @@ mod verdict_lines;
 
 pub use claim::{network_of, say_refused};
 pub use graph::list_graph;
-pub use headed::headed_report_text;
+pub use headed::{headed_report_text, report_text_by};
 pub use network::{NetworkText, say_claimed};
 pub use report::say_reported;
 pub use verdict_lines::{push_gap_behind, push_low_words, verdict_text};

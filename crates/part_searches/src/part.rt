@@ -15,7 +15,6 @@ ghost use Rattle.studio_rules.specs.Keeps.{Keeps};
 
 use crate::found::say_found;
 use crate::start::start_of;
-use abb_search::search_watched;
 use branch_tree::{Claim, Network, Tree};
 use command_files::{problem_of, tree_of};
 use endings::say::{say_memory, tell};
@@ -25,6 +24,7 @@ use pgraph::{Graph, Site};
 use pns_io::{Outputs, Shelf, Sink};
 use pns_problem::Problem;
 use progress::{Effort, Watch};
+use solver::search_watched;
 use std::alloc::Global;
 use studio_rules::Status;
 use unit_sets::Node;

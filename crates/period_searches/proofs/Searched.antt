@@ -1,12 +1,15 @@
 -- What a search of the expanded problem says of the plant.
-use Rattle.std.proofs.Common.{◌≡◌, ℕ, List, [], ◌∷◌, codes, refl, sym, ap, subst, Option, Some}
-use Rattle.std.proofs.Common.{None, inl, inr}
+use Rattle.std.proofs.Common.{◌≡◌, ℕ, Bool, List, [], ◌∷◌, codes, refl, sym, ap, subst, Option}
+use Rattle.std.proofs.Common.{Some, None, inl, inr}
 use Rattle.problem_rules.specs.Problem.{Problem}
 use Rattle.problem_rules.specs.Validity.{IsValid}
+use Rattle.pns_rules.specs.Shape.{shape_of}
+use Rattle.pns_rules.specs.Structure.{IsStructure, IsAllowed}
 use Rattle.plan_rules.specs.Expanded.{expanded}
 use Rattle.plan_rules.specs.Plan.{Plan, IsPlan}
 use Rattle.tree_rules.specs.Claim as claims
-use Rattle.tree_rules.specs.Claim.{Network, IsFeasible}
+use Rattle.tree_rules.specs.Claim.{Network, claimed_cost, IsFeasible}
+use Rattle.tree_rules.specs.Costs.{CostsEnough}
 use Rattle.tree_rules.specs.Accepted.{Tree, first_node}
 use Rattle.tree_laws.specs.Laws.{AcceptedIsOptimal}
 use Rattle.tree_rules.specs.Tail as tails
@@ -15,11 +18,14 @@ use Rattle.node_evaluation.specs.Children.{claim_with}
 use Rattle.abb_search.specs.declared.outcome.Found.{Found}
 use Rattle.abb_search.specs.declared.outcome.Found.TheVariants as found
 use Rattle.abb_search.specs.Found.{IsFound}
+use Rattle.headed_search.specs.declared.headed.Headed.{Headed}
+use Rattle.solves.specs.declared.search.Solution.TheVariants.{Plain, WithHead}
+use Rattle.solves.specs.Solution.{IsSolution}
 use Rattle.design_rules.specs.Folded.{folded}
 use Rattle.design_laws.specs.Laws.{LeastNetworkIsLeastDesign, NoNetworkIsNoDesign}
 use Rattle.studio_rules.specs.declared.status.Status.{Status}
 use Rattle.studio_rules.specs.declared.status.Status.TheVariants.{Done, Spent, Past}
-use Rattle.studio_rules.specs.Solve.{Solves, PlainWork}
+use Rattle.studio_rules.specs.Solve.{Solves, HasProof, PlainWork}
 use Rattle.searches.specs.Found.{certificate_of, CertificateSays, FoundSays}
 use Rattle.searches.proofs.FoundTexts.{solves, holds}
 use Rattle.studio_rules.specs.DesignText.{design_lines}
@@ -28,40 +34,56 @@ use Rattle.studio_rules.specs.Periods.{IsLeastText, IsNoneText, PeriodsWork}
 some_is : {A : Type 0} (P : A → Type 0) (a b : A) → Some a ≡ Some b → P a → P b
 some_is P a b e h = subst P (let e' : a ≡ b = cc in e') h
 
-module _ (optimal : AcceptedIsOptimal) (budget : ℕ) (p : Problem) (plan : Plan) (q : Problem)
-    (whole : q ≡ expanded p plan) (valid : IsValid p) (valid' : IsValid q)
-    (formed : IsPlan p plan) where
-  pub solved : (w : Network) (tree : Tree) → IsFound q first_node budget (found.Solved w tree)
-      → Solves (expanded p plan) (claims.network w) tree
-  solved w tree h =
-      subst (λ r. Solves r (claims.network w) tree) whole
-      (solves optimal q valid' (claims.network w) tree h)
+-- ---- a network that is proved
 
-  pub feasible_there : (f : Found) → IsFound q first_node budget f → (w : Network) (tree : Tree)
-      → f ≡ found.Solved w tree → IsFeasible (expanded p plan) w
-  feasible_there f h w tree is =
-      (solved w tree (subst (IsFound q first_node budget) is h)).feasible w refl
+module _ (p : Problem) (plan : Plan) where
+  pub feasible_there : (w : Network) → HasProof (expanded p plan) (claims.network w)
+      → IsFeasible (expanded p plan) w
+  feasible_there w (inl (tree, it)) = it.feasible w refl
+  feasible_there w (inr (head, tree, it)) = it.feasible w refl
 
-  pub least_text : LeastNetworkIsLeastDesign → (f : Found) → IsFound q first_node budget f
-      → (w : Network) (tree : Tree) → f ≡ found.Solved w tree
+  least_there : (w : Network) → HasProof (expanded p plan) (claims.network w)
+      → (s : ℕ → Bool) → IsStructure (shape_of (expanded p plan)) s
+      → IsAllowed (shape_of (expanded p plan)) s
+      → CostsEnough (expanded p plan) (claimed_cost (claims.network w)) s
+  least_there w (inl (tree, it)) = it.least
+  least_there w (inr (head, tree, it)) = it.least
+
+  pub least_text : LeastNetworkIsLeastDesign → IsValid p → IsPlan p plan → (budget : ℕ)
+      → (w : Network) → HasProof (expanded p plan) (claims.network w)
       → PeriodsWork budget p plan Done (design_lines p (folded p plan w))
-  least_text law f h w tree is =
-      let it = solved w tree (subst (IsFound q first_node budget) is h) in
+  least_text law valid formed budget w proof =
       inl (record {
         network_of = w;
-        tree = tree;
-        solves = it;
-        design = law p plan valid formed w (it.feasible w refl) it.least;
+        proof = proof;
+        design = law p plan valid formed w (feasible_there w proof) (least_there w proof);
         text = refl;
       })
 
-  pub none_text : NoNetworkIsNoDesign → (f : Found) → IsFound q first_node budget f → (tree : Tree)
-      → f ≡ found.Infeasible tree → PeriodsWork budget p plan Done (codes "infeasible" ∷ [])
-  none_text law f h tree is =
+-- ---- what is found
+
+module _ (optimal : AcceptedIsOptimal) (budget : ℕ) (p : Problem) (plan : Plan) (q : Problem)
+    (whole : q ≡ expanded p plan) (valid' : IsValid q) where
+  there : (claim : Claim) → HasProof q claim → HasProof (expanded p plan) claim
+  there claim h = subst (λ (r : Problem). HasProof r claim) whole h
+
+  pub solved_there : (w : Network) (tree : Tree)
+      → IsSolution q budget (Plain (found.Solved w tree))
+      → HasProof (expanded p plan) (claims.network w)
+  solved_there w tree h =
+      there (claims.network w) (inl (tree, solves optimal q valid' (claims.network w) tree h))
+
+  pub headed_there : (h : Headed) → IsSolution q budget (WithHead h)
+      → HasProof (expanded p plan) (claims.network h.network)
+  headed_there h it = there (claims.network h.network) (inr (h.head, h.tree, it))
+
+  pub none_text : NoNetworkIsNoDesign → IsValid p → IsPlan p plan → (tree : Tree)
+      → IsSolution q budget (Plain (found.Infeasible tree))
+      → PeriodsWork budget p plan Done (codes "infeasible" ∷ [])
+  none_text law valid formed tree h =
       let it : Solves (expanded p plan) claims.infeasible tree =
       subst (λ r. Solves r claims.infeasible tree) whole
-      (solves optimal q valid' claims.infeasible tree
-      (subst (IsFound q first_node budget) is h)) in
+      (solves optimal q valid' claims.infeasible tree h) in
       inr (record {
         tree = tree;
         solves = it;

@@ -1,8 +1,9 @@
 //! The commands on a plant over several periods: `periods`, which searches all designs, and
 //! `expand`.
 //!
-//! For the problem of a file and its plan, [`planned::periods`] prints a design of least cost. If
-//! the search stops before it is finished, it prints the tree of the expanded problem found so far.
+//! For the problem of a file and its plan, [`planned::periods`] prints a design of least cost. It
+//! searches the expanded problem as `solve` does. If the search stops before it is finished, it
+//! prints the tree of the expanded problem found so far.
 //! In `studio_rules`, `Periods` says which lines are printed with which status, and `DesignText`
 //! has those of a design.
 //!

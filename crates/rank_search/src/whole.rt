@@ -1,20 +1,18 @@
-//! The whole search: over any evaluator of nodes, and over the simplex method.
+//! The whole search, over any evaluator of nodes.
 ghost use Rattle.std.specs.Prelude.{◌≡◌, ◌≤◌, IfOk};
 ghost use Rattle.pns_rules.specs.Shape.{shape_of};
-ghost use Rattle.pgraph.specs.Tables.{shape};
 ghost use Rattle.neutral_extension.specs.Candidates.{AreMakersOf};
-ghost use Rattle.rank_search.specs.Ranked.{IsRankedBy, IsRankedTo};
+ghost use Rattle.rank_search.specs.Ranked.{IsRankedBy};
 ghost use Rattle.rank_search.specs.Turns.{IsRanking};
 
 use crate::found::FoundNetworks;
 use crate::outcome::Ranked;
 use crate::told::ranked_by;
 use crate::turns::run;
-use abb_search::{Growing, look_at_root, workspace_of};
+use abb_search::{Growing, look_at_root};
 use node_evaluation::{Evaluator, Workspace, copy_of_network};
-use pgraph::{Graph, Site};
-use pns_problem::Problem;
-use progress::{Effort, NoWatch, Watch};
+use pgraph::Site;
+use progress::{Effort, Watch};
 use std::alloc::{AllocError, Global};
 use unit_sets::{Node, UnitSet};
 
@@ -95,36 +93,4 @@ pub fn rank_with<E: Evaluator, W: Watch>(
         Ok(ranked) => ranked,
         Err(_) => Ranked::Memory,
     }
-}
-
-/// Searches as [`rank`] does, and reports how far it is.
-pub fn rank_watched<W: Watch>(
-    alloc: Global,
-    site: &Site<'_>,
-    count: u32,
-    effort: Effort<W>,
-) -> Ranked
-    requires asked { 1 ≤ count }
-    requires some { 1 ≤ effort.budget }
-    ensures { IsRankedTo site.now count effort.budget result }
-{
-    match workspace_of(alloc, site) {
-        Ok(mut workspace) => rank_with(&mut workspace, site, count, effort),
-        Err(_) => Ranked::Memory,
-    }
-}
-
-/// Searches all structures of the problem for so many networks whose flows are cheapest, within a
-/// budget of nodes, each bounded by the simplex method. The graph is that of the problem.
-pub fn rank(alloc: Global, problem: &Problem, graph: &Graph, count: u32, budget: u32) -> Ranked
-    requires graph { shape graph.now ≡ shape_of problem.now }
-    requires asked { 1 ≤ count }
-    requires some { 1 ≤ budget }
-    ensures { IsRankedTo problem.now count budget result }
-{
-    let effort = Effort {
-        budget,
-        watch: NoWatch,
-    };
-    rank_watched(alloc, &Site::of(problem, graph), count, effort)
 }

@@ -7,13 +7,13 @@ ghost use Rattle.studio_rules.specs.Keeps.{Keeps};
 
 use crate::ranking::say_found;
 use command_files::problem_of;
-use distinct_search::alternatives_watched;
 use endings::say::say_memory;
 use pgraph::{Graph, Site};
 use pns_io::{Outputs, Shelf, Sink};
 use pns_problem::Problem;
 use progress::{Effort, Watch};
 use rank_laws::alternatives_are_right;
+use solver::alternatives_watched;
 use std::alloc::Global;
 use studio_rules::Status;
 

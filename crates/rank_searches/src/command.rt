@@ -13,7 +13,7 @@ use pns_io::{Outputs, Shelf, Sink};
 use pns_problem::Problem;
 use progress::{Effort, Watch};
 use rank_laws::{listed_are_least, others_are_no_better};
-use rank_search::rank_watched;
+use solver::rank_watched;
 use std::alloc::Global;
 use studio_rules::Status;
 

@@ -5,10 +5,11 @@ ghost use Rattle.pgraph.specs.Tables.{shape};
 ghost use Rattle.tree_rules.specs.Accepted.{first_node};
 ghost use Rattle.abb_search.specs.Found.{IsFound};
 
-use abb_search::{Found, search_watched};
+use abb_search::Found;
 use pgraph::{Graph, Site};
 use pns_problem::Problem;
 use progress::{Effort, Watch};
+use solver::search_watched;
 use std::alloc::Global;
 use unit_sets::{Node, UnitSet};
 

@@ -5,13 +5,14 @@ ghost use Rattle.branch_tree.specs.View.{claim_of, tail_of};
 ghost use Rattle.abb_search.specs.Found.{IsFound};
 ghost use Rattle.report_rules.specs.Measures.{measures_of};
 ghost use Rattle.studio_rules.specs.Reading.{GivesProblem, TextSays};
-ghost use Rattle.studio_rules.specs.Show.{ShowWork, ShownIsProved, CertificateShows};
+ghost use Rattle.studio_rules.specs.Show.{ShowWork, ShownIsProved, CertificateShows, HeadedShows};
 ghost use Rattle.studio_rules.specs.Report.{ReportSays};
 ghost use Rattle.studio_rules.specs.Lines.{text_of};
 ghost use Rattle.studio_rules.specs.Seconds.{AreSeconds};
 ghost use Rattle.studio_rules.specs.Solve.{status_of};
 ghost use Rattle.studio_rules.specs.Ending.{Ends, Tells, Only};
 ghost use Rattle.studio_rules.specs.Keeps.{Keeps};
+ghost use Rattle.solves.specs.Solution.{certificate_of};
 ghost use Rattle.shows.specs.Shown.{FoundShows};
 
 use crate::stopped::say_stopped;
@@ -19,13 +20,15 @@ use abb_search::Found;
 use branch_tree::{Claim, Tail, Tree};
 use command_files::plant_of;
 use endings::say::{say_memory, say_text};
-use network_commands::verdict_text;
+use headed_search::Headed;
+use network_commands::{report_text_by, verdict_text};
 use pgraph::{Graph, Site};
 use pns_io::{Outputs, Shelf, Sink};
 use pns_problem::Problem;
 use progress::{Effort, Watch};
 use report_tables::{Measures, Plant};
-use searches::{Certificate, certificate_of, claimed, search_all, stopped_notes};
+use searches::{Certificate, certificate_of, claimed, stopped_notes};
+use solves::{Solution, search_best};
 use std::alloc::Global;
 use studio_rules::Status;
 use tree_laws::accepted_is_optimal;
@@ -107,6 +110,25 @@ fn say_found<K: Sink, E: Sink>(
     }
 }
 
+/// Prints for people a network with a head and a tree that prove it.
+fn say_headed<K: Sink, E: Sink>(
+    alloc: Global,
+    out: &mut Outputs<K, E>,
+    plant: &Plant<'_>,
+    headed: Headed,
+) -> Status
+    requires few { length headed.tree < 2 ^ 32 }
+    ensures { Ends
+        (Tells (HeadedShows plant.now.measures.now plant.now.site.now
+        (certificate_of headed.network headed.head headed.tree))) out.old out.new result }
+{
+    let claim = Claim::Network(headed.network);
+    match report_text_by(alloc, plant, &claim, &headed.head, &headed.tree) {
+        Ok(text) => say_text(out, &text, Status::Done),
+        Err(_) => say_memory(out),
+    }
+}
+
 /// Searches the problem, and prints what was found.
 fn say_shown<K: Sink, E: Sink, W: Watch>(
     alloc: Global,
@@ -129,13 +151,16 @@ fn say_shown<K: Sink, E: Sink, W: Watch>(
     problem.is_valid();
     accepted_is_optimal();
     let budget = u64::from(effort.budget);
-    let found = search_all(alloc, problem, &graph, effort);
+    let solution = search_best(alloc, problem, &graph, effort);
     let site = Site::of(problem, &graph);
     let plant = Plant {
         site: &site,
         measures: &measures,
     };
-    say_found(alloc, out, &plant, found, budget)
+    match solution {
+        Solution::Plain(found) => say_found(alloc, out, &plant, found, budget),
+        Solution::WithHead(headed) => say_headed(alloc, out, &plant, headed),
+    }
 }
 
 /// What is shown with status 0 is proved.

@@ -13,11 +13,12 @@ ghost use Rattle.stability.specs.Desk.{IsDesk};
 
 use crate::case::Case;
 use crate::setting::set;
-use abb_search::{FlowWorkspace, Found, search_flows, workspace_of};
+use abb_search::Found;
 use branch_tree::Network;
 use pgraph::{Graph, Site};
 use pns_problem::Problem;
 use progress::{Effort, Watch};
+use solver::{FlowWorkspace, search_flows, workspace_of};
 use stability_laws::{present_stays, valued_is_valid};
 use std::alloc::{AllocError, Global};
 use std::marker::Model;

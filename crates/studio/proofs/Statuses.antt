@@ -260,7 +260,8 @@ solve_status budget p s lines (inr h) = inl h.1
 pub show_status : (budget : ℕ) (file : List ℕ) (p : Problem) (s : Status)
     (lines : List (List ℕ))
     → ShowWork budget file p s lines → (s ≡ Done) ⊎ ((s ≡ Spent) ⊎ (s ≡ Past))
-show_status budget file p s lines h = tail_status h.0.tail s h.2.0
+show_status budget file p s lines (inl h) = tail_status h.0.tail s h.2.0
+show_status budget file p s lines (inr h) = inl h.2.0
 
 pub rank_status : (count budget : ℕ) (p : Problem) (s : Status) (lines : List (List ℕ))
     → RankWork count budget p s lines → (s ≡ Done) ⊎ ((s ≡ Spent) ⊎ (s ≡ Past))
@@ -1202,7 +1203,8 @@ solve_finished budget p s lines can (inr h) = let e = h.1 in ((λ q. cc), (λ q.
 pub show_finished : (budget : ℕ) (file : List ℕ) (p : Problem) (s : Status)
     (lines : List (List ℕ))
     → CanFinish budget p → ShowWork budget file p s lines → IsNotStopped s
-show_finished budget file p s lines can (c, holds, shows) = at c.tail shows.0 holds
+show_finished budget file p s lines can (inr h) = let e = h.2.0 in ((λ q. cc), (λ q. cc))
+show_finished budget file p s lines can (inl (c, holds, shows)) = at c.tail shows.0 holds
   where
     at : (tail : Tail) → s ≡ status_of tail → Holds budget p c.claim c.tree tail → IsNotStopped s
     at whole e holds = ((λ q. cc), (λ q. cc))

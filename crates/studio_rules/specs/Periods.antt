@@ -9,17 +9,16 @@ use Rattle.tree_rules.specs.Claim.{Network, network, infeasible}
 use Rattle.tree_rules.specs.Accepted.{Tree}
 use Rattle.design_rules.specs.Folded.{folded}
 use Rattle.design_rules.specs.Least.{IsLeastDesign, HasNoDesign}
-use Rattle.studio_rules.specs.Solve.{Solves, PlainWork}
+use Rattle.studio_rules.specs.Solve.{Solves, HasProof, PlainWork}
 use Rattle.studio_rules.specs.declared.status.Status.{Status}
 use Rattle.studio_rules.specs.declared.status.Status.TheVariants.{Done}
 use Rattle.studio_rules.specs.DesignText.{design_lines}
 
 -- The lines of a design that no design undercuts. It is that of a network of least cost of the
--- expanded problem, as a lean tree proves.
+-- expanded problem, as a lean tree proves, which may have a head.
 pub record IsLeastText (p : Problem) (plan : Plan) (lines : List (List ℕ)) : Type 0 where
   pub network_of : Network
-  pub tree : Tree
-  pub solves : Solves (expanded p plan) (network network_of) tree
+  pub proof : HasProof (expanded p plan) (network network_of)
   pub design : IsLeastDesign p plan (folded p plan network_of)
   pub text : lines ≡ design_lines p (folded p plan network_of)
 

@@ -56,6 +56,12 @@ pub record SolvesBy (p : Problem) (claim : Claim) (head : List HeadLine) (tree :
   pub least : (s : ℕ → Bool) → IsStructure (shape_of p) s → IsAllowed (shape_of p) s
       → CostsEnough p (claimed_cost claim) s
 
+-- a tree proves the claim, with a head or without one
+abbrev pub HasProof : Problem → Claim → Type 0
+HasProof p claim =
+    ((tree : Tree) × Solves p claim tree)
+    ⊎ ((head : List HeadLine) × (tree : Tree) × SolvesBy p claim head tree)
+
 -- The tree is lean and proves the claim but for its open leaves. The claim is the cheapest network
 -- that was found, if any was.
 pub record ProvesInPart (p : Problem) (claim : Claim) (tree : Tree) : Type 0 where

@@ -3,14 +3,15 @@ use Rattle.std.proofs.Common.{◌≡◌, ◌++◌, ℕ, suc, ℤ, Bool, List, []
 use Rattle.std.proofs.Common.{Result, Ok, Err, refl, sym, ap, ◌∙◌, subst, append_assoc, append-nil}
 use Rattle.problem_rules.specs.Problem.{Problem}
 use Rattle.charge_rules.specs.Cover.{Cover}
-use Rattle.head_rules.specs.Head.{HeadLine, step, cap, out, trim}
+use Rattle.charge_rules.specs.Facts.{Demand}
+use Rattle.head_rules.specs.Head.{HeadLine, step, cap, out, trim, uses}
 use Rattle.head_rules.specs.Known.{KnowsLine}
 use Rattle.head_lines.specs.View.{line_of, lines_of}
 use Rattle.head_lines.specs.declared.line.HeadLine as values
 use Rattle.tree_text_rules.specs.Line.{Token, Line, word_of, fields_of, is_formed}
-use Rattle.tree_text_rules.specs.LineRead.{cap_of, out_of, one_and_more, next_cover}
+use Rattle.tree_text_rules.specs.LineRead.{cap_of, out_of, use_of, one_and_more, next_cover}
 use Rattle.tree_text_rules.specs.LineRead.{sets_of, head_by, head_read, formed_head}
-use Rattle.tree_text_rules.specs.Token.{both, mapped, unit_of, weight_of, number_of}
+use Rattle.tree_text_rules.specs.Token.{both, mapped, unit_of, material_of, weight_of, number_of}
 use Rattle.tree_text_rules.specs.Read.{Fault, Taken, on_line, then_read, covers_taken}
 use Rattle.tree_text_rules.specs.Read.{with_line, front_taken}
 use Rattle.tree_text_rules.specs.declared.TreeKind.{TreeKind}
@@ -29,19 +30,18 @@ use Rattle.tree_reading.proofs.Joining.{lesser_assoc}
 
 -- ---- one line without its sets
 
-cap_grouped : (u : Result ℕ TreeKind) (v : Result ℤ TreeKind) (r : Result (ℤ × List ℤ) TreeKind)
-    → mapped {B = HeadLine} (λ found. cap found.0 found.1.0 found.1.1.0 found.1.1.1 [])
-    (both u (both v r))
-    ≡ mapped (λ found. cap found.0.0 found.0.1 found.1.0 found.1.1 []) (both (both u v) r)
-cap_grouped (Ok u) (Ok v) (Ok r) = refl
-cap_grouped (Ok u) (Ok v) (Err k) = refl
-cap_grouped (Ok u) (Err j) (Ok r) = refl
-cap_grouped (Ok u) (Err j) (Err k) = refl
-cap_grouped (Err i) (Ok v) (Ok r) = refl
-cap_grouped (Err i) (Ok v) (Err k) = refl
-cap_grouped (Err i) (Err j) (Ok r) = refl
-cap_grouped (Err i) (Err j) (Err k) =
-    ap (λ (kind : TreeKind). Err kind) (sym (lesser_assoc i j k))
+grouped : {A B C : Type 0} (f : A × (B × C) → HeadLine) (a : Result A TreeKind)
+    (b : Result B TreeKind) (c : Result C TreeKind)
+    → mapped f (both a (both b c))
+    ≡ mapped (λ found. f (found.0.0, (found.0.1, found.1))) (both (both a b) c)
+grouped f (Ok a) (Ok b) (Ok c) = refl
+grouped f (Ok a) (Ok b) (Err k) = refl
+grouped f (Ok a) (Err j) (Ok c) = refl
+grouped f (Ok a) (Err j) (Err k) = refl
+grouped f (Err i) (Ok b) (Ok c) = refl
+grouped f (Err i) (Ok b) (Err k) = refl
+grouped f (Err i) (Err j) (Ok c) = refl
+grouped f (Err i) (Err j) (Err k) = ap (λ (kind : TreeKind). Err kind) (sym (lesser_assoc i j k))
 
 mapped_told : {A B : Type 0} (f : A → B) (r : Result A TreeKind) (fault : LineFault TreeKind)
     → TellsLine r fault → TellsLine (mapped f r) fault
@@ -56,7 +56,9 @@ module _ (p : Problem) (unit size : Token) (all next fields : List Token)
       (both first (one_and_more number_of number_of fields))
   cap_by =
       ap (cap_of p) (cut ∙ ap (λ (ts : List Token). unit ∷ ts) cut')
-      ∙ cap_grouped (unit_of p unit) (weight_of size) (one_and_more number_of number_of fields)
+      ∙ grouped
+      (λ (found : ℕ × (ℤ × (ℤ × List ℤ))). cap found.0 found.1.0 found.1.1.0 found.1.1.1 [])
+      (unit_of p unit) (weight_of size) (one_and_more number_of number_of fields)
       ∙ ap
       (λ (r : Result (ℕ × ℤ) TreeKind). mapped {B = HeadLine}
       (λ found. cap found.0.0 found.0.1 found.1.0 found.1.1 [])
@@ -105,6 +107,42 @@ module _ (p : Problem) (unit : Token) (all fields : List Token) (cut : all ≡ u
       subst (λ (r : Result HeadLine TreeKind). TellsLine r fault) (sym out_by)
       (mapped_told (λ found. out found.0 found.1.0 found.1.1 [])
       (both first (one_and_more number_of number_of fields)) fault told)
+
+module _ (p : Problem) (material amount worth : Token) (all next last fields : List Token)
+    (cut : all ≡ material ∷ next) (cut' : next ≡ amount ∷ last) (cut'' : last ≡ worth ∷ fields)
+    (first : Result ((ℕ × ℤ) × ℤ) TreeKind)
+    (first_is
+    : first ≡ both (both (material_of p material) (weight_of amount)) (weight_of worth)) where
+  abbrev use_found : ((ℕ × ℤ) × ℤ) × (ℤ × List ℤ) → HeadLine
+  use_found found =
+      uses (record { of = found.0.0.0; amount = found.0.0.1; worth = found.0.1 }) found.1.0
+      found.1.1 []
+
+  use_by : use_of p all ≡ mapped use_found (both first (one_and_more number_of number_of fields))
+  use_by =
+      ap (use_of p)
+      (cut
+      ∙ ap (λ (ts : List Token). material ∷ ts)
+      (cut' ∙ ap (λ (ts : List Token). amount ∷ ts) cut''))
+      ∙ grouped
+      (λ (found : ℕ × (ℤ × (ℤ × (ℤ × List ℤ)))). use_found
+      (((found.0, found.1.0), found.1.1.0), found.1.1.1))
+      (material_of p material) (weight_of amount)
+      (both (weight_of worth) (one_and_more number_of number_of fields))
+      ∙ grouped
+      (λ (found : (ℕ × ℤ) × (ℤ × (ℤ × List ℤ))). use_found ((found.0, found.1.0), found.1.1))
+      (both (material_of p material) (weight_of amount)) (weight_of worth)
+      (one_and_more number_of number_of fields)
+      ∙ ap
+      (λ (r : Result ((ℕ × ℤ) × ℤ) TreeKind). mapped use_found
+      (both r (one_and_more number_of number_of fields))) (sym first_is)
+
+  pub use_told : (fault : LineFault TreeKind)
+      → TellsLine (both first (one_and_more number_of number_of fields)) fault
+      → TellsLine (use_of p all) fault
+  use_told fault told =
+      subst (λ (r : Result HeadLine TreeKind). TellsLine r fault) (sym use_by)
+      (mapped_told use_found (both first (one_and_more number_of number_of fields)) fault told)
 
 -- ---- a line with its sets, and the lines after them
 
@@ -160,6 +198,17 @@ out_sets p u d ys covers number (line ∷ lines) =
     (go_on p (out u d ys covers) number (line ∷ lines)) refl
     (λ cs. out_sets p u d ys cs (suc number) lines)
 
+use_sets : (p : Problem) (q : Demand) (d : ℤ) (ys : List ℤ) (covers : List Cover) (number : ℕ)
+    (lines : List Line)
+    → front_taken p (Some (uses q d ys covers)) number lines
+    ≡ then_read (covers_taken p covers number lines) (λ cs n ls. go_on p (uses q d ys cs) n ls)
+unfolding front_taken
+use_sets p q d ys covers number [] = refl
+use_sets p q d ys covers number (line ∷ lines) =
+    at_set p number line lines (λ cs. uses q d ys cs) covers (next_cover p covers line)
+    (go_on p (uses q d ys covers) number (line ∷ lines)) refl
+    (λ cs. use_sets p q d ys cs (suc number) lines)
+
 regroup : {A B C : Type 0} (r : Result (Taken A) Fault) (f : A → B)
     (read : B → ℕ → List Line → Result C Fault)
     → then_read r (λ a n ls. read (f a) n ls)
@@ -184,6 +233,9 @@ begun_on p (out u d ys covers) number lines =
     ∙ regroup (covers_taken p covers number lines) (λ cs. out u d ys cs) (go_on p)
 begun_on p (trim u) number [] = refl
 begun_on p (trim u) number (line ∷ lines) = refl
+begun_on p (uses q d ys covers) number lines =
+    use_sets p q d ys covers number lines
+    ∙ regroup (covers_taken p covers number lines) (λ cs. uses q d ys cs) (go_on p)
 
 -- ---- a line of a head at a place
 

@@ -9,7 +9,7 @@ use Rattle.head_rules.specs.Known.{KnowsLine}
 use Rattle.head_lines.specs.View.{line_of}
 use Rattle.head_lines.specs.declared.line.HeadLine.{HeadLine}
 use Rattle.tree_text_rules.specs.Line.{Token, Line}
-use Rattle.tree_text_rules.specs.LineRead.{one, cap_of, out_of, sets_of}
+use Rattle.tree_text_rules.specs.LineRead.{one, cap_of, out_of, use_of, sets_of}
 use Rattle.tree_text_rules.specs.Token.{mapped, unit_of}
 use Rattle.tree_text_rules.specs.Read.{Fault, Taken, then_read, covers_taken, with_line}
 use Rattle.tree_text_rules.specs.Read.{front_taken}
@@ -29,6 +29,7 @@ abbrev pub fact_by : Problem → Option Word → List Token → Option (Result h
 fact_by p (Some words.Cap) fields = Some (cap_of p fields)
 fact_by p (Some words.Out) fields = Some (out_of p fields)
 fact_by p (Some words.Trim) fields = Some (mapped heads.trim (one (unit_of p) fields))
+fact_by p (Some words.Use) fields = Some (use_of p fields)
 fact_by p word fields = None
 
 -- no sets were read yet
@@ -63,6 +64,7 @@ with_sets (heads.step s) covers = heads.step s
 with_sets (heads.cap u v d ys none) covers = heads.cap u v d ys covers
 with_sets (heads.out u d ys none) covers = heads.out u d ys covers
 with_sets (heads.trim u) covers = heads.trim u
+with_sets (heads.uses q d ys none) covers = heads.uses q d ys covers
 
 -- a line, after those that were read of it, if sets may follow it
 abbrev pub line_behind : Problem → heads.HeadLine → Option (List Cover) → ℕ → List Line

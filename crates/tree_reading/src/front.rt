@@ -70,6 +70,24 @@ fn with_sets(
             };
             Ok((line, behind))
         }
+        HeadLine::Use {
+            material,
+            amount,
+            worth,
+            scaled,
+            ..
+        } => {
+            let (covers, behind) = read_sets(alloc, problem, bytes, cut)?;
+            let covers = Covers::from_vec(covers);
+            let line = HeadLine::Use {
+                material,
+                amount,
+                worth,
+                scaled,
+                covers,
+            };
+            Ok((line, behind))
+        }
         line => Ok((line, cut)),
     }
 }

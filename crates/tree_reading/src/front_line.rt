@@ -15,7 +15,7 @@ use crate::ends::scaled_in;
 use crate::fault_order::{both, lesser};
 use crate::line::next_token;
 use crate::line_fault::LineFault;
-use crate::name::{one_unit, unit_of};
+use crate::name::{material_of, one_unit, unit_of};
 use crate::number::weight_of;
 use crate::steps::step_line;
 use branch_tree::Scaled;
@@ -120,6 +120,39 @@ fn trim_of(problem: &Problem, fields: Option<&[u8]>) -> Result<HeadLine, LineFau
     }
 }
 
+// A material, the amount of which no more is used, what its use is worth, and a charge.
+fn use_of(alloc: Global, problem: &Problem, fields: Option<&[u8]>) -> Result<HeadLine, LineFault>
+    ensures ok { IfOk result
+        (λ l. reads.use_of problem.now (tokens_in fields.entry) ≡ Ok (views.line_of l)) }
+    ensures known { IfOk result (λ l. KnowsLine problem.now (views.line_of l)) }
+    ensures bare { IfOk result (λ l. BearsNone (views.line_of l)) }
+    ensures fault { IfErr result
+        (TellsLine (reads.use_of problem.now (tokens_in fields.entry))) }
+{
+    let Some((material, behind)) = next_token(fields) else {
+        return Err(LineFault::Kind(TreeKind::BadLine));
+    };
+    let Some((amount, behind)) = next_token(behind) else {
+        return Err(LineFault::Kind(TreeKind::BadLine));
+    };
+    let Some((worth, behind)) = next_token(behind) else {
+        return Err(LineFault::Kind(TreeKind::BadLine));
+    };
+    let used = both(material_of(problem, material), weight_of(amount));
+    let valued = both(used, weight_of(worth));
+    let (((material, amount), worth), scaled) = with_scaled(alloc, valued, behind)?;
+    scaled.are_in_range();
+    let covers = Covers::from_vec(Vec::new(alloc));
+    covers.are_kept();
+    Ok(HeadLine::Use {
+        material,
+        amount,
+        worth,
+        scaled,
+        covers,
+    })
+}
+
 // The line of a head that begins as one with facts.
 fn fact_in(alloc: Global, problem: &Problem, line: &LineParts) -> Result<HeadLine, LineFault>
     ensures { IfSome (fact_by problem.now line.now.word (tokens_in line.now.fields))
@@ -132,6 +165,7 @@ fn fact_in(alloc: Global, problem: &Problem, line: &LineParts) -> Result<HeadLin
         Some(Word::Cap) => cap_of(alloc, problem, line.fields),
         Some(Word::Out) => out_of(alloc, problem, line.fields),
         Some(Word::Trim) => trim_of(problem, line.fields),
+        Some(Word::Use) => use_of(alloc, problem, line.fields),
         _ => Err(LineFault::Kind(TreeKind::BadLine)),
     }
 }
@@ -148,7 +182,9 @@ pub fn front_line(
         (reads.head_by problem.now line.now.word (tokens_in line.now.fields))) result }
 {
     match line.word {
-        Some(Word::Cap | Word::Out | Word::Trim) => Some(fact_in(alloc, problem, line)),
+        Some(Word::Cap | Word::Out | Word::Trim | Word::Use) => {
+            Some(fact_in(alloc, problem, line))
+        }
         _ => match step_line(problem, line) {
             None => None,
             Some(Ok(step)) => Some(Ok(HeadLine::Step(step))),

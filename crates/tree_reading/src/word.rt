@@ -5,7 +5,7 @@ ghost use Rattle.tree_text_rules.specs.Line.{word_named};
 use text_lines::words::looked_up;
 use tree_text_rules::Word;
 
-const WORDS: [(&[u8], Word); 29] = [
+const WORDS: [(&[u8], Word); 30] = [
     (b"network", Word::Network),
     (b"sizes", Word::Sizes),
     (b"cost", Word::Cost),
@@ -30,6 +30,7 @@ const WORDS: [(&[u8], Word); 29] = [
     (b"cap", Word::Cap),
     (b"out", Word::Out),
     (b"trim", Word::Trim),
+    (b"use", Word::Use),
     (b"spent", Word::Spent),
     (b"past", Word::Past),
     (b"nonbasic", Word::Nonbasic),

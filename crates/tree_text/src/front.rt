@@ -67,6 +67,23 @@ fn put_front_line<K: Sink>(
             put_covers(line, problem, covers.covers(), out)
         }
         HeadLine::Trim(unit) => put(line, problem, "trim", &[Field::Unit(*unit)], out),
+        HeadLine::Use {
+            material,
+            amount,
+            worth,
+            scaled,
+            covers,
+        } => {
+            let fields = [
+                Field::Material(*material),
+                Field::Number(*amount),
+                Field::Number(*worth),
+                Field::Number(scaled.d()),
+                Field::Numbers(scaled.ys()),
+            ];
+            put(line, problem, "use", &fields, out)?;
+            put_covers(line, problem, covers.covers(), out)
+        }
     }
 }
 

@@ -9,7 +9,7 @@ use Rattle.problem_rules.specs.WellFormed.{IsWellFormed}
 use Rattle.text_laws.proofs.Each.{each-append}
 use Rattle.charge_rules.specs.Cover.{Cover}
 use Rattle.tree_rules.specs.Known.{KnowsCover}
-use Rattle.head_rules.specs.Head.{HeadLine, step, cap, out, trim}
+use Rattle.head_rules.specs.Head.{HeadLine, step, cap, out, trim, uses}
 use Rattle.head_rules.specs.Known.{KnowsLine, KnowsHead}
 use Rattle.tree_text_rules.specs.Line.{Token, Line}
 use Rattle.tree_text_rules.specs.LineRead.{head_read, sets_of, next_among, next_cover}
@@ -34,12 +34,14 @@ with_sets (step s) cs = step s
 with_sets (cap u v d ys covers) cs = cap u v d ys (covers ++ cs)
 with_sets (out u d ys covers) cs = out u d ys (covers ++ cs)
 with_sets (trim u) cs = trim u
+with_sets (uses q d ys covers) cs = uses q d ys (covers ++ cs)
 
 abbrev bare : HeadLine → HeadLine
 bare (step s) = step s
 bare (cap u v d ys covers) = cap u v d ys []
 bare (out u d ys covers) = out u d ys []
 bare (trim u) = trim u
+bare (uses q d ys covers) = uses q d ys []
 
 with_none : (l : HeadLine) → with_sets l [] ≡ l
 with_none (step s) = refl
@@ -47,6 +49,7 @@ with_none (cap u v d ys covers) =
     ap (λ (cs : List Cover). cap u v d ys cs) (append-nil covers)
 with_none (out u d ys covers) = ap (λ (cs : List Cover). out u d ys cs) (append-nil covers)
 with_none (trim u) = refl
+with_none (uses q d ys covers) = ap (λ (cs : List Cover). uses q d ys cs) (append-nil covers)
 
 with_more : (l : HeadLine) (c : Cover) (cs : List Cover)
     → with_sets (with_set l c) cs ≡ with_sets l (c ∷ cs)
@@ -56,12 +59,15 @@ with_more (cap u v d ys covers) c cs =
 with_more (out u d ys covers) c cs =
     ap (λ (xs : List Cover). out u d ys xs) (append_assoc covers (c ∷ []) cs)
 with_more (trim u) c cs = refl
+with_more (uses q d ys covers) c cs =
+    ap (λ (xs : List Cover). uses q d ys xs) (append_assoc covers (c ∷ []) cs)
 
 with_own : (l : HeadLine) → with_sets (bare l) (sets_in l) ≡ l
 with_own (step s) = refl
 with_own (cap u v d ys covers) = refl
 with_own (out u d ys covers) = refl
 with_own (trim u) = refl
+with_own (uses q d ys covers) = refl
 
 -- what is read of an own line stays when sets come
 same_line : (p : Problem) (l : HeadLine) (cs : List Cover)
@@ -70,12 +76,14 @@ same_line p (step s) cs = refl
 same_line p (cap u v d ys covers) cs = refl
 same_line p (out u d ys covers) cs = refl
 same_line p (trim u) cs = refl
+same_line p (uses q d ys covers) cs = refl
 
 bare_line : (p : Problem) (l : HeadLine) → front_line p (bare l) ≡ front_line p l
 bare_line p (step s) = refl
 bare_line p (cap u v d ys covers) = refl
 bare_line p (out u d ys covers) = refl
 bare_line p (trim u) = refl
+bare_line p (uses q d ys covers) = refl
 
 -- ---- which sets may come
 
@@ -84,6 +92,7 @@ sets_are (step s) cs e = absurd cc
 sets_are (cap u v d ys covers) cs e = let is : Some covers ≡ Some cs = e in cc
 sets_are (out u d ys covers) cs e = let is : Some covers ≡ Some cs = e in cc
 sets_are (trim u) cs e = absurd cc
+sets_are (uses q d ys covers) cs e = let is : Some covers ≡ Some cs = e in cc
 
 among_is : (p : Problem) (o : Option (List Cover)) (line : Line) (r : Result Cover TreeKind)
     → next_among p o line ≡ Some r → (cs : List Cover) × (o ≡ Some cs)
@@ -113,6 +122,12 @@ with_set_sets (out u d ys covers) c cs e =
     with_it None = None
     with_it (Some xs) = Some (xs ++ c ∷ [])
 with_set_sets (trim u) c cs e = absurd cc
+with_set_sets (uses q d ys covers) c cs e =
+    ap (λ (o : Option (List Cover)). with_it o) e
+  where
+    with_it : Option (List Cover) → Option (List Cover)
+    with_it None = None
+    with_it (Some xs) = Some (xs ++ c ∷ [])
 
 with_line_ok : (l : HeadLine) (r : Result (Taken Front) Fault) (taken : Taken Front)
     → with_line l r ≡ Ok taken → (t : Taken Front) × (r ≡ Ok t)
@@ -190,6 +205,23 @@ module _ (p : Problem) (formed : IsWellFormed p) where
             multipliers = h.1.multipliers;
             few = omega (arith, size, lt, same);
             covers = each-append (KnowsCover p) covers (c ∷ []) h.1.covers (k, tt);
+          },
+        ),
+      )
+  one_set (uses q d ys covers) c cs e lt k =
+      let is : covers ≡ cs = sets_are (uses q d ys covers) cs e in
+      let size : length (covers ++ c ∷ []) ≡ length covers + 1 = length-append covers (c ∷ []) in
+      let same : length covers ≡ length cs = ap length is in (
+        refl,
+        λ h. (
+          h.0,
+          h.1,
+          h.2,
+          record {
+            scale = h.3.scale;
+            multipliers = h.3.multipliers;
+            few = omega (arith, size, lt, same);
+            covers = each-append (KnowsCover p) covers (c ∷ []) h.3.covers (k, tt);
           },
         ),
       )
@@ -449,6 +481,20 @@ module _ (p : Problem) (formed : IsWellFormed p) where
     bare = refl;
   }
   bare_fits (trim u) known = record { known = known; bare = refl }
+  bare_fits (uses q d ys covers) known = record {
+    known = (
+      known.0,
+      known.1,
+      known.2,
+      record {
+        scale = known.3.scale;
+        multipliers = known.3.multipliers;
+        few = omega arith;
+        covers = tt;
+      },
+    );
+    bare = refl;
+  }
 
   -- the sets of a line come after it
   own_sets : (l : HeadLine) (number : ℕ) (lines : List Line) → KnowsLine p l → BeginsNoSet p lines
@@ -467,6 +513,8 @@ module _ (p : Problem) (formed : IsWellFormed p) where
       ends_there (trim u) number lines stops
       ∙ ap (λ (n : ℕ). with_line (trim u) (front_taken p None n lines))
       (let q : number ≡ number + 0 = omega arith in q)
+  own_sets (uses q d ys covers) number lines known stops =
+      sets_taken covers (uses q d ys []) [] number lines refl known.3.covers known.3.few stops
 
   whole_line : (l : HeadLine) (number : ℕ) (lines : List Line) → KnowsLine p l
       → BeginsNoSet p lines
@@ -527,6 +575,8 @@ module _ (p : Problem) (formed : IsWellFormed p) where
   line_tokens (out u d ys covers) known =
       (front_line_tokens p formed (out u d ys covers) known, sets_tokens covers known.1.covers)
   line_tokens (trim u) known = (front_line_tokens p formed (trim u) known, tt)
+  line_tokens (uses q d ys covers) known =
+      (front_line_tokens p formed (uses q d ys covers) known, sets_tokens covers known.3.covers)
 
   pub front_each : (head : Front) → KnowsHead p head → Each (Each IsToken) (front_lines p head)
   front_each [] known = tt

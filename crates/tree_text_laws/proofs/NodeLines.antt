@@ -23,8 +23,9 @@ use Rattle.tree_text_rules.specs.Line.{Token, Line, is_formed, word_text, word_o
 use Rattle.tree_text_rules.specs.LineRead.{formed, one, two, one_and_more, step_by, formed_step}
 use Rattle.tree_text_rules.specs.LineRead.{step_read, open_of, end_by, end_line_read, some_units}
 use Rattle.tree_text_rules.specs.LineRead.{set_of, set_beside, cover_by, formed_cover, cover_read}
-use Rattle.tree_text_rules.specs.LineRead.{cap_of, out_of, head_step, head_by, formed_head}
-use Rattle.tree_text_rules.specs.LineRead.{head_read, option_by, option_read, root_by, root_read}
+use Rattle.tree_text_rules.specs.LineRead.{cap_of, out_of, use_of, head_step, head_by}
+use Rattle.tree_text_rules.specs.LineRead.{formed_head, head_read, option_by, option_read, root_by}
+use Rattle.tree_text_rules.specs.LineRead.{root_read}
 use Rattle.tree_text_rules.specs.Read.{with_covers, charge_end}
 use Rattle.tree_text_rules.specs.Spelling.{unit_name, material_name, exclusion_name, step_line}
 use Rattle.tree_text_rules.specs.Spelling.{end_line, set_line, cover_line, front_line}
@@ -630,6 +631,7 @@ module _ (p : Problem) (good : IsWellFormed p) where
   front_word (heads.cap u v d ys covers) = words.Cap
   front_word (heads.out u d ys covers) = words.Out
   front_word (heads.trim u) = words.Trim
+  front_word (heads.uses q d ys covers) = words.Use
 
   abbrev front_fields : HeadLine → List Token
   front_fields (heads.step s) = step_fields s
@@ -638,12 +640,16 @@ module _ (p : Problem) (good : IsWellFormed p) where
   front_fields (heads.out u d ys covers) =
       unit_name p u ∷ signed_decimal d ∷ map signed_decimal ys
   front_fields (heads.trim u) = unit_name p u ∷ []
+  front_fields (heads.uses q d ys covers) =
+      material_name p q.of ∷ signed_decimal q.amount ∷ signed_decimal q.worth ∷ signed_decimal d
+      ∷ map signed_decimal ys
 
   front_is : (l : HeadLine) → word_text (front_word l) ∷ front_fields l ≡ front_line p l
   front_is (heads.step s) = step_is s
   front_is (heads.cap u v d ys covers) = refl
   front_is (heads.out u d ys covers) = refl
   front_is (heads.trim u) = refl
+  front_is (heads.uses q d ys covers) = refl
 
   front_tokens : (l : HeadLine) → KnowsLine p l → Each IsToken (front_fields l)
   front_tokens (heads.step s) known = step_tokens s known
@@ -659,6 +665,16 @@ module _ (p : Problem) (good : IsWellFormed p) where
     bounding.tokens (d, ys) (known.1.scale, all_each ys known.1.multipliers),
   )
   front_tokens (heads.trim u) known = one_unit.tokens u known
+  front_tokens (heads.uses q d ys covers) known = (
+    (material_code p good).token q.of known.0,
+    (
+      weight_code.token q.amount known.1,
+      (
+        weight_code.token q.worth known.2,
+        bounding.tokens (d, ys) (known.3.scale, all_each ys known.3.multipliers),
+      ),
+    ),
+  )
 
   pub front_line_tokens : (l : HeadLine) → KnowsLine p l → Each IsToken (front_line p l)
   front_line_tokens l known =
@@ -717,6 +733,40 @@ module _ (p : Problem) (good : IsWellFormed p) where
         record { known = (u.1, bare_charge m.0.1.0 m.0.1.1 r.1.0 r.1.1); bare = refl },
       )
 
+  abbrev use_found : ℕ × (ℤ × (ℤ × (ℤ × List ℤ))) → HeadLine
+  use_found found =
+      heads.uses (record { of = found.0; amount = found.1.0; worth = found.1.1.0 })
+      found.1.1.1.0 found.1.1.1.1 []
+
+  use_back : (tokens : List Token) (l : HeadLine) → use_of p tokens ≡ Ok l
+      → SpellsFront (Some words.Use) tokens l
+  use_back [] l e = absurd cc
+  use_back (token ∷ []) l e = absurd cc
+  use_back (token ∷ amount ∷ []) l e = absurd cc
+  use_back (token ∷ amount ∷ worth ∷ tokens) l e =
+      let behind : Result (ℤ × List ℤ) TreeKind = one_and_more number_of number_of tokens in
+      let valued : Result (ℤ × (ℤ × List ℤ)) TreeKind = both (weight_of worth) behind in
+      let used : Result (ℤ × (ℤ × (ℤ × List ℤ))) TreeKind = both (weight_of amount) valued in
+      let m = mapped_ok use_found (both (material_of p token) used) l e in
+      let b = both_ok (material_of p token) used m.0 m.1 in
+      let n = both_ok (weight_of amount) valued m.0.1 b.1 in
+      let o = both_ok (weight_of worth) behind m.0.1.1 n.1 in
+      let x = (material_code p good).back token m.0.0 b.0 in
+      let v = weight_code.back amount m.0.1.0 n.0 in
+      let w = weight_code.back worth m.0.1.1.0 o.0 in
+      let r = bounding.back tokens m.0.1.1.1 o.1 in
+      subst (λ (k : HeadLine). SpellsFront (Some words.Use) (token ∷ amount ∷ worth ∷ tokens) k)
+      m.2 (
+        refl,
+        ap₂ (λ (t : Token) (ts : List Token). t ∷ ts) x.0
+            (ap₂ (λ (t : Token) (ts : List Token). t ∷ ts) v.0
+            (ap₂ (λ (t : Token) (ts : List Token). t ∷ ts) w.0 r.0)),
+        record {
+          known = (x.1, v.1, w.1, bare_charge m.0.1.1.1.0 m.0.1.1.1.1 r.1.0 r.1.1);
+          bare = refl;
+        },
+      )
+
   step_front : (word : Option Word) (tokens : List Token) (o : Option (Result nodes.Step TreeKind))
       → step_by p word tokens ≡ o → (r : Result HeadLine TreeKind) → head_step o ≡ Some r
       → (l : HeadLine) → r ≡ Ok l → SpellsFront word tokens l
@@ -738,6 +788,8 @@ module _ (p : Problem) (good : IsWellFormed p) where
       (SpellsFront (Some words.Trim) tokens) tokens
       (λ u is known. (refl, is, record { known = known; bare = refl })) l
       (some_is (mapped heads.trim (one (unit_of p) tokens)) r e ∙ f)
+  front_by_back (Some words.Use) tokens r e l f =
+      use_back tokens l (some_is (use_of p tokens) r e ∙ f)
   front_by_back word tokens r e l f =
       step_front word tokens (step_by p word tokens) refl r e l f
 
@@ -783,6 +835,16 @@ module _ (p : Problem) (good : IsWellFormed p) where
       ∙ ap (λ (cs : List Cover). Some (done (heads.out u d ys cs))) (sym f.bare)
   front_by_again (heads.trim u) f =
       ap (λ (r : Result ℕ TreeKind). Some (mapped heads.trim r)) (one_unit.again u f.known)
+  front_by_again (heads.uses q d ys covers) f =
+      ap₂ (λ (r : Result ℕ TreeKind) (s : Result (ℤ × (ℤ × (ℤ × List ℤ))) TreeKind). Some
+      (mapped use_found (both r s)))
+      ((material_code p good).again q.of f.known.0)
+      (ap₂ (λ (r : Result ℤ TreeKind) (s : Result (ℤ × (ℤ × List ℤ)) TreeKind). both r s)
+      (weight_code.again q.amount f.known.1)
+      (ap₂ (λ (r : Result ℤ TreeKind) (s : Result (ℤ × List ℤ) TreeKind). both r s)
+      (weight_code.again q.worth f.known.2)
+      (bounding.again (d, ys) (f.known.3.scale, all_each ys f.known.3.multipliers))))
+      ∙ ap (λ (cs : List Cover). Some (done (heads.uses q d ys cs))) (sym f.bare)
 
   pub front_again : (l : HeadLine) → FitsFrontLine p l
       → head_read p (line_of (front_line p l)) ≡ Some (Ok l)
@@ -805,6 +867,7 @@ module _ (p : Problem) (good : IsWellFormed p) where
   front_by_none (heads.cap u v d ys covers) tokens = refl
   front_by_none (heads.out u d ys covers) tokens = refl
   front_by_none (heads.trim u) tokens = refl
+  front_by_none (heads.uses q d ys covers) tokens = refl
 
   -- a line of a head is no set
   pub front_no_set : (l : HeadLine) → KnowsLine p l

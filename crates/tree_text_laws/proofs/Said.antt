@@ -72,6 +72,7 @@ word_is_token words.Open = record { some = refl; space = refl; feed = refl }
 word_is_token words.Cap = record { some = refl; space = refl; feed = refl }
 word_is_token words.Out = record { some = refl; space = refl; feed = refl }
 word_is_token words.Trim = record { some = refl; space = refl; feed = refl }
+word_is_token words.Use = record { some = refl; space = refl; feed = refl }
 word_is_token words.Spent = record { some = refl; space = refl; feed = refl }
 word_is_token words.Past = record { some = refl; space = refl; feed = refl }
 word_is_token words.Nonbasic = record { some = refl; space = refl; feed = refl }
@@ -104,6 +105,7 @@ word_again words.Open = refl
 word_again words.Cap = refl
 word_again words.Out = refl
 word_again words.Trim = refl
+word_again words.Use = refl
 word_again words.Spent = refl
 word_again words.Past = refl
 word_again words.Nonbasic = refl
@@ -162,11 +164,11 @@ word_back token word =
     (step token words.SomeOf word _ (step token words.With word _ (step token words.Branch word _
     (step token words.Either word _
     (step token words.Open word _ (step token words.Cap word _ (step token words.Out word _
-    (step token words.Trim word _
+    (step token words.Trim word _ (step token words.Use word _
     (step token words.Spent word _ (step token words.Past word _
     (step token words.Nonbasic word _
     (step token words.Place word _
-    (step token words.End word None (none_named token word)))))))))))))))))))))))))))))
+    (step token words.End word None (none_named token word))))))))))))))))))))))))))))))
 
 first_back : (tokens : List Token) (word : Word) → first_word tokens ≡ Some word
     → tokens ≡ word_text word ∷ behind_first tokens

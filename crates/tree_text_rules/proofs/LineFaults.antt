@@ -64,6 +64,7 @@ parts =
     (codes "cap U1 1 0", BadLine) ∷
     (codes "out U1 0", BadLine) ∷
     (codes "trim U1", BadLine) ∷
+    (codes "use A 1 0 1", BadLine) ∷
     (codes "refuted 1.5", BadNumber) ∷
     (codes "refuted -", BadNumber) ∷
     []
@@ -194,6 +195,20 @@ fronts =
     (codes "trim", BadLine) ∷
     (codes "trim U1 U2", BadLine) ∷
     (codes "trim Q", UnknownName) ∷
+    (codes "use", BadLine) ∷
+    (codes "use A", BadLine) ∷
+    (codes "use A 1", BadLine) ∷
+    (codes "use A 1 0", BadLine) ∷
+    (codes "use Q 1 0", BadLine) ∷
+    (codes "use  A 1 0 1", BadLine) ∷
+    (codes "use Q -1 -1 x", UnknownName) ∷
+    (codes "use U1 1 0 1", UnknownName) ∷
+    (codes "use A -1 0 1", BadNumber) ∷
+    (codes "use A 01 0 1", BadNumber) ∷
+    (codes "use A 1 -1 1", BadNumber) ∷
+    (codes "use A 1 0.5 1", BadNumber) ∷
+    (codes "use A 1 0 x", BadNumber) ∷
+    (codes "use A 1 0 1 -0", BadNumber) ∷
     (codes "raw Q", UnknownName) ∷
     (codes "loose U2 U1", Order) ∷
     (codes "some 1 U1", BadLine) ∷
@@ -227,6 +242,22 @@ front_sets_told : ToldHeaded (codes "unknown" ∷ codes "cap U1 1 0" ∷ codes "
     (codes "node" ∷ codes "open" ∷ codes "end" ∷ []) 5 front_sets
 unfolding front_sets word_named front_taken nodes_taken
 front_sets_told = refl
+
+-- and after a use
+use_sets : List (List ℕ × TreeKind)
+use_sets =
+    (codes "some", BadLine) ∷
+    (codes "some -1 U1", BadNumber) ∷
+    (codes "with 1 U1 Q", UnknownName) ∷
+    (codes "use Q 1 0 1", UnknownName) ∷
+    (codes "node U1", BadLine) ∷
+    (codes "end", FewerNodes) ∷
+    []
+
+use_sets_told : ToldHeaded (codes "unknown" ∷ codes "use A 1 0 1" ∷ codes "with 1 U1 U2" ∷ [])
+    (codes "node" ∷ codes "open" ∷ codes "end" ∷ []) 5 use_sets
+unfolding use_sets word_named front_taken nodes_taken
+use_sets_told = refl
 
 -- but not after a trim
 no_sets : List (List ℕ × TreeKind)

@@ -16,7 +16,7 @@ use Rattle.tree_rules.specs.Leaf.{Leaf, dead, clash, refuted, bounded, charged, 
 use Rattle.tree_rules.specs.Claim.{Claim, network, infeasible, unknown}
 use Rattle.tree_rules.specs.Accepted.{Tree}
 use Rattle.tree_rules.specs.Tail.{whole, spent, past}
-use Rattle.head_rules.specs.Head.{HeadLine, step, cap, out, trim}
+use Rattle.head_rules.specs.Head.{HeadLine, step, cap, out, trim, uses}
 use Rattle.tree_text_rules.specs.Spelling.{tree_text, headed_text}
 use Rattle.tree_text_rules.specs.Line.{word_named}
 use Rattle.tree_text_rules.specs.Read.{Certificate, read_text, nodes_taken, front_taken}
@@ -248,6 +248,10 @@ lines_are : IsHeadedTextOf
     ∷ codes "loose U1"
     ∷ codes "out U5 -1"
     ∷ codes "trim U4"
+    ∷ codes "use C 4000000 3 1 0 -1"
+    ∷ codes "some 1000000000000000000 U1 U2"
+    ∷ codes "with 0 U4 U3"
+    ∷ codes "use A 0 0 -1"
     ∷ codes "starve E"
     ∷ []))
     (headed (cap 1 (pos 1000000) (pos 1) (pos 0 ∷ negsuc 0 ∷ []) (one_set ∷ set_beside ∷ [])
@@ -256,6 +260,9 @@ lines_are : IsHeadedTextOf
     ∷ step (loose (0 ∷ []))
     ∷ out 4 (negsuc 0) [] []
     ∷ trim 3
+    ∷ uses (record { of = 2; amount = pos 4000000; worth = pos 3 }) (pos 1)
+    (pos 0 ∷ negsuc 0 ∷ []) (one_set ∷ set_beside ∷ [])
+    ∷ uses (record { of = 0; amount = pos 0; worth = pos 0 }) (negsuc 0) [] []
     ∷ step (starve 3)
     ∷ []))
 unfolding digits front_taken nodes_taken word_named

@@ -11,8 +11,8 @@ use Rattle.tree_text_rules.specs.declared.Word.TheVariants.{Network, Sizes, Cost
 use Rattle.tree_text_rules.specs.declared.Word.TheVariants.{Unknown, Node, Raw, Rival, Starve}
 use Rattle.tree_text_rules.specs.declared.Word.TheVariants.{Loose, Sole, Dead, Clash, Refuted}
 use Rattle.tree_text_rules.specs.declared.Word.TheVariants.{Bound, Charge, SomeOf, With, Branch}
-use Rattle.tree_text_rules.specs.declared.Word.TheVariants.{Either, Open, Cap, Out, Trim, Spent}
-use Rattle.tree_text_rules.specs.declared.Word.TheVariants.{Past, Nonbasic, Place, End}
+use Rattle.tree_text_rules.specs.declared.Word.TheVariants.{Either, Open, Cap, Out, Trim, Use}
+use Rattle.tree_text_rules.specs.declared.Word.TheVariants.{Spent, Past, Nonbasic, Place, End}
 
 abbrev pub Token : Type 0
 Token = List ℕ
@@ -82,6 +82,7 @@ word_text Open = codes "open"
 word_text Cap = codes "cap"
 word_text Out = codes "out"
 word_text Trim = codes "trim"
+word_text Use = codes "use"
 word_text Spent = codes "spent"
 word_text Past = codes "past"
 word_text Nonbasic = codes "nonbasic"
@@ -104,6 +105,7 @@ head_word_named token =
     if bytes_eq token (word_text Cap) then Some Cap
     else if bytes_eq token (word_text Out) then Some Out
     else if bytes_eq token (word_text Trim) then Some Trim
+    else if bytes_eq token (word_text Use) then Some Use
     else tail_word_named token
 
 -- the first word that a token is

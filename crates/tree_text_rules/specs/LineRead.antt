@@ -173,6 +173,18 @@ out_of p (unit ∷ fields) =
     (both (unit_of p unit) (one_and_more number_of number_of fields))
 out_of p [] = Err BadLine
 
+-- a material, the amount of which no more is used, what its use is worth, and a charge
+abbrev pub use_of : Problem → List Token → Result heads.HeadLine TreeKind
+use_of p (material ∷ amount ∷ worth ∷ fields) =
+    mapped
+    (λ found. heads.uses
+    (record { of = found.0; amount = found.1.0; worth = found.1.1.0 }) found.1.1.1.0
+    found.1.1.1.1 [])
+    (both (material_of p material)
+    (both (weight_of amount)
+    (both (weight_of worth) (one_and_more number_of number_of fields))))
+use_of p fields = Err BadLine
+
 abbrev pub head_step : Option (Result nodes.Step TreeKind)
     → Option (Result heads.HeadLine TreeKind)
 head_step None = None
@@ -184,6 +196,7 @@ abbrev pub head_by : Problem → Option Word → List Token
 head_by p (Some words.Cap) fields = Some (cap_of p fields)
 head_by p (Some words.Out) fields = Some (out_of p fields)
 head_by p (Some words.Trim) fields = Some (mapped heads.trim (one (unit_of p) fields))
+head_by p (Some words.Use) fields = Some (use_of p fields)
 head_by p word fields = head_step (step_by p word fields)
 
 abbrev pub formed_head : Line → Option (Result heads.HeadLine TreeKind)
@@ -200,6 +213,7 @@ sets_of (heads.step s) = None
 sets_of (heads.cap u v d ys covers) = Some covers
 sets_of (heads.out u d ys covers) = Some covers
 sets_of (heads.trim u) = None
+sets_of (heads.uses q d ys covers) = Some covers
 
 abbrev pub next_among : Problem → Option (List Cover) → Line → Option (Result Cover TreeKind)
 next_among p None line = None

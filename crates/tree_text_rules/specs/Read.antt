@@ -155,6 +155,7 @@ with_set (heads.step s) cover = heads.step s
 with_set (heads.cap u v d ys covers) cover = heads.cap u v d ys (covers ++ cover ∷ [])
 with_set (heads.out u d ys covers) cover = heads.out u d ys (covers ++ cover ∷ [])
 with_set (heads.trim u) cover = heads.trim u
+with_set (heads.uses q d ys covers) cover = heads.uses q d ys (covers ++ cover ∷ [])
 
 abbrev pub with_line : HeadLine → Result (Taken (List HeadLine)) Fault
     → Result (Taken (List HeadLine)) Fault

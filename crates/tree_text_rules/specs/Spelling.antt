@@ -106,12 +106,16 @@ front_line p (heads.cap u v d ys covers) =
 front_line p (heads.out u d ys covers) =
     word_text words.Out ∷ unit_name p u ∷ signed_decimal d ∷ map signed_decimal ys
 front_line p (heads.trim u) = word_text words.Trim ∷ unit_name p u ∷ []
+front_line p (heads.uses q d ys covers) =
+    word_text words.Use ∷ material_name p q.of ∷ signed_decimal q.amount
+    ∷ signed_decimal q.worth ∷ signed_decimal d ∷ map signed_decimal ys
 
 abbrev pub sets_in : heads.HeadLine → List Cover
 sets_in (heads.step s) = []
 sets_in (heads.cap u v d ys covers) = covers
 sets_in (heads.out u d ys covers) = covers
 sets_in (heads.trim u) = []
+sets_in (heads.uses q d ys covers) = covers
 
 abbrev pub front_with_sets : Problem → heads.HeadLine → List (List Token)
 front_with_sets p line = front_line p line ∷ map (cover_line p) (sets_in line)

@@ -17,7 +17,7 @@ pub enum TreeKind {
     /// The first line is another text than `file_type=PNS_tree_v1`, or is missing.
     FileType,
     /// A line that is none of the forms that may come there, or a missing line. After the line of a
-    /// charge, a cap or a unit that is left out a million sets may come.
+    /// charge, a cap, a unit that is left out or a use a million sets may come.
     BadLine,
     /// A name that the problem does not have.
     UnknownName,
@@ -62,6 +62,7 @@ pub enum Word {
     Cap,
     Out,
     Trim,
+    Use,
     Spent,
     Past,
     Nonbasic,

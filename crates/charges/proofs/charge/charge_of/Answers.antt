@@ -1,5 +1,5 @@
-use Rattle.std.proofs.Common.{◌≡◌, ◌<◌, ◌∙◌, sym, ap, subst, SFits, rules, ℕ, List, length, true}
-use Rattle.std.proofs.Common.{pos}
+use Rattle.std.proofs.Common.{◌≡◌, ◌<◌, ◌∙◌, refl, sym, ap, subst, SFits, rules, ℕ, List, length}
+use Rattle.std.proofs.Common.{true, pos}
 use Rattle.std.specs.Int.{w128}
 use Rattle.std.proofs.lemmas.Int.{to_z-of_z}
 use Rattle.integer_laws.specs.Total.{total}
@@ -15,10 +15,10 @@ use Rattle.flow_rules.specs.BoundSteps.{rows_steps}
 use Rattle.flow_program.specs.Entry.{entry}
 use Rattle.flow_program.specs.NodeSets.{AreNeeded, AreSetsOf}
 use Rattle.flow_program.proofs.NodeSetLemmas.{listed_had}
-use Rattle.charges.specs.Known.{facts_of}
+use Rattle.charges.specs.Known.{asked_of, facts_of}
 use Rattle.covers.specs.View.{covers_of}
-use Rattle.charges.proofs.SumLemmas.{past_in_rows, past_in_weights, past_in_paid, past_in_units}
-use Rattle.charges.proofs.SumLemmas.{all_fit, charge_is}
+use Rattle.charges.proofs.SumLemmas.{past_in_rows, past_in_worth, past_in_weights, past_in_paid}
+use Rattle.charges.proofs.SumLemmas.{past_in_units, all_fit, charge_is}
 use Rattle.charges.proofs.charge.charge_of.Goals as goal
 
 pub sets_of-sets-requires : goal.sets_of-sets-requires
@@ -88,12 +88,48 @@ returns-in-Err-clause-past c =
     ∙ ap (λ (js : List ℕ). beside js h.ys.now) rs in
     let d : SFits w128 h.d = search rules in
     past_in_rows (net_of p) n f h.d (entry c.table_of.result) (beside (rows (net_of p) n) h.ys.now)
-    ys (covers_of h.covers.now) c.sets_of-sets.result.rows c.sets_of-sets.result.units rs us
+    ys f.demand refl (covers_of h.covers.now)
+    c.sets_of-sets.result.rows c.sets_of-sets.result.units rs us
     c.in-Err.past.at
     (subst
     (λ (q : Problem). IsFirstPast
     (rows_steps (net_of q) n (entry c.table_of.result) c.sets_of-sets.result.rows (pos 0))
     c.in-Err.past.at) e c.in-Err.ensures.past)
+
+pub returns-in-Err-with_worth-clause-past : goal.returns-in-Err-with_worth-clause-past
+returns-in-Err-with_worth-clause-past c =
+    let p = c.args.site.now in
+    let n = node_of c.args.node.now in
+    let f = facts_of c.args.facts.now in
+    let h = c.args.handed.now in
+    let e = c.problem-problem.ensures.same in
+    let g = c.graph.ensures.same in
+    let us : c.sets_of-sets.result.units ≡ units (net_of p) n = c.sets_of-sets.ensures.units_are
+    ∙ ap (λ (q : Shape). listed q.units (stays n)) g in
+    let rs : c.sets_of-sets.result.rows ≡ rows (net_of p) n = c.sets_of-sets.ensures.rows_are
+    ∙ ap (λ (q : Shape). listed q.materials (mats q (stays n))) g in
+    let ys : entry c.table_of.result ≡ beside (rows (net_of p) n) h.ys.now = c.table_of.ensures
+    ∙ ap (λ (js : List ℕ). beside js h.ys.now) rs in
+    let d : SFits w128 h.d = search rules in
+    let v = c.in-Ok.ensures.value
+    ∙ ap
+    (λ (q : Problem). total (row_part (net_of q) n (entry c.table_of.result))
+    c.sets_of-sets.result.rows) e in
+    let k = c.in-Ok.ensures.count
+    ∙ ap
+    (λ (q : Problem). length
+    (rows_steps (net_of q) n (entry c.table_of.result) c.sets_of-sets.result.rows (pos 0))) e in
+    let fit =
+    subst
+    (λ (q : Problem). AreInRange
+    (rows_steps (net_of q) n (entry c.table_of.result) c.sets_of-sets.result.rows (pos 0))) e
+    c.in-Ok.ensures.in_range in
+    past_in_worth (net_of p) n f h.d (entry c.table_of.result)
+    (beside (rows (net_of p) n) h.ys.now) ys (asked_of c.demand.result) c.demand.ensures
+    (covers_of h.covers.now) c.sets_of-sets.result.rows c.sets_of-sets.result.units rs us
+    c.in-Ok.rows.sum c.in-Ok.rows.at v k fit
+    c.in-Err-with_worth.past.at c.in-Err-with_worth.ensures.from_start
+    c.in-Err-with_worth.ensures.past
 
 pub returns-in-Err-with_weights-clause-past : goal.returns-in-Err-with_weights-clause-past
 returns-in-Err-with_weights-clause-past c =
@@ -124,8 +160,11 @@ returns-in-Err-with_weights-clause-past c =
     (rows_steps (net_of q) n (entry c.table_of.result) c.sets_of-sets.result.rows (pos 0))) e
     c.in-Ok.ensures.in_range in
     past_in_weights (net_of p) n f h.d (entry c.table_of.result)
-    (beside (rows (net_of p) n) h.ys.now) ys (covers_of h.covers.now) c.sets_of-sets.result.rows
-    c.sets_of-sets.result.units rs us c.in-Ok.rows.sum c.in-Ok.rows.at v k fit
+    (beside (rows (net_of p) n) h.ys.now) ys (asked_of c.demand.result) c.demand.ensures
+    (covers_of h.covers.now) c.sets_of-sets.result.rows c.sets_of-sets.result.units rs us
+    c.in-Ok.rows.sum c.in-Ok.rows.at v k fit
+    c.in-Ok-with_worth.asked.sum c.in-Ok-with_worth.asked.at c.in-Ok-with_worth.ensures.value
+    c.in-Ok-with_worth.ensures.count c.in-Ok-with_worth.ensures.in_range
     c.in-Err-with_weights.past.at c.in-Err-with_weights.ensures.from_start
     c.in-Err-with_weights.ensures.past
 
@@ -158,8 +197,11 @@ returns-in-Err-paid_of-clause-past c =
     (rows_steps (net_of q) n (entry c.table_of.result) c.sets_of-sets.result.rows (pos 0))) e
     c.in-Ok.ensures.in_range in
     past_in_paid (net_of p) n f h.d (entry c.table_of.result) (beside (rows (net_of p) n) h.ys.now)
-    ys (covers_of h.covers.now) c.sets_of-sets.result.rows c.sets_of-sets.result.units rs us
-    c.in-Ok.rows.sum c.in-Ok.rows.at v k fit c.in-Ok-with_weights.sum.sum
+    ys (asked_of c.demand.result) c.demand.ensures (covers_of h.covers.now)
+    c.sets_of-sets.result.rows c.sets_of-sets.result.units rs us
+    c.in-Ok.rows.sum c.in-Ok.rows.at v k fit c.in-Ok-with_worth.asked.sum
+    c.in-Ok-with_worth.asked.at c.in-Ok-with_worth.ensures.value c.in-Ok-with_worth.ensures.count
+    c.in-Ok-with_worth.ensures.in_range c.in-Ok-with_weights.sum.sum
     c.in-Ok-with_weights.sum.at c.in-Ok-with_weights.ensures.value
     c.in-Ok-with_weights.ensures.count c.in-Ok-with_weights.ensures.in_range
     c.in-Err-paid_of.past.at c.in-Err-paid_of.ensures.from_start c.in-Err-paid_of.ensures.past
@@ -194,8 +236,11 @@ returns-in-Err-with_units-clause-past c =
     c.in-Ok.ensures.in_range in
     let s : SFits w128 c.in-Ok-with_weights.sum.sum = search rules in
     past_in_units (net_of p) n f h.d (entry c.table_of.result) (beside (rows (net_of p) n) h.ys.now)
-    ys (covers_of h.covers.now) c.sets_of-sets.result.rows c.sets_of-sets.result.units rs us
-    c.in-Ok.rows.sum c.in-Ok.rows.at v k fit c.in-Ok-with_weights.sum.sum
+    ys (asked_of c.demand.result) c.demand.ensures (covers_of h.covers.now)
+    c.sets_of-sets.result.rows c.sets_of-sets.result.units rs us
+    c.in-Ok.rows.sum c.in-Ok.rows.at v k fit c.in-Ok-with_worth.asked.sum
+    c.in-Ok-with_worth.asked.at c.in-Ok-with_worth.ensures.value c.in-Ok-with_worth.ensures.count
+    c.in-Ok-with_worth.ensures.in_range c.in-Ok-with_weights.sum.sum
     c.in-Ok-with_weights.sum.at c.in-Ok-with_weights.ensures.value
     c.in-Ok-with_weights.ensures.count c.in-Ok-with_weights.ensures.in_range
     c.in-Ok-paid_of.paid.at c.in-Ok-paid_of.ensures.count c.in-Ok-paid_of.ensures.in_range
@@ -235,8 +280,11 @@ returns-in-Ok-with_units-clause-value c =
     let all : SFits w128 c.in-Ok-with_units.all.sum = search rules in
     simp to_z-of_z
     (charge_is (net_of p) n f h.d (entry c.table_of.result) (beside (rows (net_of p) n) h.ys.now) ys
-    (covers_of h.covers.now) c.sets_of-sets.result.rows c.sets_of-sets.result.units rs us
-    c.in-Ok.rows.sum c.in-Ok.rows.at v k fit c.in-Ok-with_weights.sum.sum
+    (asked_of c.demand.result) c.demand.ensures (covers_of h.covers.now) c.sets_of-sets.result.rows
+    c.sets_of-sets.result.units rs us
+    c.in-Ok.rows.sum c.in-Ok.rows.at v k fit c.in-Ok-with_worth.asked.sum
+    c.in-Ok-with_worth.asked.at c.in-Ok-with_worth.ensures.value c.in-Ok-with_worth.ensures.count
+    c.in-Ok-with_worth.ensures.in_range c.in-Ok-with_weights.sum.sum
     c.in-Ok-with_weights.sum.at c.in-Ok-with_weights.ensures.value
     c.in-Ok-with_weights.ensures.count c.in-Ok-with_weights.ensures.in_range
     c.in-Ok-paid_of.paid.at c.in-Ok-paid_of.ensures.count c.in-Ok-paid_of.ensures.in_range
@@ -274,8 +322,11 @@ returns-in-Ok-with_units-clause-in_range c =
     c.in-Ok.ensures.in_range in
     let s : SFits w128 c.in-Ok-with_weights.sum.sum = search rules in
     all_fit (net_of p) n f h.d (entry c.table_of.result) (beside (rows (net_of p) n) h.ys.now) ys
-    (covers_of h.covers.now) c.sets_of-sets.result.rows c.sets_of-sets.result.units rs us
-    c.in-Ok.rows.sum c.in-Ok.rows.at v k fit c.in-Ok-with_weights.sum.sum
+    (asked_of c.demand.result) c.demand.ensures (covers_of h.covers.now) c.sets_of-sets.result.rows
+    c.sets_of-sets.result.units rs us
+    c.in-Ok.rows.sum c.in-Ok.rows.at v k fit c.in-Ok-with_worth.asked.sum
+    c.in-Ok-with_worth.asked.at c.in-Ok-with_worth.ensures.value c.in-Ok-with_worth.ensures.count
+    c.in-Ok-with_worth.ensures.in_range c.in-Ok-with_weights.sum.sum
     c.in-Ok-with_weights.sum.at c.in-Ok-with_weights.ensures.value
     c.in-Ok-with_weights.ensures.count c.in-Ok-with_weights.ensures.in_range
     c.in-Ok-paid_of.paid.at c.in-Ok-paid_of.ensures.count c.in-Ok-paid_of.ensures.in_range

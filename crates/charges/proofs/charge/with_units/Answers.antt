@@ -68,6 +68,18 @@ costs_of-requires-clause-unit c =
     (has_next 128 c.loop-u.u-iterator c.in-Some.u c.next.new.self next)) in
     subst (λ (q : Problem). c.in-Some.u < length q.units) (sym e) there.0
 
+pub used_by-requires : goal.used_by-requires
+used_by-requires c =
+    let p = c.args.site.now in
+    let n = node_of c.args.ground.now.node in
+    let next : IsNext 128 c.loop-u.u-iterator c.in-Some.u c.next.new.self =
+    next_of 128 c.loop-u.u-iterator c.in-Some.u c.next.new.self c.loop-u.invariant.is_set
+    c.in-Some.ensures.steps in
+    (listed_had (length p.units) (stays n) c.args.ground.now.units c.in-Some.u
+    c.requires.ground.units
+    (c.loop-u.invariant.within c.in-Some.u
+    (has_next 128 c.loop-u.u-iterator c.in-Some.u c.next.new.self next))).0
+
 pub with_unit-requires-clause-room : goal.with_unit-requires-clause-room
 with_unit-requires-clause-room c =
     let few =
@@ -128,6 +140,8 @@ returns-in-Err-clause-past c =
     let s0 : SFits w128 c.args.from.sum = search rules in
     let s1 : SFits w128 c.costs_of.result.size = search rules in
     let s2 : SFits w128 c.costs_of.result.fixed = search rules in
+    let worth : SFits w128 c.used_by.result.worth = search rules in
+    let rate : SFits w128 c.used_by.result.rate = search rules in
     let s3 : SFits w128 (get_or c.args.paid.now c.in-Some.u (pos 0)) = search rules in
     let s4 : SFits w128 c.sizes_of.result.low = search rules in
     let s5 : SFits w128 c.sizes_of.result.high = search rules in
@@ -136,6 +150,8 @@ returns-in-Err-clause-past c =
       is_in = c.has.result;
       costs =
           record { size = c.costs_of.result.size; fixed = c.costs_of.result.fixed };
+      used =
+          record { worth = c.used_by.result.worth; rate = c.used_by.result.rate };
       paid =
           get_or c.args.paid.now c.in-Some.u (pos 0);
       sizes =
@@ -156,9 +172,10 @@ returns-in-Err-clause-past c =
     c.in-Err.past.at c.in-Err.ensures.from_start
     (column_past p formed n f y c.in-Some.u c.put_rates-materials.result
     c.put_rates-materials.new.rates c.rises.ensures rates there.0 there.1 m.d covers t c.has.ensures
-    size_is fixed_is (pay c.in-Some.u) c.sizes_of.ensures.low c.sizes_of.ensures.high
-    (to_z w128 c.loop-u.sum-bits) (knees_in k k.set) right
-    (c.in-Err.past.at - c.loop-u.at) (simp to_z-of_z at c.in-Err.ensures.past))
+    size_is fixed_is c.used_by.ensures.worth c.used_by.ensures.rate (pay c.in-Some.u)
+    c.sizes_of.ensures.low c.sizes_of.ensures.high (to_z w128 c.loop-u.sum-bits)
+    (knees_in k k.set) right (c.in-Err.past.at - c.loop-u.at)
+    (simp to_z-of_z at c.in-Err.ensures.past))
 
 pub loop-u-preserved : goal.loop-u-preserved
 loop-u-preserved c =
@@ -184,6 +201,8 @@ loop-u-preserved c =
     let s0 : SFits w128 c.args.from.sum = search rules in
     let s1 : SFits w128 c.costs_of.result.size = search rules in
     let s2 : SFits w128 c.costs_of.result.fixed = search rules in
+    let worth : SFits w128 c.used_by.result.worth = search rules in
+    let rate : SFits w128 c.used_by.result.rate = search rules in
     let s3 : SFits w128 (get_or c.args.paid.now c.in-Some.u (pos 0)) = search rules in
     let s4 : SFits w128 c.sizes_of.result.low = search rules in
     let s5 : SFits w128 c.sizes_of.result.high = search rules in
@@ -192,6 +211,8 @@ loop-u-preserved c =
       is_in = c.has.result;
       costs =
           record { size = c.costs_of.result.size; fixed = c.costs_of.result.fixed };
+      used =
+          record { worth = c.used_by.result.worth; rate = c.used_by.result.rate };
       paid =
           get_or c.args.paid.now c.in-Some.u (pos 0);
       sizes =
@@ -226,17 +247,20 @@ loop-u-preserved c =
           c.in-Ok.next.sum c.in-Ok.next.at
           (column_adds p formed n f y c.in-Some.u c.put_rates-materials.result
           c.put_rates-materials.new.rates c.rises.ensures rates there.0 there.1 m.d covers t
-          c.has.ensures size_is fixed_is (pay c.in-Some.u) c.sizes_of.ensures.low
-          c.sizes_of.ensures.high (to_z w128 c.loop-u.sum-bits) (knees_in k k.set) right
+          c.has.ensures size_is fixed_is c.used_by.ensures.worth c.used_by.ensures.rate
+          (pay c.in-Some.u) c.sizes_of.ensures.low c.sizes_of.ensures.high
+          (to_z w128 c.loop-u.sum-bits) (knees_in k k.set) right
           c.in-Ok.next.sum fit (simp to_z-of_z at c.in-Ok.ensures.value))
           (column_fits p formed n f y c.in-Some.u c.put_rates-materials.result
           c.put_rates-materials.new.rates c.rises.ensures rates there.0 there.1 m.d covers t
-          c.has.ensures size_is fixed_is (pay c.in-Some.u) c.sizes_of.ensures.low
-          c.sizes_of.ensures.high (to_z w128 c.loop-u.sum-bits) (knees_in k k.set) right fit)
+          c.has.ensures size_is fixed_is c.used_by.ensures.worth c.used_by.ensures.rate
+          (pay c.in-Some.u) c.sizes_of.ensures.low c.sizes_of.ensures.high
+          (to_z w128 c.loop-u.sum-bits) (knees_in k k.set) right fit)
           (column_long p formed n f y c.in-Some.u c.put_rates-materials.result
           c.put_rates-materials.new.rates c.rises.ensures rates there.0 there.1 m.d covers t
-          c.has.ensures size_is fixed_is (pay c.in-Some.u) c.sizes_of.ensures.low
-          c.sizes_of.ensures.high (to_z w128 c.loop-u.sum-bits) (knees_in k k.set) right
+          c.has.ensures size_is fixed_is c.used_by.ensures.worth c.used_by.ensures.rate
+          (pay c.in-Some.u) c.sizes_of.ensures.low c.sizes_of.ensures.high
+          (to_z w128 c.loop-u.sum-bits) (knees_in k k.set) right
           c.loop-u.at c.in-Ok.next.at fit (simp to_z-of_z at c.in-Ok.ensures.count)));
     }
 

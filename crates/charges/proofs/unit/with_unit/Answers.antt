@@ -15,10 +15,10 @@ returns-in-Err-clause-past c =
     let t = c.args.terms in
     let m = c.args.multipliers.now in
     let ks = knees_in c.args.knees.now c.args.knees.now.set in
-    let o = owed_in m.d t.costs.size t.costs.fixed t.paid (entry m.ys) (entry c.args.rates.now)
+    let o = owed_in t m.d (entry m.ys) (entry c.args.rates.now)
     c.args.materials in
     IsFirstPast-left
-    (owed_steps m.d t.costs.size t.costs.fixed t.paid (entry m.ys) (entry c.args.rates.now)
+    (owed_steps t m.d (entry m.ys) (entry c.args.rates.now)
     c.args.materials)
     (bent_steps t.sizes.low t.sizes.high ks o
     ++ sum_steps t.is_in (charge_in t.sizes.low t.sizes.high ks o) c.args.from.sum) _

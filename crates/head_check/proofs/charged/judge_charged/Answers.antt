@@ -20,11 +20,12 @@ pub returns-in-Ok-clause-passes : goal.returns-in-Ok-clause-passes
 returns-in-Ok-clause-passes c =
     let fits : SFits w128 c.d.result = search rules in
     let p = c.args.site.now in
-    let k = cost_over c.args.claimed in
+    let k = cost_over c.args.given.now.claimed in
     subst
     (λ (h : Handed). ChargePasses p (IsClaimed k) (IsAtLeast k) (node_of c.args.known.now.node)
     (facts_of c.args.known.now.facts) h)
-    (handed_is _ c.args.scaled.now.d _ c.args.scaled.now.ys _ c.args.covers.now
+    (handed_is _ c.args.given.now.scaled.now.d _ c.args.given.now.scaled.now.ys _
+    c.args.given.now.covers.now
     (to_z-of_z w128 c.d.result fits ∙ c.d.ensures) c.ys.ensures c.covers.ensures)
     c.in-Ok.ensures.passes
 
@@ -32,13 +33,14 @@ pub returns-in-Err-clause-fails : goal.returns-in-Err-clause-fails
 returns-in-Err-clause-fails c =
     let fits : SFits w128 c.d.result = search rules in
     let p = c.args.site.now in
-    let k = cost_over c.args.claimed in (
+    let k = cost_over c.args.given.now.claimed in (
       c.in-Err.why,
       c.line_why.ensures,
       subst
           (λ (h : Handed). ChargeFails p (IsClaimed k) (IsAtLeast k) (node_of c.args.known.now.node)
           (facts_of c.args.known.now.facts) h c.in-Err.why)
-          (handed_is _ c.args.scaled.now.d _ c.args.scaled.now.ys _ c.args.covers.now
+          (handed_is _ c.args.given.now.scaled.now.d _ c.args.given.now.scaled.now.ys _
+          c.args.given.now.covers.now
           (to_z-of_z w128 c.d.result fits ∙ c.d.ensures) c.ys.ensures c.covers.ensures)
           c.in-Err.ensures.fails,
     )

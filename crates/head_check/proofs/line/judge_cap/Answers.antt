@@ -12,9 +12,10 @@ use Rattle.head_check.proofs.line.judge_cap.Goals as goal
 pub returns-in_default-clause-fails : goal.returns-in_default-clause-fails
 returns-in_default-clause-fails c =
     let size = c.ranges.size in
-    size_fails c.args.site.now (cost_over c.args.claimed) (known_of c.args.known.now) c.args.unit
-    c.args.size c.args.scaled.now.d c.args.scaled.now.ys c.args.covers.now
-    (simp to_z-of_z at c.in_default.ensures.none)
+    size_fails c.args.site.now (cost_over c.args.given.now.claimed) (known_of c.args.known.now)
+    c.args.unit
+    c.args.size c.args.given.now.scaled.now.d c.args.given.now.scaled.now.ys
+    c.args.given.now.covers.now (simp to_z-of_z at c.in_default.ensures.none)
 
 pub with_in-requires : goal.with_in-requires
 with_in-requires c =
@@ -53,12 +54,12 @@ judge_charged-requires c =
 pub returns-in-Ok-clause-passes : goal.returns-in-Ok-clause-passes
 returns-in-Ok-clause-passes c =
     let p = c.args.site.now in
-    let cost = cost_over c.args.claimed in
+    let cost = cost_over c.args.given.now.claimed in
     let k = known_of c.args.known.now in
     let u = c.args.unit in
-    let d = c.args.scaled.now.d in
-    let ys = c.args.scaled.now.ys in
-    let covers = c.args.covers.now in
+    let d = c.args.given.now.scaled.now.d in
+    let ys = c.args.given.now.scaled.now.ys in
+    let covers = c.args.given.now.covers.now in
     let size = c.ranges.size in
     let fits : SFits w64 c.in-Some.most = search rules in
     let some = simp to_z-of_z at c.in-Some.ensures.some in
@@ -80,7 +81,9 @@ returns-in-Err-clause-fails c =
     let fits : SFits w64 c.in-Some.most = search rules in
     let some = simp to_z-of_z at c.in-Some.ensures.some in
     let least = simp to_z-of_z at c.with_least.ensures in
-    cap_fails c.args.site.now (cost_over c.args.claimed) (known_of c.args.known.now) c.args.unit
-    c.args.size c.args.scaled.now.d c.args.scaled.now.ys c.args.covers.now some.1 c.in-Some.most
+    cap_fails c.args.site.now (cost_over c.args.given.now.claimed) (known_of c.args.known.now)
+    c.args.unit
+    c.args.size c.args.given.now.scaled.now.d c.args.given.now.scaled.now.ys
+    c.args.given.now.covers.now some.1 c.in-Some.most
     some.0 (node_of c.with_in.result) (facts_of c.with_least.result) c.with_in.ensures
     least c.in-Err.why c.in-Err.ensures.fails

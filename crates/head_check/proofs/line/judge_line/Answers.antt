@@ -65,3 +65,21 @@ returns-in-Trim-clause-fails c =
     (λ (l : HeadLine). IfErr c.judge_trim.result
     (Fails c.args.site.now (cost_over c.args.claimed) (known_of c.args.known.now) (line_of l)))
     (sym c.in-Trim.is) c.judge_trim.ensures.fails
+
+pub returns-in-Use-clause-passes : goal.returns-in-Use-clause-passes
+returns-in-Use-clause-passes c =
+    let amount : SFits w128 c.in-Use.amount = search rules in
+    let worth : SFits w128 c.in-Use.worth = search rules in
+    subst
+    (λ (l : HeadLine). IfOk c.judge_use.result
+    (IsJudged c.args.site.now (cost_over c.args.claimed) (known_of c.args.known.now) (line_of l)))
+    (sym c.in-Use.is) (simp to_z-of_z at c.judge_use.ensures.passes)
+
+pub returns-in-Use-clause-fails : goal.returns-in-Use-clause-fails
+returns-in-Use-clause-fails c =
+    let amount : SFits w128 c.in-Use.amount = search rules in
+    let worth : SFits w128 c.in-Use.worth = search rules in
+    subst
+    (λ (l : HeadLine). IfErr c.judge_use.result
+    (Fails c.args.site.now (cost_over c.args.claimed) (known_of c.args.known.now) (line_of l)))
+    (sym c.in-Use.is) (simp to_z-of_z at c.judge_use.ensures.fails)

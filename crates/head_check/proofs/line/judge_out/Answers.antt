@@ -12,8 +12,9 @@ use Rattle.head_check.proofs.line.judge_out.Goals as goal
 pub returns-then-not-is_free-clause-fails : goal.returns-then-not-is_free-clause-fails
 returns-then-not-is_free-clause-fails c =
     let n = node_of c.args.known.now.node in
-    free_fails c.args.site.now (cost_over c.args.claimed) (known_of c.args.known.now) c.args.unit
-    c.args.scaled.now.d c.args.scaled.now.ys c.args.covers.now
+    free_fails c.args.site.now (cost_over c.args.given.now.claimed) (known_of c.args.known.now)
+    c.args.unit
+    c.args.given.now.scaled.now.d c.args.given.now.scaled.now.ys c.args.given.now.covers.now
     (λ h. both_ways c.is_free.result c.if-not-is_free.true
     (c.is_free.ensures.1
     (subst (λ (g : Shape). IsFree g n c.args.unit) (sym c.graph.ensures.same) h)))
@@ -49,12 +50,12 @@ pub returns-in-Ok-clause-passes : goal.returns-in-Ok-clause-passes
 returns-in-Ok-clause-passes c =
     let p = c.args.site.now in
     let k = known_of c.args.known.now in
-    let cost = cost_over c.args.claimed in
+    let cost = cost_over c.args.given.now.claimed in
     let n = node_of c.args.known.now.node in
     let u = c.args.unit in
-    let d = c.args.scaled.now.d in
-    let ys = c.args.scaled.now.ys in
-    let covers = c.args.covers.now in
+    let d = c.args.given.now.scaled.now.d in
+    let ys = c.args.given.now.scaled.now.ys in
+    let covers = c.args.given.now.covers.now in
     let free : IsFree (shape_of p) n u =
     subst (λ (g : Shape). IsFree g n u) c.graph.ensures.same
     (c.is_free.ensures.0 c.if-not-is_free.false) in
@@ -77,6 +78,7 @@ returns-in-Err-clause-fails c =
     let free : IsFree (shape_of p) n u =
     subst (λ (g : Shape). IsFree g n u) c.graph.ensures.same
     (c.is_free.ensures.0 c.if-not-is_free.false) in
-    out_fails p (cost_over c.args.claimed) (known_of c.args.known.now) u c.args.scaled.now.d
-    c.args.scaled.now.ys c.args.covers.now free (node_of c.with_in.result) c.with_in.ensures
-    c.in-Err.why c.in-Err.ensures.fails
+    out_fails p (cost_over c.args.given.now.claimed) (known_of c.args.known.now) u
+    c.args.given.now.scaled.now.d
+    c.args.given.now.scaled.now.ys c.args.given.now.covers.now free (node_of c.with_in.result)
+    c.with_in.ensures c.in-Err.why c.in-Err.ensures.fails

@@ -32,16 +32,16 @@ returns-else-is_plain-clause-says c =
     let ms = c.args.plant.now.measures.now in
     let claim = claim_of c.args.claim.now in
     let plain = sym c.is_plain.ensures ∙ c.if-is_plain.false in
-    IfOk-weaker c.headed_report.result _ _
+    IfOk-weaker c.report_text_by.result _ _
     (λ bytes told. (
       told.0,
       headed_says ms p claim c.args.head.now c.args.tree.now told.0 plain told.1,
       told.2,
-    )) c.headed_report.ensures.says
+    )) c.report_text_by.ensures.says
 
 pub returns-else-is_plain-clause-unjudged : goal.returns-else-is_plain-clause-unjudged
 returns-else-is_plain-clause-unjudged c =
     subst
-    (λ (partial : Bool). IfErr c.headed_report.result
+    (λ (partial : Bool). IfErr c.report_text_by.result
     (IsUnjudgedIf partial c.args.plant.now.site.now (claim_of c.args.claim.now)))
-    (sym (sym c.is_plain.ensures ∙ c.if-is_plain.false)) c.headed_report.ensures.unjudged
+    (sym (sym c.is_plain.ensures ∙ c.if-is_plain.false)) c.report_text_by.ensures.unjudged

@@ -1,21 +1,27 @@
-use Rattle.std.proofs.Common.{sym, subst}
+use Rattle.std.proofs.Common.{sym, subst, arith}
 use Rattle.problem_rules.specs.Problem.{Problem}
+use Rattle.tree_rules.specs.Claim.{network}
 use Rattle.tree_rules.specs.Accepted.{first_node}
 use Rattle.abb_search.specs.Found.{IsFound}
 use Rattle.report_rules.specs.Measures.{Measures, measures_of}
 use Rattle.studio_rules.specs.Ending.{Ends, Tells}
-use Rattle.studio_rules.specs.Show.{ShowWork}
+use Rattle.studio_rules.specs.Solve.{SolvesBy}
+use Rattle.studio_rules.specs.Show.{HeadedShows, ShowWork}
 use Rattle.studio_rules.specs.declared.status.Status.TheVariants.{Memory}
 use Rattle.endings.proofs.Ending.{Ends-map, Tells-map, Tells-memory, only_in}
+use Rattle.solves.specs.declared.search.Solution.{Solution}
+use Rattle.solves.specs.Solution.{IsSolution, certificate_of}
 use Rattle.shows.specs.Shown.{FoundShows}
-use Rattle.shows.proofs.Shown.{found_shows}
+use Rattle.shows.proofs.Shown.{found_shows, headed_shows}
 use Rattle.shows.proofs.show.say_shown.Goals as goal
 
 pub say_found-requires : goal.say_found-requires
 say_found-requires g c = (
   c.args.effort.budget,
-  subst (λ (p : Problem). IsFound p first_node c.args.effort.budget c.search_all-found.result)
-      (sym c.of-site.ensures) c.search_all-found.ensures,
+  subst (λ (p : Problem). IsFound p first_node c.args.effort.budget c.in-Plain.found)
+      (sym c.of-site.ensures)
+      (subst (λ (s : Solution). IsSolution c.args.problem.now c.args.effort.budget s)
+      c.in-Plain.is c.search_best-solution.ensures),
 )
 
 pub returns-in_default : goal.returns-in_default
@@ -30,18 +36,47 @@ returns-in_default-of g c =
     Ends-map _ _ c.args.out.now _ _ (only_in (Tells work) Memory _ (Tells-memory work))
     c.say_memory-in_default-of.ensures
 
-pub returns : goal.returns
-returns g c =
+pub returns-in-Plain : goal.returns-in-Plain
+returns-in-Plain g c =
     let file = c.args.bytes.now in
     let p = c.args.problem.now in
-    let f = c.search_all-found.result in
+    let f = c.in-Plain.found in
     Ends-map _ _ c.args.out.now _ _
     (Tells-map (FoundShows (measures_of file) p f) (ShowWork c.args.effort.budget file p)
     (found_shows c.accepted_is_optimal.ensures file p c.is_valid.ensures.valid
-    c.args.effort.budget f c.search_all-found.ensures))
+    c.args.effort.budget f
+    (subst (λ (s : Solution). IsSolution p c.args.effort.budget s) c.in-Plain.is
+    c.search_best-solution.ensures)))
     (subst
     (λ (ms : Measures). Ends (Tells (FoundShows ms p f)) c.args.out.now c.say_found.new.out
     c.say_found.result) c.in-Ok.ensures
     (subst
     (λ (q : Problem). Ends (Tells (FoundShows c.in-Ok.measures q f)) c.args.out.now
     c.say_found.new.out c.say_found.result) c.of-site.ensures c.say_found.ensures))
+
+pub say_headed-requires : goal.say_headed-requires
+say_headed-requires g c =
+    let h = c.in-WithHead.headed in
+    let it : SolvesBy c.args.problem.now (network h.network) h.head h.tree =
+    subst (λ (s : Solution). IsSolution c.args.problem.now c.args.effort.budget s)
+    c.in-WithHead.is c.search_best-solution.ensures in
+    let few = it.proved.few in
+    record { few = omega (arith, few) }
+
+pub returns : goal.returns
+returns g c =
+    let file = c.args.bytes.now in
+    let p = c.args.problem.now in
+    let h = c.in-WithHead.headed in
+    let q = certificate_of h.network h.head h.tree in
+    Ends-map _ _ c.args.out.now _ _
+    (Tells-map (HeadedShows (measures_of file) p q) (ShowWork c.args.effort.budget file p)
+    (headed_shows c.args.effort.budget file p q
+    (subst (λ (s : Solution). IsSolution p c.args.effort.budget s) c.in-WithHead.is
+    c.search_best-solution.ensures)))
+    (subst
+    (λ (ms : Measures). Ends (Tells (HeadedShows ms p q)) c.args.out.now c.say_headed.new.out
+    c.say_headed.result) c.in-Ok.ensures
+    (subst
+    (λ (r : Problem). Ends (Tells (HeadedShows c.in-Ok.measures r q)) c.args.out.now
+    c.say_headed.new.out c.say_headed.result) c.of-site.ensures c.say_headed.ensures))

@@ -54,3 +54,34 @@ returns-in_ok-put-in-Out g c =
     ∙ ap
     (λ (s : ℤ × List ℤ × List Cover). front_with_sets p (heads.out c.in-Out.unit s.0 s.1 s.2))
     (λ i. (sym c.d-in-Out.ensures i, sym c.ys-in-Out.ensures i, sym c.covers-in-Out.ensures i)))
+
+pub returns-in_err-put-in-Use : goal.returns-in_err-put-in-Use
+returns-in_err-put-in-Use g c =
+    let p = c.args.problem.now in
+    let d : SFits w128 c.d-in-Use.result = search rules in
+    let amount : SFits w128 c.in-Use.amount = search rules in
+    let worth : SFits w128 c.in-Use.worth = search rules in
+    first_failed _ (simp to_z-of_z at c.in_err-put-in-Use.ensures)
+    c.from_residual-in_err-put-in-Use.ensures.1
+    (ap (λ (l : HeadLine). front_with_sets p (line_of l)) c.in-Use.is
+    ∙ ap
+    (λ (s : ℤ × List ℤ). front_with_sets p
+    (heads.uses
+    (record { of = c.in-Use.material; amount = c.in-Use.amount; worth = c.in-Use.worth }) s.0 s.1
+    c.in-Use.covers))
+    (λ i. (sym c.d-in-Use.ensures i, sym c.ys-in-Use.ensures i)))
+
+pub returns-in_ok-put-in-Use : goal.returns-in_ok-put-in-Use
+returns-in_ok-put-in-Use g c =
+    let p = c.args.problem.now in
+    let d : SFits w128 c.d-in-Use.result = search rules in
+    let amount : SFits w128 c.in-Use.amount = search rules in
+    let worth : SFits w128 c.in-Use.worth = search rules in
+    both_put (simp to_z-of_z at c.in_ok-put-in-Use.ensures) c.put_covers-in-Use.ensures
+    (ap (λ (l : HeadLine). front_with_sets p (line_of l)) c.in-Use.is
+    ∙ ap
+    (λ (s : ℤ × List ℤ × List Cover). front_with_sets p
+    (heads.uses
+    (record { of = c.in-Use.material; amount = c.in-Use.amount; worth = c.in-Use.worth }) s.0 s.1
+    s.2))
+    (λ i. (sym c.d-in-Use.ensures i, sym c.ys-in-Use.ensures i, sym c.covers-in-Use.ensures i)))

@@ -18,4 +18,5 @@ returns c =
       most = λ i. written_all (λ i. (unit_at p i).upper) c.loop-u.most (length p.units) c.loop-u.u u
           (no_upper p) c.loop-u.invariant.most i k;
       used = λ j. same_all {X = _} None 256 j k;
+      demand = None;
     }

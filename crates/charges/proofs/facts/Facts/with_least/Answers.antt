@@ -3,6 +3,7 @@ use Rattle.std.specs.Prelude.{slice_index_or}
 use Rattle.std.specs.Int.{w64}
 use Rattle.std.proofs.lemmas.Int.{to_z-of_z}
 use Rattle.flow_program.specs.Entry.{entry}
+use Rattle.charges.specs.Known.{asked_of}
 use Rattle.charges.proofs.OwnLemmas.{one_written}
 use Rattle.charges.proofs.facts.Facts.with_least.Goals as goal
 
@@ -14,4 +15,5 @@ returns c =
       least = λ i. one_written c.args.self.now.least c.args.u c.args.size within i k;
       most = entry c.args.self.now.most;
       used = λ j. slice_index_or c.args.self.now.used j None;
+      demand = asked_of c.args.self.now.demand;
     })

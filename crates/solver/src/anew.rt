@@ -12,10 +12,8 @@ ghost use Rattle.flow_evaluator.specs.Evaluating.{IsFor};
 ghost use Rattle.abb_search.specs.Answers.{IsAgainst};
 ghost use Rattle.abb_search.specs.Found.{IsFound};
 
-use crate::outcome::Found;
-use crate::root::{copy_of, look_at_root};
-use crate::runs::{run, search_with};
-use crate::whole::FlowWorkspace;
+use crate::workspace::FlowWorkspace;
+use abb_search::{Found, look_at_root, run, search_with};
 use branch_tree::Network;
 use node_evaluation::cheaper;
 use pgraph::Site;
@@ -49,7 +47,7 @@ fn with_guessed(
     ensures own { IsFor site.now workspace.new.evaluator }
     ensures makers { workspace.new.makers ≡ workspace.old.makers }
 {
-    let node = copy_of(start);
+    let node = *start;
     let units = units_of(&best);
     match workspace
         .evaluator
@@ -77,7 +75,7 @@ fn search_few<W: Watch>(
     ensures own { IsFor site.now workspace.new.evaluator }
     ensures makers { workspace.new.makers.makers ≡ workspace.old.makers.makers }
 {
-    let node = copy_of(start);
+    let node = *start;
     workspace.evaluator.pass_first_charges(u32::MAX);
     match look_at_root(workspace, site, node, FEW_NODES, best) {
         Ok(root) => run(workspace, site, root, watch),

@@ -1,7 +1,7 @@
 use Rattle.pgraph.specs.View.{node_of}
 use Rattle.tree_rules.specs.Past.{IsPastAt}
-use Rattle.abb_search.proofs.AnewLemmas.{against_anew}
-use Rattle.abb_search.proofs.anew.search_flows.Goals as goal
+use Rattle.solver.proofs.AnewLemmas.{against_anew}
+use Rattle.solver.proofs.anew.search_flows.Goals as goal
 
 pub with_guessed-best-requires-clause-passes : goal.with_guessed-best-requires-clause-passes
 with_guessed-best-requires-clause-passes g c =

@@ -1,4 +1,4 @@
-use Rattle.network_commands.proofs.headed.headed_report.Goals as goal
+use Rattle.network_commands.proofs.headed.report_text_by.Goals as goal
 
 pub returns-in-Ok-clause-says : goal.returns-in-Ok-clause-says
 returns-in-Ok-clause-says c =

@@ -3,12 +3,12 @@ use Rattle.tree_rules.specs.Past.{IsPastAt}
 use Rattle.abb_search.proofs.StepLemmas.{passes_positive, best_passes, against_after}
 use Rattle.abb_search.proofs.RootLemmas.{root_after, root_positive}
 use Rattle.std.proofs.Common.{true, arith}
-use Rattle.abb_search.proofs.anew.search_few.Goals as goal
+use Rattle.solver.proofs.anew.search_few.Goals as goal
 
 pub run-requires-clause-going : goal.run-requires-clause-going
 run-requires-clause-going g c =
     let given = best_passes c.args.site.now c.args.best c.requires.passes in
-    root_after IsPastAt c.args.site.now c.copy_of-node.result 300 c.args.best
+    root_after IsPastAt c.args.site.now c.args.start.now 300 c.args.best
     given c.in-Ok.root c.in-Ok.ensures.root (omega arith)
 
 pub returns-in-Ok-clause-against : goal.returns-in-Ok-clause-against
@@ -18,7 +18,7 @@ returns-in-Ok-clause-against g c =
     let root = c.in-Ok.root in
     let looked = c.in-Ok.ensures.root in
     let positive =
-    root_positive IsPastAt p c.copy_of-node.result 300 best
+    root_positive IsPastAt p c.args.start.now 300 best
     (best_passes p best c.requires.passes) root looked (omega arith) in
     against_after IsPastAt p (node_of root.start) root.budget best root.best
     c.run.result c.run.ensures.found (passes_positive true p best c.requires.passes) positive
