@@ -17,8 +17,8 @@ returns-in-Ok g c =
     (only_in (Tells shows) Done c.deref.result.now
     (told.0, (refl, told.1), c.deref.ensures.value ∙ told.2)) c.say_text.ensures
 
-pub returns-in-Err : goal.returns-in-Err
-returns-in-Err g c =
+pub returns : goal.returns
+returns g c =
     let plant = c.args.plant.now in
     let h = c.args.headed in
     let shows = HeadedShows plant.measures.now plant.site.now
