@@ -1,6 +1,6 @@
 -- What a search of the expanded problem says of the plant.
-use Rattle.std.proofs.Common.{◌≡◌, ℕ, Bool, List, [], ◌∷◌, codes, refl, sym, ap, subst, Option}
-use Rattle.std.proofs.Common.{Some, None, inl, inr}
+use Rattle.std.proofs.Common.{◌≡◌, ℕ, Bool, List, [], ◌∷◌, codes, refl, sym, subst}
+use Rattle.std.proofs.Common.{Some, inl, inr}
 use Rattle.problem_rules.specs.Problem.{Problem}
 use Rattle.problem_rules.specs.Validity.{IsValid}
 use Rattle.pns_rules.specs.Shape.{shape_of}
@@ -8,7 +8,7 @@ use Rattle.pns_rules.specs.Structure.{IsStructure, IsAllowed}
 use Rattle.plan_rules.specs.Expanded.{expanded}
 use Rattle.plan_rules.specs.Plan.{Plan, IsPlan}
 use Rattle.tree_rules.specs.Claim as claims
-use Rattle.tree_rules.specs.Claim.{Network, claimed_cost, IsFeasible}
+use Rattle.tree_rules.specs.Claim.{Claim, Network, claimed_cost, IsFeasible}
 use Rattle.tree_rules.specs.Costs.{CostsEnough}
 use Rattle.tree_rules.specs.Accepted.{Tree, first_node}
 use Rattle.tree_laws.specs.Laws.{AcceptedIsOptimal}
@@ -26,10 +26,10 @@ use Rattle.design_laws.specs.Laws.{LeastNetworkIsLeastDesign, NoNetworkIsNoDesig
 use Rattle.studio_rules.specs.declared.status.Status.{Status}
 use Rattle.studio_rules.specs.declared.status.Status.TheVariants.{Done, Spent, Past}
 use Rattle.studio_rules.specs.Solve.{Solves, HasProof, PlainWork}
-use Rattle.searches.specs.Found.{certificate_of, CertificateSays, FoundSays}
+use Rattle.searches.specs.Found.{CertificateSays, FoundSays}
 use Rattle.searches.proofs.FoundTexts.{solves, holds}
 use Rattle.studio_rules.specs.DesignText.{design_lines}
-use Rattle.studio_rules.specs.Periods.{IsLeastText, IsNoneText, PeriodsWork}
+use Rattle.studio_rules.specs.Periods.{PeriodsWork}
 
 some_is : {A : Type 0} (P : A → Type 0) (a b : A) → Some a ≡ Some b → P a → P b
 some_is P a b e h = subst P (let e' : a ≡ b = cc in e') h

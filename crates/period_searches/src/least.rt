@@ -75,12 +75,14 @@ fn say_searched<K: Sink, E: Sink, W: Watch>(
             out,
             network_text(alloc, problem, plan, &headed.network),
         ),
-        Solution::Plain(Found::Solved { network, .. }) => say_made(
-            out,
-            network_text(alloc, problem, plan, &network),
-        ),
-        Solution::Plain(Found::Infeasible { .. }) => say(out, b"infeasible\n", Status::Done),
-        Solution::Plain(stopped) => say_found(alloc, out, whole, stopped, budget),
+        Solution::Plain(found) => match found {
+            Found::Solved { network, .. } => say_made(
+                out,
+                network_text(alloc, problem, plan, &network),
+            ),
+            Found::Infeasible { .. } => say(out, b"infeasible\n", Status::Done),
+            stopped => say_found(alloc, out, whole, stopped, budget),
+        },
     }
 }
 

@@ -1,4 +1,4 @@
-use Rattle.std.proofs.Common.{◌≡◌, ◌∙◌, ◌++◌, ℕ, List, ap, ap₂}
+use Rattle.std.proofs.Common.{◌∙◌, ◌++◌, ℕ, List, ap, ap₂}
 use Rattle.design_rules.specs.Folded.{Run, Written}
 use Rattle.studio_rules.specs.Lines.{text_of}
 use Rattle.studio_rules.specs.DesignText.{built_lines, runs_lines}

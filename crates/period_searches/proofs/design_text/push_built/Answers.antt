@@ -1,4 +1,4 @@
-use Rattle.std.proofs.Common.{◌≡◌, ◌∙◌, ◌++◌, ℕ, List, ap, ap₂}
+use Rattle.std.proofs.Common.{◌∙◌, ◌++◌, ℕ, List, ap, ap₂}
 use Rattle.design_rules.specs.Folded.{Written}
 use Rattle.studio_rules.specs.DesignText.{spaced_units}
 use Rattle.period_searches.proofs.Texts.{built_text}

@@ -1,4 +1,4 @@
-use Rattle.std.proofs.Common.{◌≡◌, ap, ℕ, List}
+use Rattle.std.proofs.Common.{◌≡◌, ℕ, List}
 use Rattle.studio_rules.specs.Reading.{TwoFilesSay}
 use Rattle.studio_rules.specs.Plan.{OnPlan, PlanSays}
 use Rattle.studio_rules.specs.Expand.{ExpandWork}

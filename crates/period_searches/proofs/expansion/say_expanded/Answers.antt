@@ -1,4 +1,4 @@
-use Rattle.std.proofs.Common.{◌≡◌, [], refl, ap, inl, inr, ℕ, List}
+use Rattle.std.proofs.Common.{◌≡◌, [], refl, inl, inr, ℕ, List}
 use Rattle.text_rules.specs.Canonical.{canonical_lines}
 use Rattle.plan_rules.specs.Expanded.{expanded}
 use Rattle.studio_rules.specs.Lines.{text_of}

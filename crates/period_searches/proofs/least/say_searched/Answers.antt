@@ -1,8 +1,6 @@
-use Rattle.std.proofs.Common.{◌≡◌, ℕ, List, [], ◌∷◌, refl, codes, subst, ap, ◌∙◌}
+use Rattle.std.proofs.Common.{ℕ, List, [], ◌∷◌, refl, codes, subst, ap, ◌∙◌}
 use Rattle.plan_rules.specs.Plan.{Plan}
-use Rattle.tree_rules.specs.Claim.{network}
 use Rattle.abb_search.specs.declared.outcome.Found.{Found}
-use Rattle.abb_search.specs.declared.outcome.Found.TheVariants as found
 use Rattle.design_rules.specs.Folded.{folded}
 use Rattle.solves.specs.declared.search.Solution.{Solution}
 use Rattle.solves.specs.declared.search.Solution.TheVariants.{Plain}
@@ -54,38 +52,37 @@ returns-in-WithHead g c =
     ) (Tells-memory work))
     (c.say_made.ensures lines c.network_text.ensures)
 
-pub network_text-2-requires-clause-feasible : goal.network_text-2-requires-clause-feasible
-network_text-2-requires-clause-feasible g c =
-    feasible_there c.args.problem.now c.args.plan.now c.in-Plain-Solved.network
+pub network_text-requires-in-Solved-clause-feasible :
+    goal.network_text-requires-in-Solved-clause-feasible
+network_text-requires-in-Solved-clause-feasible g c =
+    feasible_there c.args.problem.now c.args.plan.now c.in-Solved.network
     (solved_there c.accepted_is_optimal.ensures c.args.effort.budget c.args.problem.now
     c.args.plan.now c.args.whole.now c.requires.whole c.is_valid-2.ensures.valid
-    c.in-Plain-Solved.network c.in-Plain-Solved.tree
+    c.in-Solved.network c.in-Solved.tree
     (subst (λ (s : Solution). IsSolution c.args.whole.now c.args.effort.budget s)
-    (c.in-Plain-Solved.is ∙ ap (λ (f : Found). Plain f) c.in-Plain-Solved.field-0-is)
-    c.search_best.ensures))
+    (c.in-Plain.is ∙ ap (λ (f : Found). Plain f) c.in-Solved.is) c.search_best.ensures))
 
-pub returns-in-Plain-Solved : goal.returns-in-Plain-Solved
-returns-in-Plain-Solved g c =
+pub returns-in-Solved : goal.returns-in-Solved
+returns-in-Solved g c =
     let p = c.args.problem.now in
     let plan : Plan = c.args.plan.now in
     let work = PeriodsWork c.args.effort.budget p plan in
-    let w = c.in-Plain-Solved.network in
+    let w = c.in-Solved.network in
     let lines : List (List ℕ) = design_lines p (folded p plan w) in
     Ends-map _ _ c.args.out.now _ _ (only_or_memory_in (Tells work) Done (text_of lines) (
       lines,
       least_text p plan c.least_network_is_least_design.ensures c.is_valid.ensures.valid
           c.requires.plan c.args.effort.budget w
           (solved_there c.accepted_is_optimal.ensures c.args.effort.budget p plan
-          c.args.whole.now c.requires.whole c.is_valid-2.ensures.valid w c.in-Plain-Solved.tree
+          c.args.whole.now c.requires.whole c.is_valid-2.ensures.valid w c.in-Solved.tree
           (subst (λ (s : Solution). IsSolution c.args.whole.now c.args.effort.budget s)
-          (c.in-Plain-Solved.is ∙ ap (λ (f : Found). Plain f) c.in-Plain-Solved.field-0-is)
-          c.search_best.ensures)),
+          (c.in-Plain.is ∙ ap (λ (f : Found). Plain f) c.in-Solved.is) c.search_best.ensures)),
       refl,
     ) (Tells-memory work))
-    (c.say_made-2.ensures lines c.network_text-2.ensures)
+    (c.say_made-in-Solved.ensures lines c.network_text-in-Solved.ensures)
 
-pub returns-in-Plain-Infeasible : goal.returns-in-Plain-Infeasible
-returns-in-Plain-Infeasible g c =
+pub returns-in-Infeasible : goal.returns-in-Infeasible
+returns-in-Infeasible g c =
     let p = c.args.problem.now in
     let plan : Plan = c.args.plan.now in
     let work = PeriodsWork c.args.effort.budget p plan in
@@ -94,11 +91,9 @@ returns-in-Plain-Infeasible g c =
       lines,
       none_text c.accepted_is_optimal.ensures c.args.effort.budget p plan c.args.whole.now
           c.requires.whole c.is_valid-2.ensures.valid c.no_network_is_no_design.ensures
-          c.is_valid.ensures.valid c.requires.plan c.in-Plain-Infeasible.tree
+          c.is_valid.ensures.valid c.requires.plan c.in-Infeasible.tree
           (subst (λ (s : Solution). IsSolution c.args.whole.now c.args.effort.budget s)
-          (c.in-Plain-Infeasible.is
-          ∙ ap (λ (f : Found). Plain f) c.in-Plain-Infeasible.field-0-is)
-          c.search_best.ensures),
+          (c.in-Plain.is ∙ ap (λ (f : Found). Plain f) c.in-Infeasible.is) c.search_best.ensures),
       refl,
     ))
     c.say.ensures
@@ -114,15 +109,12 @@ pub returns : goal.returns
 returns g c =
     let p = c.args.problem.now in
     let plan : Plan = c.args.plan.now in
-    let f : Found = c.in-Plain.stopped in
+    let f : Found = c.in-Plain.found in
     Ends-map _ _ c.args.out.now _ _
     (Tells-map (FoundSays c.args.whole.now f) (PeriodsWork c.args.effort.budget p plan)
     (stopped_text c.accepted_is_optimal.ensures c.args.effort.budget p plan c.args.whole.now
     c.requires.whole c.is_valid-2.ensures.valid f
     (subst (λ (s : Solution). IsSolution c.args.whole.now c.args.effort.budget s) c.in-Plain.is
     c.search_best.ensures)
-    (λ w tree is. c.in-Plain.not-Plain-Solved w tree
-    (c.in-Plain.is ∙ ap (λ (t : Found). Plain t) is))
-    (λ tree is. c.in-Plain.not-Plain-Infeasible tree
-    (c.in-Plain.is ∙ ap (λ (t : Found). Plain t) is))))
+    c.in_default-found.not-Solved c.in_default-found.not-Infeasible))
     c.say_found.ensures

@@ -1,4 +1,4 @@
-use Rattle.std.proofs.Common.{◌≡◌, ap, inl, inr, ℕ, List}
+use Rattle.std.proofs.Common.{◌≡◌, inl, inr, ℕ, List}
 use Rattle.problem_rules.specs.Problem.{Problem}
 use Rattle.plan_rules.specs.Plan.{Plan}
 use Rattle.studio_rules.specs.Plan.{OnPlan, PlanFileFault, PlanSays}
