@@ -18,9 +18,6 @@ use Rattle.node_evaluation.specs.Children.{claim_with}
 use Rattle.abb_search.specs.declared.outcome.Found.{Found}
 use Rattle.abb_search.specs.declared.outcome.Found.TheVariants as found
 use Rattle.abb_search.specs.Found.{IsFound}
-use Rattle.headed_search.specs.declared.headed.Headed.{Headed}
-use Rattle.solves.specs.declared.search.Solution.TheVariants.{Plain, WithHead}
-use Rattle.solves.specs.Solution.{IsSolution}
 use Rattle.design_rules.specs.Folded.{folded}
 use Rattle.design_laws.specs.Laws.{LeastNetworkIsLeastDesign, NoNetworkIsNoDesign}
 use Rattle.studio_rules.specs.declared.status.Status.{Status}
@@ -68,17 +65,13 @@ module _ (optimal : AcceptedIsOptimal) (budget : ℕ) (p : Problem) (plan : Plan
   there claim h = subst (λ (r : Problem). HasProof r claim) whole h
 
   pub solved_there : (w : Network) (tree : Tree)
-      → IsSolution q budget (Plain (found.Solved w tree))
+      → IsFound q first_node budget (found.Solved w tree)
       → HasProof (expanded p plan) (claims.network w)
   solved_there w tree h =
       there (claims.network w) (inl (tree, solves optimal q valid' (claims.network w) tree h))
 
-  pub headed_there : (h : Headed) → IsSolution q budget (WithHead h)
-      → HasProof (expanded p plan) (claims.network h.network)
-  headed_there h it = there (claims.network h.network) (inr (h.head, h.tree, it))
-
   pub none_text : NoNetworkIsNoDesign → IsValid p → IsPlan p plan → (tree : Tree)
-      → IsSolution q budget (Plain (found.Infeasible tree))
+      → IsFound q first_node budget (found.Infeasible tree)
       → PeriodsWork budget p plan Done (codes "infeasible" ∷ [])
   none_text law valid formed tree h =
       let it : Solves (expanded p plan) claims.infeasible tree =

@@ -21,8 +21,7 @@ use plan_laws::plans_are_short;
 use pns_io::{Outputs, Sink};
 use pns_problem::Problem;
 use progress::{Effort, Watch};
-use searches::say_found;
-use solves::{Solution, search_best};
+use searches::{say_found, search_all};
 use std::alloc::{AllocError, Global};
 use studio_rules::Status;
 use tree_laws::accepted_is_optimal;
@@ -70,19 +69,13 @@ fn say_searched<K: Sink, E: Sink, W: Watch>(
     least_network_is_least_design();
     no_network_is_no_design();
     let budget = u64::from(effort.budget);
-    match search_best(alloc, whole, &graph, effort) {
-        Solution::WithHead(headed) => say_made(
+    match search_all(alloc, whole, &graph, effort) {
+        Found::Solved { network, .. } => say_made(
             out,
-            network_text(alloc, problem, plan, &headed.network),
+            network_text(alloc, problem, plan, &network),
         ),
-        Solution::Plain(found) => match found {
-            Found::Solved { network, .. } => say_made(
-                out,
-                network_text(alloc, problem, plan, &network),
-            ),
-            Found::Infeasible { .. } => say(out, b"infeasible\n", Status::Done),
-            stopped => say_found(alloc, out, whole, stopped, budget),
-        },
+        Found::Infeasible { .. } => say(out, b"infeasible\n", Status::Done),
+        stopped => say_found(alloc, out, whole, stopped, budget),
     }
 }
 

@@ -2,7 +2,7 @@
 //! `expand`.
 //!
 //! For the problem of a file and its plan, [`planned::periods`] prints a design of least cost. It
-//! searches the expanded problem as `solve` does. If the search stops before it is finished, it
+//! searches the expanded problem, without a head. If the search stops before it is finished, it
 //! prints the tree of the expanded problem found so far.
 //! In `studio_rules`, `Periods` says which lines are printed with which status, and `DesignText`
 //! has those of a design.
