@@ -13,7 +13,7 @@ use Rattle.tree_rules.specs.Claim as claims
 use Rattle.tree_rules.specs.Claim.{claimed_cost}
 use Rattle.search_tree.specs.Cells.{cell_at}
 use Rattle.tree_rules.specs.Costs.{HasFallen}
-use Rattle.turn_laws.specs.Values.{IsPositiveCost}
+use Rattle.search_tree.specs.Values.{IsPositiveCost}
 use Rattle.node_evaluation.specs.declared.evaluator.Charged.{Charged}
 use Rattle.node_evaluation.specs.Evaluated.{PastPlaces, IsChargeOf, cost_in, handed_in}
 use Rattle.node_evaluation.specs.Looks.{cost_of}

@@ -8,8 +8,8 @@ use Rattle.std.proofs.lemmas.Bool.{cases_eq}
 use Rattle.integer_laws.specs.Range.{InRange, AllInRange}
 use Rattle.problem_rules.specs.Problem.{Problem}
 use Rattle.pns_rules.specs.Nodes.{Node}
-use Rattle.mixed_numbers.specs.declared.number.Mixed.{Mixed}
-use Rattle.mixed_numbers.specs.Number.{numerator, denominator}
+use Rattle.exact_numbers.specs.declared.number.Mixed.{Mixed}
+use Rattle.exact_numbers.specs.Number.{numerator, denominator}
 use Rattle.tree_rules.specs.Tree.{leaf}
 use Rattle.tree_rules.specs.Leaf.{bounded, IsBounded, Scaled}
 use Rattle.tree_rules.specs.Claim as claims
@@ -17,10 +17,10 @@ use Rattle.tree_rules.specs.Claim.{CostOver}
 use Rattle.search_tree.specs.declared.shut.Shut.{Shut}
 use Rattle.search_tree.specs.Cells.{place_of, cell_at}
 use Rattle.search_tree.specs.Growth.{is_open, EndsOpen}
-use Rattle.turn_laws.specs.Values.{IsPositive}
+use Rattle.search_tree.specs.Values.{IsPositive}
 use Rattle.tree_rules.specs.Costs.{IsNoMore}
-use Rattle.turn_laws.proofs.GrowLemmas.{leaf_fallen}
-use Rattle.turn_laws.proofs.OrderLemmas.{under_less, reached_any}
+use Rattle.search_tree.proofs.GrowLemmas.{leaf_fallen}
+use Rattle.search_tree.proofs.OrderLemmas.{under_less, reached_any}
 use Rattle.node_evaluation.specs.declared.evaluator.Bound.{Bound}
 use Rattle.node_evaluation.specs.declared.evaluator.LowerBound.{LowerBound}
 use Rattle.node_evaluation.specs.declared.evaluator.Proof.{Proof}

@@ -19,14 +19,14 @@ use Rattle.search_tree.specs.Growth.{EndsOpen}
 use Rattle.search_tree.specs.Cells.{Cell, place_of, cell_at}
 use Rattle.search_tree.specs.Preorder.{IsPreorder, IsTreeOf, tree_of}
 use Rattle.search_tree.proofs.PassLemmas.{passes, aligned_start, cells_stand}
-use Rattle.search_laws.proofs.SpentLemmas.{never_spent}
+use Rattle.search_tree.proofs.SpentLemmas.{never_spent}
 use Rattle.pns_rules.proofs.ProperLemmas.{proper_if_valid}
 use Rattle.problem_rules.specs.Validity.{IsValid}
 use Rattle.number_sets.specs.Sets.{listed}
 use Rattle.std.specs.List.{slice_get}
-use Rattle.turn_laws.specs.Kept.{IsKept}
-use Rattle.turn_laws.proofs.LeanLemmas.{kept_is_lean, whole_is_accepted, open_stands}
-use Rattle.turn_laws.proofs.LeanLemmas.{kept_is_spent}
+use Rattle.search_tree.specs.Kept.{IsKept}
+use Rattle.search_tree.proofs.LeanLemmas.{kept_is_lean, whole_is_accepted, open_stands}
+use Rattle.search_tree.proofs.LeanLemmas.{kept_is_spent}
 use Rattle.node_evaluation.specs.declared.evaluator.PastStop.{PastStop}
 use Rattle.node_evaluation.specs.Evaluated.{PastPlaces}
 use Rattle.node_evaluation.specs.Children.{claim_with}

@@ -9,7 +9,7 @@ use Rattle.pns_rules.specs.Nodes.{Node}
 use Rattle.pns_rules.specs.Ends.{IsSound}
 use Rattle.pgraph.specs.View.{node_of}
 use Rattle.unit_sets.specs.declared.node.Node as starts
-use Rattle.mixed_numbers.specs.declared.number.Mixed.{Mixed}
+use Rattle.exact_numbers.specs.declared.number.Mixed.{Mixed}
 use Rattle.tree_rules.specs.Tree.{End, leaf}
 use Rattle.tree_rules.specs.Claim as claims
 use Rattle.tree_rules.specs.Claim.{CostOver, claimed_cost, ClaimPasses}
@@ -19,9 +19,9 @@ use Rattle.search_tree.specs.Fits.{Follows, EndFits}
 use Rattle.search_tree.specs.Growth.{is_open, EndsOpen}
 use Rattle.link_lists.specs.Lists.{has}
 use Rattle.std.proofs.lemmas.Bool.{or_right}
-use Rattle.turn_laws.specs.Values.{IsPositiveCost}
-use Rattle.turn_laws.proofs.GrowLemmas.{leaf_fallen}
-use Rattle.turn_laws.specs.Kept.{LeafIsKept, EndIsKept, IsKept}
+use Rattle.search_tree.specs.Values.{IsPositiveCost}
+use Rattle.search_tree.proofs.GrowLemmas.{leaf_fallen}
+use Rattle.search_tree.specs.Kept.{LeafIsKept, EndIsKept, IsKept}
 use Rattle.node_evaluation.specs.declared.evaluator.PastStop.{PastStop}
 use Rattle.node_evaluation.specs.Evaluated.{PastPlaces}
 use Rattle.node_evaluation.specs.Looks.{is_bounded, has_bounded, cost_of, KnowsCell, IsStop}

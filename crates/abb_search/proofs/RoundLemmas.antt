@@ -4,12 +4,12 @@ use Rattle.std.proofs.Common.{ap, ap₂, ◌∙◌, subst}
 use Rattle.std.specs.List.{slice_get}
 use Rattle.link_lists.specs.Lists.{has}
 use Rattle.problem_rules.specs.Problem.{Problem}
-use Rattle.mixed_numbers.specs.declared.number.Mixed.{Mixed}
-use Rattle.mixed_numbers.specs.Number.{numerator, denominator}
+use Rattle.exact_numbers.specs.declared.number.Mixed.{Mixed}
+use Rattle.exact_numbers.specs.Number.{numerator, denominator}
 use Rattle.tree_rules.specs.Claim.{Network, CostOver, claimed_cost, IsAtMost}
 use Rattle.tree_rules.specs.Costs.{IsNoMore}
-use Rattle.turn_laws.specs.Values.{IsPositive}
-use Rattle.turn_laws.proofs.FractionLemmas.{fraction_trans}
+use Rattle.search_tree.specs.Values.{IsPositive}
+use Rattle.search_tree.proofs.FractionLemmas.{fraction_trans}
 use Rattle.node_evaluation.specs.declared.evaluator.Interval.{Interval}
 use Rattle.node_evaluation.specs.Evaluated.{PastPlaces, cost_over, cost_in}
 use Rattle.node_evaluation.specs.Children.{claim_with}

@@ -6,14 +6,14 @@ use Rattle.link_lists.specs.Lists.{has}
 use Rattle.problem_rules.specs.Problem.{Problem}
 use Rattle.pgraph.specs.View.{node_of}
 use Rattle.unit_sets.specs.declared.node.Node as starts
-use Rattle.mixed_numbers.specs.declared.number.Mixed.{Mixed}
+use Rattle.exact_numbers.specs.declared.number.Mixed.{Mixed}
 use Rattle.tree_rules.specs.Tree.{leaf}
 use Rattle.tree_rules.specs.Claim as claims
 use Rattle.tree_rules.specs.Claim.{CostOver, claimed_cost, ClaimPasses}
 use Rattle.slab.specs.Slab.{get}
 use Rattle.search_tree.specs.Growth.{EndsOpen}
 use Rattle.search_tree.specs.Cells.{Cell, place_of, cell_at}
-use Rattle.turn_laws.specs.Kept.{IsKeptFor}
+use Rattle.search_tree.specs.Kept.{IsKeptFor}
 use Rattle.node_evaluation.specs.declared.evaluator.PastStop.{PastStop}
 use Rattle.node_evaluation.specs.declared.looks.Ready.{Ready}
 use Rattle.node_evaluation.specs.Evaluated.{PastPlaces}

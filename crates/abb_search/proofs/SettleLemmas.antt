@@ -11,7 +11,7 @@ use Rattle.slab.specs.Slab.{Slab, Updates}
 use Rattle.problem_rules.specs.Problem.{Problem}
 use Rattle.pns_rules.specs.Shape.{shape_of}
 use Rattle.pns_rules.specs.Ends.{IsReduced}
-use Rattle.mixed_numbers.specs.declared.number.Mixed.{Mixed}
+use Rattle.exact_numbers.specs.declared.number.Mixed.{Mixed}
 use Rattle.tree_rules.specs.Tree.{leaf}
 use Rattle.tree_rules.specs.Leaf.{IsRefuted}
 use Rattle.tree_rules.specs.Claim.{CostOver}

@@ -22,9 +22,9 @@ use Rattle.search_tree.specs.Preorder.{IsTreeOf}
 use Rattle.search_tree.specs.Shut.{shut_as, shut_end, shut_cells}
 use Rattle.search_tree.proofs.ShutLemmas.{closed_stays, unproved_stays, proof_of, shut_length}
 use Rattle.search_tree.proofs.ShutLemmas.{shut_at}
-use Rattle.turn_laws.specs.Turns.{IsShut, AreShut}
-use Rattle.turn_laws.proofs.KeptLemmas.{shutting_is_kept}
-use Rattle.mixed_numbers.specs.declared.number.Mixed.{Mixed}
+use Rattle.search_tree.specs.Turns.{IsShut, AreShut}
+use Rattle.search_tree.proofs.KeptLemmas.{shutting_is_kept}
+use Rattle.exact_numbers.specs.declared.number.Mixed.{Mixed}
 use Rattle.node_evaluation.specs.declared.looks.Ready.{Ready}
 use Rattle.node_evaluation.specs.declared.looks.Worth.{Worth}
 use Rattle.node_evaluation.specs.declared.looks.Worth.TheVariants as worths

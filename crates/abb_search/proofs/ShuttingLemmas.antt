@@ -10,7 +10,7 @@ use Rattle.slab.specs.Slab.{get}
 use Rattle.problem_rules.specs.Problem.{Problem}
 use Rattle.pgraph.specs.View.{node_of}
 use Rattle.unit_sets.specs.declared.node.Node as starts
-use Rattle.mixed_numbers.specs.declared.number.Mixed.{Mixed}
+use Rattle.exact_numbers.specs.declared.number.Mixed.{Mixed}
 use Rattle.tree_rules.specs.Tree.{leaf}
 use Rattle.tree_rules.specs.Leaf.{Leaf}
 use Rattle.tree_rules.specs.Claim as claims
@@ -18,9 +18,9 @@ use Rattle.tree_rules.specs.Claim.{CostOver, claimed_cost, ClaimPasses}
 use Rattle.search_tree.specs.Cells.{Cell, no_cell, cell_at}
 use Rattle.search_tree.specs.Growth.{EndsOpen, as_shut}
 use Rattle.search_tree.proofs.GrowthLemmas.{others_stay, without_gone}
-use Rattle.turn_laws.specs.Kept.{IsKeptFor}
-use Rattle.turn_laws.specs.Turns.{AreShut, IsShut}
-use Rattle.turn_laws.proofs.KeptLemmas.{shutting_is_kept}
+use Rattle.search_tree.specs.Kept.{IsKeptFor}
+use Rattle.search_tree.specs.Turns.{AreShut, IsShut}
+use Rattle.search_tree.proofs.KeptLemmas.{shutting_is_kept}
 use Rattle.node_evaluation.specs.Evaluated.{PastPlaces}
 use Rattle.node_evaluation.specs.Looks.{has_bounded, is_bounded_leaf}
 use Rattle.node_evaluation.specs.Children.{claim_with}

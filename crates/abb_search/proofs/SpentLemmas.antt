@@ -18,9 +18,9 @@ use Rattle.search_tree.specs.declared.shut.Shut.{Shut}
 use Rattle.search_tree.specs.Cells.{place_of, cell_at}
 use Rattle.search_tree.specs.Shut.{shut_cells}
 use Rattle.search_tree.proofs.ShutLemmas.{proof_of, shut_length}
-use Rattle.turn_laws.specs.Values.{IsPositiveCost}
-use Rattle.branch_choice.specs.declared.choice.Choice.{Choice}
-use Rattle.branch_choice.specs.Choices.{IsChoice, way_of, option_count}
+use Rattle.search_tree.specs.Values.{IsPositiveCost}
+use Rattle.node_evaluation.specs.declared.choice.Choice.{Choice}
+use Rattle.node_evaluation.specs.Choices.{IsChoice, way_of, option_count}
 use Rattle.node_evaluation.proofs.ChoiceLemmas.{option_count_is, next_count}
 use Rattle.node_evaluation.specs.declared.looks.Ready.{Ready}
 use Rattle.node_evaluation.specs.declared.looks.Worth.{Worth}

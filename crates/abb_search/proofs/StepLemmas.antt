@@ -12,8 +12,8 @@ use Rattle.tree_rules.specs.Claim as claims
 use Rattle.tree_rules.specs.Claim.{CostOver, ClaimPasses}
 use Rattle.std.proofs.lemmas.Int.{ints}
 use Rattle.tree_rules.specs.Costs.{HasFallen}
-use Rattle.turn_laws.specs.Values.{IsPositiveCost}
-use Rattle.turn_laws.proofs.FractionLemmas.{fraction_trans}
+use Rattle.search_tree.specs.Values.{IsPositiveCost}
+use Rattle.search_tree.proofs.FractionLemmas.{fraction_trans}
 use Rattle.pns_rules.specs.Nodes.{Node}
 use Rattle.tree_rules.specs.Accepted.{Tree}
 use Rattle.node_pool.specs.Pooled.{Pooled}

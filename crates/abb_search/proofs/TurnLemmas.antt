@@ -17,8 +17,8 @@ use Rattle.pns_rules.specs.Shape.{shape_of}
 use Rattle.pns_rules.specs.Nodes.{Node}
 use Rattle.pns_rules.specs.Ends.{IsSound}
 use Rattle.pgraph.specs.View.{node_of}
-use Rattle.mixed_numbers.specs.declared.number.Mixed.{Mixed}
-use Rattle.mixed_numbers.specs.Number.{numerator, denominator}
+use Rattle.exact_numbers.specs.declared.number.Mixed.{Mixed}
+use Rattle.exact_numbers.specs.Number.{numerator, denominator}
 use Rattle.node_pool.specs.Order.{second, IsRising}
 use Rattle.node_pool.specs.Order as orders
 use Rattle.tree_rules.specs.Ways.{width}
@@ -32,18 +32,18 @@ use Rattle.tree_rules.specs.Stops.{IsPending}
 use Rattle.search_tree.specs.Cells.{Cell, place_of, cell_at}
 use Rattle.search_tree.specs.declared.growth.Fresh.{Fresh}
 use Rattle.search_tree.specs.Growth.{AreOpenAfter, as_parent, EndsOpen}
-use Rattle.turn_laws.specs.Values.{IsPositive, IsPositiveCost}
+use Rattle.search_tree.specs.Values.{IsPositive, IsPositiveCost}
 use Rattle.tree_rules.specs.Costs.{IsNoMore, HasFallen}
-use Rattle.turn_laws.specs.Kept.{IsKeptFor}
-use Rattle.turn_laws.specs.Turns.{CanBranch, IsLeastOpen, AreChildren, IsBranched}
-use Rattle.branch_choice.specs.declared.choice.Choice.{Choice}
-use Rattle.branch_choice.specs.declared.choice.Choice.TheVariants as choices
-use Rattle.branch_choice.specs.Choices.{IsChoice, way_of, option_count}
-use Rattle.turn_laws.proofs.FractionLemmas.{fraction_trans}
-use Rattle.turn_laws.proofs.KeptLemmas.{branching_is_kept}
-use Rattle.turn_laws.proofs.OrderLemmas.{under_less, reached_is_no_dearer, reached_may_undercut}
-use Rattle.turn_laws.proofs.OrderLemmas.{reached_any}
-use Rattle.turn_laws.proofs.StepLemmas.{growth_branches}
+use Rattle.search_tree.specs.Kept.{IsKeptFor}
+use Rattle.search_tree.specs.Turns.{CanBranch, IsLeastOpen, AreChildren, IsBranched}
+use Rattle.node_evaluation.specs.declared.choice.Choice.{Choice}
+use Rattle.node_evaluation.specs.declared.choice.Choice.TheVariants as choices
+use Rattle.node_evaluation.specs.Choices.{IsChoice, way_of, option_count}
+use Rattle.search_tree.proofs.FractionLemmas.{fraction_trans}
+use Rattle.search_tree.proofs.KeptLemmas.{branching_is_kept}
+use Rattle.search_tree.proofs.OrderLemmas.{under_less, reached_is_no_dearer, reached_may_undercut}
+use Rattle.search_tree.proofs.OrderLemmas.{reached_any}
+use Rattle.search_tree.proofs.StepLemmas.{growth_branches}
 use Rattle.node_evaluation.specs.declared.evaluator.Interval.{Interval}
 use Rattle.node_evaluation.specs.declared.looks.Ready.{Ready}
 use Rattle.node_evaluation.specs.declared.children.StoppedAt.{StoppedAt}

@@ -9,12 +9,12 @@ use Rattle.pns_rules.specs.Nodes.{Node}
 use Rattle.flow_rules.specs.Net.{net_of}
 use Rattle.flow_rules.specs.Relaxed.{IsRelaxed}
 use Rattle.flow_rules.proofs.DualityLemmas.{refuted_is_empty}
-use Rattle.mixed_numbers.specs.declared.number.Mixed.{Mixed}
-use Rattle.mixed_numbers.specs.Number.{numerator, denominator}
-use Rattle.mixed_numbers.specs.OrderLaws.{denominator_positive}
+use Rattle.exact_numbers.specs.declared.number.Mixed.{Mixed}
+use Rattle.exact_numbers.specs.Number.{numerator, denominator}
+use Rattle.exact_numbers.specs.MixedOrderLaws.{denominator_positive}
 use Rattle.tree_rules.specs.Leaf.{IsRefuted, multiplier}
 use Rattle.tree_rules.specs.Lean.{HasCheaper, IsNoDearer}
-use Rattle.turn_laws.specs.Values.{IsPositive, IsUnder}
+use Rattle.search_tree.specs.Values.{IsPositive, IsUnder}
 use Rattle.node_evaluation.specs.declared.evaluator.Interval.{Interval}
 use Rattle.node_evaluation.specs.declared.evaluator.Bound.{Bound}
 use Rattle.node_evaluation.specs.declared.looks.Worth.{Worth}

@@ -5,7 +5,7 @@ use Rattle.pgraph.specs.View.{node_of}
 use Rattle.tree_rules.specs.Claim as claims
 use Rattle.tree_rules.specs.Accepted.{Tree}
 use Rattle.tree_rules.specs.Costs.{HasFallen}
-use Rattle.turn_laws.specs.Values.{IsPositiveCost}
+use Rattle.search_tree.specs.Values.{IsPositiveCost}
 use Rattle.node_evaluation.specs.Evaluated.{PastPlaces}
 use Rattle.node_evaluation.specs.Looks.{cost_of}
 use Rattle.abb_search.specs.declared.outcome.Found.{Found}

@@ -9,7 +9,7 @@ use Rattle.integer_laws.specs.Range.{InRange, AllInRange}
 use Rattle.problem_rules.specs.Problem.{Problem}
 use Rattle.pns_rules.specs.Shape.{shape_of}
 use Rattle.pns_rules.specs.Nodes.{Node}
-use Rattle.mixed_numbers.specs.declared.number.Mixed.{Mixed}
+use Rattle.exact_numbers.specs.declared.number.Mixed.{Mixed}
 use Rattle.tree_rules.specs.Ways.{Way, options_at}
 use Rattle.tree_rules.specs.Tree.{leaf}
 use Rattle.tree_rules.specs.Claim as claims
@@ -21,7 +21,7 @@ use Rattle.search_tree.specs.declared.shut.Shut.{Shut}
 use Rattle.search_tree.specs.declared.shut.Shut.TheVariants as shuts
 use Rattle.search_tree.specs.Cells.{Cell, place_of, cell_at}
 use Rattle.tree_rules.specs.Costs.{IsNoMore}
-use Rattle.turn_laws.specs.Turns.{CanBranch, IsLeastOpen}
+use Rattle.search_tree.specs.Turns.{CanBranch, IsLeastOpen}
 use Rattle.search_tree.specs.Growth.{is_open, EndsOpen}
 use Rattle.slab.specs.Slab.{get}
 use Rattle.node_evaluation.specs.declared.looks.Ready.{Ready}

@@ -7,8 +7,8 @@ use Rattle.problem_rules.specs.Problem.{Problem}
 use Rattle.pns_rules.specs.Nodes.{Node}
 use Rattle.pgraph.specs.View.{node_of}
 use Rattle.unit_sets.specs.declared.node.Node as starts
-use Rattle.mixed_numbers.specs.declared.number.Mixed.{Mixed}
-use Rattle.mixed_numbers.specs.Number.{numerator, denominator}
+use Rattle.exact_numbers.specs.declared.number.Mixed.{Mixed}
+use Rattle.exact_numbers.specs.Number.{numerator, denominator}
 use Rattle.tree_rules.specs.Ways.{Way, width}
 use Rattle.tree_rules.specs.Tree.{branch, leaf}
 use Rattle.tree_rules.specs.Claim as claims
@@ -17,13 +17,13 @@ use Rattle.tree_rules.specs.Leaf.{untried}
 use Rattle.search_tree.specs.Cells.{Cell, place_of, cell_at}
 use Rattle.search_tree.specs.Growth.{is_open, AreOpenAfter, as_parent, EndsOpen}
 use Rattle.tree_rules.specs.Costs.{IsNoMore, HasFallen}
-use Rattle.turn_laws.specs.Kept.{IsKeptFor}
+use Rattle.search_tree.specs.Kept.{IsKeptFor}
 use Rattle.node_pool.specs.Pooled.{AreSameNodes}
 use Rattle.node_pool.specs.Order.{second}
 use Rattle.slab.specs.Slab.{Slab, get, Updates}
 use Rattle.search_tree.specs.declared.growth.Fresh.{Fresh}
-use Rattle.branch_choice.specs.declared.choice.Choice.{Choice}
-use Rattle.branch_choice.specs.declared.choice.Choice.TheVariants as choices
+use Rattle.node_evaluation.specs.declared.choice.Choice.{Choice}
+use Rattle.node_evaluation.specs.declared.choice.Choice.TheVariants as choices
 use Rattle.node_evaluation.specs.declared.evaluator.Interval.{Interval}
 use Rattle.node_evaluation.specs.declared.evaluator.PastStop.{PastStop}
 use Rattle.node_evaluation.specs.declared.looks.Ready.{Ready}

@@ -3,7 +3,7 @@ use Rattle.std.specs.Prelude.{◌≡◌, ℕ, ◌<◌, List, [], ◌∷◌, leng
 use Rattle.std.specs.List.{slice_get}
 use Rattle.slab.specs.Slab.{Slab, get, Updates}
 use Rattle.problem_rules.specs.Problem.{Problem}
-use Rattle.mixed_numbers.specs.declared.number.Mixed.{Mixed}
+use Rattle.exact_numbers.specs.declared.number.Mixed.{Mixed}
 use Rattle.tree_rules.specs.Tree.{leaf}
 use Rattle.search_tree.specs.Growth.{EndsOpen}
 use Rattle.search_tree.specs.Cells.{Cell, place_of, cell_at}

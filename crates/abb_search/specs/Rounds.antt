@@ -4,11 +4,11 @@ use Rattle.std.specs.Prelude.{option_copied}
 use Rattle.std.specs.List.{slice_get}
 use Rattle.link_lists.specs.Lists.{has}
 use Rattle.problem_rules.specs.Problem.{Problem}
-use Rattle.mixed_numbers.specs.declared.number.Mixed.{Mixed}
-use Rattle.mixed_numbers.specs.Number.{numerator, denominator}
+use Rattle.exact_numbers.specs.declared.number.Mixed.{Mixed}
+use Rattle.exact_numbers.specs.Number.{numerator, denominator}
 use Rattle.tree_rules.specs.Claim.{Network, CostOver, claimed_cost, IsAtMost}
 use Rattle.tree_rules.specs.Costs.{IsNoMore}
-use Rattle.branch_choice.specs.Choices.{option_count}
+use Rattle.node_evaluation.specs.Choices.{option_count}
 use Rattle.node_evaluation.specs.Evaluated.{PastPlaces, cost_over, cost_in}
 use Rattle.node_evaluation.specs.Looks.{cost_of}
 use Rattle.node_evaluation.specs.Children.{claim_with}

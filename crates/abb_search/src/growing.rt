@@ -2,7 +2,7 @@
 ghost use Rattle.std.specs.Prelude.{◌≡◌, ◌↔◌, ◌<◌, ◌≤◌, ◌+◌, ◌-◌, ◌^◌, ◌*ℤ◌, ◌≤ℤ◌, pos, true};
 ghost use Rattle.std.specs.Prelude.{false, Some, None, IsTrue, IfOk, OnOk, OnErr, MatchOption};
 ghost use Rattle.std.specs.Prelude.{drop, length, option_copied, slice_set};
-ghost use Rattle.mixed_numbers.specs.Number.{numerator, denominator};
+ghost use Rattle.exact_numbers.specs.Number.{numerator, denominator};
 ghost use Rattle.slab.specs.Slab.{get, Updates};
 ghost use Rattle.link_lists.specs.Lists.{first, has, without};
 ghost use Rattle.pns_rules.specs.Shape.{shape_of};
@@ -10,7 +10,7 @@ ghost use Rattle.pns_rules.specs.Ends.{IsSound, IsReduced};
 ghost use Rattle.tree_rules.specs.Ways.{options_at};
 ghost use Rattle.tree_rules.specs.Tree.{branch};
 ghost use Rattle.branch_tree.specs.View.{end_of};
-ghost use Rattle.branch_choice.specs.Choices.{IsChoice, way_of};
+ghost use Rattle.node_evaluation.specs.Choices.{IsChoice, way_of};
 ghost use Rattle.pgraph.specs.View.{node_of};
 ghost use Rattle.search_tree.specs.Cells.{cell_at};
 ghost use Rattle.search_tree.specs.Growth.{as_shut};
@@ -25,9 +25,9 @@ ghost use Rattle.abb_search.specs.Growing.{IsReachedAt, IsLeastLeaf, IsHeldUp, r
 ghost use Rattle.abb_search.specs.Growing.{interval_stop, stop_at, leaf_of, choice_of};
 
 use crate::hand::place_all;
-use branch_choice::Choice;
+use node_evaluation::Choice;
 use branch_tree::{End, Network};
-use mixed_numbers::Mixed;
+use exact_numbers::Mixed;
 use node_evaluation::{
     Evaluator, Interval, PastStop, Ready, StoppedAt, Workspace, Worth, cheaper, look_at_children,
 };

@@ -11,7 +11,7 @@ ghost use Rattle.abb_search.specs.Growing.{root_stop, IsOpenRoot, IsLookedRoot};
 use crate::growing::{Growing, StoppedLeaf};
 use crate::hand::place;
 use branch_tree::{Network, Steps};
-use mixed_numbers::Mixed;
+use exact_numbers::Mixed;
 use node_evaluation::{Evaluator, PastStop, Workspace, cheaper, look, open_cell};
 use node_pool::Pool;
 use pgraph::Site;

@@ -5,7 +5,7 @@ ghost use Rattle.std.specs.Prelude.{length};
 ghost use Rattle.link_lists.specs.Lists.{first};
 ghost use Rattle.pns_rules.specs.Shape.{shape_of};
 ghost use Rattle.tree_rules.specs.Claim.{CostOver};
-ghost use Rattle.branch_choice.specs.Choices.{option_count};
+ghost use Rattle.node_evaluation.specs.Choices.{option_count};
 ghost use Rattle.node_evaluation.specs.Looks.{cost_of};
 ghost use Rattle.abb_search.specs.Growing.{IsGrowingFor, IsSame, IsSettledAt, LeafUndercuts};
 ghost use Rattle.abb_search.specs.Growing.{choice_of, ready_at};
@@ -18,7 +18,7 @@ use crate::growing::{
 };
 use crate::settling::{first_put_off, is_settled, next_waiting, settle_from, settle_leaf};
 use branch_tree::Network;
-use mixed_numbers::Mixed;
+use exact_numbers::Mixed;
 use node_evaluation::{Evaluator, Workspace};
 use pgraph::Site;
 use search_tree::Shut;

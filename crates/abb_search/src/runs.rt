@@ -18,7 +18,7 @@ use crate::watching::report_progress;
 use branch_tree::Network;
 use node_evaluation::{Evaluator, Workspace};
 use pgraph::Site;
-use progress::{Effort, Watch};
+use pns_io::{Effort, Watch};
 use unit_sets::Node;
 
 /// Takes turns from a root that was looked at, until the search ends or there is no memory. Before

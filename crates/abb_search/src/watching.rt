@@ -3,7 +3,7 @@
 use crate::growing::Growing;
 use branch_tree::Network;
 use pgraph::Site;
-use progress::{Progress, Watch};
+use pns_io::{Progress, Watch};
 
 /// How many leaves are open.
 fn open_leaves(growing: &Growing) -> u32 {

@@ -19,19 +19,67 @@
 //! (wide products and what is kept of them), `line` (the numbers of a row), `row` and `cost_row`,
 //! `choice` (which variable leaves the basis and which enters it), `guess` (the tableau),
 //! `short_sizes` (sizes that are rounded).
+//!
+//! Unproved proposals: multipliers and covers for the charge of a node.
+//!
+//! A proposal is found by the dual simplex method with two-sided ranges, in floating point, over a
+//! linear program: sizes of units, and for each free unit that owes a fixed cost whether it is
+//! built beyond the share of its capacity that it uses. Sets of units of which each structure has
+//! one become rows as soon as they are broken, and so do limits on what can be used of a material.
+//! It is safe, and it ends; nothing else is promised.
+//! `charges` judges every proposal exactly, so no result depends on one.
+//!
+//! The units of a cheap network are guessed too, by slopes that follow the sizes and by exchanges.
+//!
+//! Modules: `tableau` (rows, columns and turns), `program` (the program of a node), `breach` (sets
+//! that are broken), `knees` (what can be used of a material), `propose` (whole numbers for a
+//! proposal), `cheap` (a cheap network), `ready` (how large a unit is and how much is
+//! used of a material at most).
+//!
+//! Unproved proposals: sizes and multipliers of a basis that was guessed.
+//!
+//! A basis is solved in whole scaled numbers: its sizes are over one denominator, and its
+//! multipliers over one scale. Each material whose balance is at an end gives an equation in the
+//! basic sizes. Each basic unit gives one in the multipliers of these materials. Both systems are
+//! square. They are eliminated in whole numbers, an equation with the fewest unknowns first, so
+//! that chains are peeled off and only recycles cost more.
+//!
+//! It is safe, it ends, and it takes no memory once [`Solver::open`] has made room; nothing else is
+//! promised. If a number leaves 128 bits, or the basis is none, the solver gives up.
+//! `scaled_flows`, or the bounds and sums of `flow_program`, judge every answer. So no result
+//! depends on it.
+//!
+//! Modules: `equation` (one equation in whole numbers), `system` (a square system and its
+//! elimination), `numbering` (the unknowns' places), `fractions` (values over one denominator),
+//! `solver` (the two systems of a basis).
 #![tactic(auto)]
 
+mod breach;
+mod cheap;
 mod choice;
 mod cost_row;
+mod equation;
+mod fractions;
 mod guess;
+mod knees;
 mod line;
+mod numbering;
 mod numbers;
+mod program;
+mod propose;
 mod ranges;
+mod ready;
 mod rounding;
 mod row;
 mod short_sizes;
+mod solver;
+mod system;
+mod tableau;
 
 pub use guess::{Column, Guess, Outcome};
 pub use numbers::{Ends, Numbers, Rate, Standing};
+pub use propose::{ChargeGuess, Proposal};
 pub use ranges::Variable;
+pub use ready::{Bound, Range, Ready, Use, User};
 pub use short_sizes::ShortSizes;
+pub use solver::Solver;

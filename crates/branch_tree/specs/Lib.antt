@@ -1,3 +1,4 @@
+pub mod HeadView
 pub mod Scaled
 pub mod Sized
 pub mod View

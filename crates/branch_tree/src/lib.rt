@@ -8,11 +8,19 @@
 //!
 //! Modules: `multipliers`, `scaled`, `steps` and `columns` are lists with a model; `network`,
 //! `claim`, `end`, `node`, `tree` and `tail` have a type each.
+//!
+//! The head of a branch tree as a value.
+//!
+//! A [`Head`] is the lines that come before the first node: steps, sizes that a unit may have at
+//! most, units that are left out, and amounts of a material that are used at most. Contracts see it
+//! in the words of `head_rules`, each [`HeadLine`] through `View`. Nothing here takes memory.
 #![tactic(auto)]
 
 mod claim;
 mod columns;
 mod end;
+mod head;
+mod line;
 mod multipliers;
 mod network;
 mod node;
@@ -24,6 +32,8 @@ mod tree;
 pub use claim::Claim;
 pub use columns::Columns;
 pub use end::End;
+pub use head::Head;
+pub use line::HeadLine;
 pub use multipliers::Multipliers;
 pub use network::Network;
 pub use node::TreeNode;

@@ -6,7 +6,7 @@ use Rattle.problem_rules.specs.Problem.{Problem}
 use Rattle.edit_rules.specs.Edit.{Edit}
 use Rattle.studio_rules.specs.Lines.{line, text_of}
 use Rattle.studio_rules.specs.Ending.{Finishes, Writes}
-use Rattle.endings.proofs.Ending.{writes_as}
+use Rattle.command_files.proofs.Ending.{writes_as}
 use Rattle.studio_rules.specs.declared.status.Status.{Status}
 use Rattle.studio_rules.specs.declared.status.Status.TheVariants.{Done, ReadFault, TooLong}
 use Rattle.studio_rules.specs.declared.status.Status.TheVariants.{WriteFault, Memory}

@@ -17,11 +17,11 @@ use Rattle.edit_rules.specs.Fault.{Fault, Check, checks, first_fault, AreClear}
 use Rattle.edit_rules.specs.Script.{applied, undoing, CanApply, IsFirstFault}
 use Rattle.edit_laws.specs.Laws.{ScriptsAreUndone, AreUndone}
 use Rattle.edit_laws.specs.ScriptLaws.{PrintedScriptsRead}
-use Rattle.script_rules.specs.Line.{file_type, script_lines}
-use Rattle.script_rules.specs.Read.{read_script, text_read, lines_read}
-use Rattle.script_rules.specs.Fault as scripts
-use Rattle.script_rules.specs.declared.EditKind.{EditKind}
-use Rattle.script_rules.specs.declared.EditKind.TheVariants.{FileType}
+use Rattle.edit_rules.specs.Line.{file_type, script_lines}
+use Rattle.edit_rules.specs.Read.{read_script, text_read, lines_read}
+use Rattle.edit_rules.specs.ScriptFault as scripts
+use Rattle.edit_rules.specs.declared.EditKind.{EditKind}
+use Rattle.edit_rules.specs.declared.EditKind.TheVariants.{FileType}
 use Rattle.edit_scripts.proofs.ReadIsFormed.{read_formed}
 use Rattle.studio_rules.specs.Lines.{text_of}
 use Rattle.studio_rules.specs.declared.status.Status.{Status}

@@ -26,8 +26,8 @@ use Rattle.tree_rules.specs.Known as trees
 use Rattle.tree_rules.specs.Stops.{IsOpenAt}
 use Rattle.tree_rules.specs.Tail.{Tail, whole, spent, past}
 use Rattle.tree_text_rules.specs.Read.{Certificate, Fault, read_text}
-use Rattle.part_rules.specs.OpenLeaves.{OpenAt, open_leaves, StandsOpen}
-use Rattle.part_laws.specs.Laws.{OpenLeavesStand}
+use Rattle.tree_text_rules.specs.OpenLeaves.{OpenAt, open_leaves, StandsOpen}
+use Rattle.tree_parts.specs.Laws.{OpenLeavesStand}
 use Rattle.studio_rules.specs.Lines.{text_of}
 use Rattle.studio_rules.specs.Part.{PartSays, PartWork, ClaimSays, AgainstWork}
 use Rattle.studio_rules.specs.Reading.{GivesProblem}

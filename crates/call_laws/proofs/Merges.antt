@@ -14,12 +14,12 @@ use Rattle.tree_rules.specs.declared.refusal.Refusal.{Refusal}
 use Rattle.tree_rules.specs.declared.refusal.Refusal.TheVariants as refusals
 use Rattle.tree_laws.specs.Laws.{AcceptedIsPartial, PassingClaimHasNoFault, PassingTreeHasNoFault}
 use Rattle.tree_text_rules.specs.Read.{Fault}
-use Rattle.part_rules.specs.Part.{Part, start_of}
-use Rattle.part_rules.specs.Read.{PartReads}
-use Rattle.part_rules.specs.Merge.{IsLeafOf, MergeFails}
-use Rattle.part_rules.specs.Several.{StopsAt}
-use Rattle.part_rules.specs.declared.merge_fault.MergeFault.{MergeFault}
-use Rattle.part_rules.specs.declared.merge_fault.MergeFault.TheVariants as faults
+use Rattle.tree_text_rules.specs.Part.{Part, start_of}
+use Rattle.tree_text_rules.specs.PartRead.{PartReads}
+use Rattle.tree_text_rules.specs.Merge.{IsLeafOf, MergeFails}
+use Rattle.tree_text_rules.specs.Several.{StopsAt}
+use Rattle.tree_text_rules.specs.declared.merge_fault.MergeFault.{MergeFault}
+use Rattle.tree_text_rules.specs.declared.merge_fault.MergeFault.TheVariants as faults
 use Rattle.studio_rules.specs.Ending.{IsOneOf}
 use Rattle.studio_rules.specs.Merge.{FaultSays, MergeSays, MergeWork}
 use Rattle.studio_rules.specs.Part.{PartSays, PartWork, ClaimSays, AgainstWork, HoldsFrom}
@@ -30,7 +30,7 @@ use Rattle.studio_rules.specs.TreeFile.{TreeFault, tree_limit}
 use Rattle.studio_rules.specs.declared.status.Status.{Status}
 use Rattle.studio_rules.specs.declared.status.Status.TheVariants.{Done, Spent, Past, TooLong}
 use Rattle.studio_rules.specs.declared.status.Status.TheVariants.{BadTree, BadNode, BadClaim}
-use Rattle.part_text.specs.Laws.{PartsAreReadOnce}
+use Rattle.tree_parts.specs.PartLaws.{PartsAreReadOnce}
 
 -- ---- what `part` finds
 

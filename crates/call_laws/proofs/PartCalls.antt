@@ -9,12 +9,12 @@ use Rattle.pns_rules.specs.Tokens.{token_of}
 use Rattle.tree_rules.specs.Claim.{Claim}
 use Rattle.tree_rules.specs.Accepted.{Tree, first_node, IsPartial}
 use Rattle.tree_laws.specs.Laws.{AcceptedIsPartial, PassingClaimHasNoFault, PassingTreeHasNoFault}
-use Rattle.part_rules.specs.OpenLeaves.{OpenAt, open_leaves}
-use Rattle.part_rules.specs.Part.{Part, start_of}
-use Rattle.part_rules.specs.Read.{PartReads}
-use Rattle.part_rules.specs.Merge.{IsLeafOf}
-use Rattle.part_laws.specs.Laws.{OpenLeavesStand}
-use Rattle.part_text.specs.Laws.{PartsAreReadOnce}
+use Rattle.tree_text_rules.specs.OpenLeaves.{OpenAt, open_leaves}
+use Rattle.tree_text_rules.specs.Part.{Part, start_of}
+use Rattle.tree_text_rules.specs.PartRead.{PartReads}
+use Rattle.tree_text_rules.specs.Merge.{IsLeafOf}
+use Rattle.tree_parts.specs.Laws.{OpenLeavesStand}
+use Rattle.tree_parts.specs.PartLaws.{PartsAreReadOnce}
 use Rattle.studio_rules.specs.Answers.{AnswersTo, CommandAnswers, WordsSay}
 use Rattle.studio_rules.specs.Command.{Command, Splitting, Parting, PartingAgainst, Merging}
 use Rattle.studio_rules.specs.Command.{command_of}
@@ -27,8 +27,8 @@ use Rattle.studio_rules.specs.Split.{SplitWork, split_lines}
 use Rattle.studio_rules.specs.TreeFile.{GivesTree, OnTree, tree_limit}
 use Rattle.studio_rules.specs.declared.status.Status.{Status}
 use Rattle.studio_rules.specs.declared.status.Status.TheVariants.{Done, Spent, Past, TooLong}
-use Rattle.endings.proofs.Ending.{one_line, writes_as}
-use Rattle.endings.proofs.Put.{IsText, text_out}
+use Rattle.command_files.proofs.Ending.{one_line, writes_as}
+use Rattle.command_files.proofs.Put.{IsText, text_out}
 use Rattle.studio.specs.Calls.{Call, Calls, Holds, EndsWith, HasFailed}
 use Rattle.studio.proofs.Accepted.{is_held}
 use Rattle.studio.proofs.Calls.{Same, same_file, appended, answered, ended, given_work}

@@ -18,14 +18,14 @@ use Rattle.tree_laws.specs.Laws.{PassingClaimHasNoFault, PassingTreeHasNoFault}
 use Rattle.tree_text_rules.specs.Read.{Certificate, Fault, read_text}
 use Rattle.tree_text_rules.specs.Spelling.{tree_text, tree_text_lines}
 use Rattle.tree_text_laws.specs.Laws.{ReadTextsAreSpelled}
-use Rattle.part_rules.specs.Part.{Part}
-use Rattle.part_rules.specs.Graft.{claim_of_both}
-use Rattle.part_rules.specs.Merge.{IsMerged}
-use Rattle.part_rules.specs.Several.{AreMerged}
-use Rattle.part_rules.specs.Read.{PartReads}
-use Rattle.part_laws.specs.Order.{AnyOrder, EachOrder}
-use Rattle.part_laws.proofs.ReorderLemmas.{Reorders, stay, under, turn, next, reorders}
-use Rattle.part_text.specs.Laws.{PartsAreReadOnce, ReadPartsAreSpelled}
+use Rattle.tree_text_rules.specs.Part.{Part}
+use Rattle.tree_text_rules.specs.Graft.{claim_of_both}
+use Rattle.tree_text_rules.specs.Merge.{IsMerged}
+use Rattle.tree_text_rules.specs.Several.{AreMerged}
+use Rattle.tree_text_rules.specs.PartRead.{PartReads}
+use Rattle.tree_parts.specs.Order.{AnyOrder, EachOrder}
+use Rattle.tree_parts.proofs.ReorderLemmas.{Reorders, stay, under, turn, next, reorders}
+use Rattle.tree_parts.specs.PartLaws.{PartsAreReadOnce, ReadPartsAreSpelled}
 use Rattle.studio_rules.specs.Lines.{text_of}
 use Rattle.studio_rules.specs.Reading.{AreHeld}
 use Rattle.studio_rules.specs.Solve.{AreTextOf}
@@ -34,7 +34,7 @@ use Rattle.studio_rules.specs.PartFile.{GivesPart, GiveParts, are_several}
 use Rattle.studio_rules.specs.Merge.{MergedSays, MergeWork}
 use Rattle.studio_rules.specs.declared.status.Status.{Status}
 use Rattle.studio_rules.specs.declared.status.Status.TheVariants.{Done}
-use Rattle.endings.proofs.Printing.{spelled_text}
+use Rattle.command_files.proofs.Printing.{spelled_text}
 use Rattle.studio.proofs.Causes.{same_file, first_part, not_parts}
 use Rattle.studio.proofs.Merged.{given_tree}
 use Rattle.studio.proofs.Statuses.{merge_fault_status}

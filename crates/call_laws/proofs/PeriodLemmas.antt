@@ -11,7 +11,7 @@ use Rattle.plan_rules.specs.Plan.{Plan}
 use Rattle.plan_rules.specs.Read as plans
 use Rattle.plan_laws.specs.Laws.{ExpandedIsValid}
 use Rattle.tree_rules.specs.Claim.{Claim, network, infeasible, unknown}
-use Rattle.design_rules.specs.Folded.{folded}
+use Rattle.plan_rules.specs.Folded.{folded}
 use Rattle.studio_rules.specs.Expand.{ExpandWork}
 use Rattle.studio_rules.specs.Lines.{text_of}
 use Rattle.studio_rules.specs.Periods.{PeriodsWork}

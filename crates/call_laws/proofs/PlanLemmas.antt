@@ -13,9 +13,9 @@ use Rattle.problem_rules.specs.WellFormed.{ValidIsWellFormed}
 use Rattle.edit_rules.specs.Formed.{AreSignedBounds}
 use Rattle.edit_rules.specs.Place.{has_material, material_place}
 use Rattle.edit_scripts.proofs.ReadIsFormed.{amount_formed, bounds_formed}
-use Rattle.script_rules.specs.declared.EditKind.{EditKind}
-use Rattle.script_rules.specs.Line.{tokens_of, script_lines}
-use Rattle.script_rules.specs.Read.{amount_read, bounds_read}
+use Rattle.edit_rules.specs.declared.EditKind.{EditKind}
+use Rattle.edit_rules.specs.Line.{tokens_of, script_lines}
+use Rattle.edit_rules.specs.Read.{amount_read, bounds_read}
 use Rattle.plan_rules.specs.declared.PlanKind.{PlanKind}
 use Rattle.plan_rules.specs.declared.PlanKind.TheVariants.{FileType, BadLine, DoubleLine}
 use Rattle.plan_rules.specs.declared.PlanKind.TheVariants.{UnknownName, LowAboveHigh, NoPeriod}

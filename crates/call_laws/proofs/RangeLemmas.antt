@@ -18,17 +18,17 @@ use Rattle.edit_rules.specs.Fault as faults
 use Rattle.edit_rules.specs.Formed.{script_of}
 use Rattle.edit_rules.specs.Script.{applied, IsFirstFault}
 use Rattle.edit_laws.specs.ScriptLaws.{PrintedScriptsRead}
-use Rattle.script_rules.specs.Fault as scripts
-use Rattle.script_rules.specs.Printed.{script_text}
-use Rattle.script_rules.specs.Read.{read_script}
+use Rattle.edit_rules.specs.ScriptFault as scripts
+use Rattle.edit_rules.specs.Printed.{script_text}
+use Rattle.edit_rules.specs.Read.{read_script}
 use Rattle.tree_rules.specs.Claim.{Network, Claim, network, infeasible, unknown, CostOver, size_in}
 use Rattle.tree_rules.specs.Claim.{claimed_cost, IsAtLeast, IsFeasible}
-use Rattle.stability_rules.specs.declared.spot.Spot.{Spot}
-use Rattle.stability_rules.specs.declared.spot.SpotKind.{SpotKind}
-use Rattle.stability_rules.specs.declared.side.Side.{Side}
-use Rattle.stability_rules.specs.declared.side.Side.TheVariants.{Below, Above}
-use Rattle.stability_rules.specs.Spot.{valued, IsAllowedValue}
-use Rattle.stability_rules.specs.Range.{IsLeast, repriced, EndsAt, IsRange, beyond}
+use Rattle.report_rules.specs.declared.spot.Spot.{Spot}
+use Rattle.report_rules.specs.declared.spot.SpotKind.{SpotKind}
+use Rattle.report_rules.specs.declared.side.Side.{Side}
+use Rattle.report_rules.specs.declared.side.Side.TheVariants.{Below, Above}
+use Rattle.report_rules.specs.Spot.{valued, IsAllowedValue}
+use Rattle.report_rules.specs.Range.{IsLeast, repriced, EndsAt, IsRange, beyond}
 use Rattle.stability_laws.specs.Laws.{ValuedIsValid}
 use Rattle.stability_laws.proofs.NetLemmas.{shape_stays, flows_to}
 use Rattle.studio_rules.specs.Edits.{EditWork}

@@ -9,9 +9,9 @@ use Rattle.std.proofs.lemmas.List.{length-append}
 use Rattle.text_rules.specs.Printed.{digits, places, amount_bytes}
 use Rattle.problem_rules.specs.WellFormed.{IsInRange}
 use Rattle.edit_rules.specs.Formed.{IsName, IsFormed}
-use Rattle.script_rules.specs.Printed.{edit_line, script_text}
-use Rattle.stability_rules.specs.declared.spot.SpotKind.{SpotKind}
-use Rattle.stability_rules.specs.declared.spot.SpotKind.TheVariants.{Price, Fix, Proportional}
+use Rattle.edit_rules.specs.Printed.{edit_line, script_text}
+use Rattle.report_rules.specs.declared.spot.SpotKind.{SpotKind}
+use Rattle.report_rules.specs.declared.spot.SpotKind.TheVariants.{Price, Fix, Proportional}
 use Rattle.studio_rules.specs.Reading.{file_limit}
 use Rattle.call_laws.specs.Ranges.{setting}
 

@@ -20,11 +20,11 @@ use Rattle.edit_laws.proofs.ListLemmas.{Each-at, map-at}
 use Rattle.edit_laws.proofs.NameLemmas.{bytes_same, knows-at}
 use Rattle.edit_laws.proofs.Goodness.{IsGoodMaterial, IsGoodUnit}
 use Rattle.edit_laws.proofs.ValidLemmas.{well_from_valid}
-use Rattle.stability_rules.specs.declared.spot.Spot.{Spot}
-use Rattle.stability_rules.specs.declared.spot.Spot.TheVariants as spots
-use Rattle.stability_rules.specs.declared.spot.SpotKind.{SpotKind}
-use Rattle.stability_rules.specs.declared.spot.SpotKind.TheVariants.{Price, Fix, Proportional}
-use Rattle.stability_rules.specs.Spot.{KnowsSpot, valued, IsAllowedValue}
+use Rattle.report_rules.specs.declared.spot.Spot.{Spot}
+use Rattle.report_rules.specs.declared.spot.Spot.TheVariants as spots
+use Rattle.report_rules.specs.declared.spot.SpotKind.{SpotKind}
+use Rattle.report_rules.specs.declared.spot.SpotKind.TheVariants.{Price, Fix, Proportional}
+use Rattle.report_rules.specs.Spot.{KnowsSpot, valued, IsAllowedValue}
 use Rattle.studio_rules.specs.Stable.{spot_named}
 use Rattle.call_laws.specs.Ranges.{SettingsSetSpots}
 

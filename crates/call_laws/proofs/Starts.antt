@@ -15,8 +15,8 @@ use Rattle.tree_rules.specs.Leaf.{untried, LeafPasses}
 use Rattle.tree_rules.specs.Claim.{Claim, claimed_cost}
 use Rattle.tree_rules.specs.Accepted.{Tree, first_node, IsPartial}
 use Rattle.tree_rules.specs.Known as trees
-use Rattle.part_rules.specs.OpenLeaves.{OpenAt, open_leaves, IsAmong, StandsOpen}
-use Rattle.part_laws.specs.Laws.{OpenLeavesStand}
+use Rattle.tree_text_rules.specs.OpenLeaves.{OpenAt, open_leaves, IsAmong, StandsOpen}
+use Rattle.tree_parts.specs.Laws.{OpenLeavesStand}
 use Rattle.studio_rules.specs.Lines.{text_of}
 use Rattle.studio_rules.specs.Split.{token_in, split_lines}
 use Rattle.studio_rules.specs.Start.{IsStart}

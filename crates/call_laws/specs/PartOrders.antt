@@ -7,9 +7,9 @@ use Rattle.problem_rules.specs.Problem.{Problem}
 use Rattle.tree_rules.specs.Claim.{Claim}
 use Rattle.tree_rules.specs.Accepted.{Tree}
 use Rattle.tree_rules.specs.Tail.{whole}
-use Rattle.part_rules.specs.Part.{Part}
-use Rattle.part_rules.specs.Merge.{IsLeafOf}
-use Rattle.part_laws.specs.Order.{SameCost, StartApart}
+use Rattle.tree_text_rules.specs.Part.{Part}
+use Rattle.tree_text_rules.specs.Merge.{IsLeafOf}
+use Rattle.tree_parts.specs.Order.{SameCost, StartApart}
 use Rattle.studio_rules.specs.Causes.{AreTold}
 use Rattle.studio_rules.specs.Command.{Merging}
 use Rattle.studio_rules.specs.Reading.{GivesProblem}

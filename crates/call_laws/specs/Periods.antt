@@ -10,8 +10,8 @@ use Rattle.plan_rules.specs.Expanded.{expanded}
 use Rattle.plan_rules.specs.Meaning.{read_plan}
 use Rattle.plan_rules.specs.Plan.{Plan, IsPlan}
 use Rattle.tree_rules.specs.Claim.{Claim, infeasible}
-use Rattle.design_rules.specs.Folded.{Written}
-use Rattle.design_rules.specs.Least.{IsLeastDesign, HasNoDesign}
+use Rattle.plan_rules.specs.Folded.{Written}
+use Rattle.plan_rules.specs.Least.{IsLeastDesign, HasNoDesign}
 use Rattle.studio_rules.specs.Command.{Expanding, Solving, Planning}
 use Rattle.studio_rules.specs.DesignText.{design_lines}
 use Rattle.studio_rules.specs.Lines.{text_of}

@@ -2,9 +2,9 @@
 use Rattle.std.specs.Prelude.{◌≡◌, ℕ, List, [], ◌∷◌}
 use Rattle.problem_rules.specs.Problem.{Problem}
 use Rattle.edit_rules.specs.Edit.{Edit}
-use Rattle.script_rules.specs.Printed.{script_text}
+use Rattle.edit_rules.specs.Printed.{script_text}
 use Rattle.tree_rules.specs.Claim.{CostOver}
-use Rattle.stability_rules.specs.declared.spot.SpotKind.{SpotKind}
+use Rattle.report_rules.specs.declared.spot.SpotKind.{SpotKind}
 use Rattle.studio_rules.specs.Command.{Editing, Solving, Ranging}
 use Rattle.studio_rules.specs.Lines.{text_of}
 use Rattle.studio.specs.Calls.{Call, Calls, Puts, Holds}

@@ -10,15 +10,15 @@ use Rattle.edit_rules.specs.Edit.{Edit, price, fix, proportional}
 use Rattle.edit_rules.specs.Effect.{effect}
 use Rattle.edit_rules.specs.Fault.{checks, AreClear}
 use Rattle.edit_rules.specs.Formed.{IsFormed}
-use Rattle.script_rules.specs.Printed.{script_text}
+use Rattle.edit_rules.specs.Printed.{script_text}
 use Rattle.tree_rules.specs.Claim.{Network, Claim, network, CostOver, IsFeasible}
 use Rattle.tree_text_rules.specs.Read.{HeadedCertificate}
-use Rattle.stability_rules.specs.declared.spot.Spot.{Spot}
-use Rattle.stability_rules.specs.declared.spot.SpotKind.{SpotKind}
-use Rattle.stability_rules.specs.declared.spot.SpotKind.TheVariants.{Price, Fix, Proportional}
-use Rattle.stability_rules.specs.declared.side.Side.TheVariants.{Below, Above}
-use Rattle.stability_rules.specs.Spot.{KnowsSpot, valued, IsAllowedValue}
-use Rattle.stability_rules.specs.Range.{repriced, IsBestAt, beyond}
+use Rattle.report_rules.specs.declared.spot.Spot.{Spot}
+use Rattle.report_rules.specs.declared.spot.SpotKind.{SpotKind}
+use Rattle.report_rules.specs.declared.spot.SpotKind.TheVariants.{Price, Fix, Proportional}
+use Rattle.report_rules.specs.declared.side.Side.TheVariants.{Below, Above}
+use Rattle.report_rules.specs.Spot.{KnowsSpot, valued, IsAllowedValue}
+use Rattle.report_rules.specs.Range.{repriced, IsBestAt, beyond}
 use Rattle.studio_rules.specs.Command.{Editing, Solving, Ranging}
 use Rattle.studio_rules.specs.Lines.{text_of}
 use Rattle.studio_rules.specs.Printed.{spelled}

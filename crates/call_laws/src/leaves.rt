@@ -1,7 +1,7 @@
 //! The open leaves of a search whose budget is spent.
 ghost use Rattle.call_laws.specs.Leaves.{SpentLeavesAreNodes};
 
-use part_laws::open_leaves_stand;
+use tree_parts::open_leaves_stand;
 use pns_rules::valid_is_proper;
 use problem_rules::valid_is_well_formed;
 

@@ -5,12 +5,29 @@
 //! ones are also over calls of `studio` with their shelves and sinks. `specs/` states them. Each is
 //! the contract of a function that does nothing: a proof that calls it may use the law after the
 //! call.
+//!
+//! Searches of plants without demands that are sure to finish.
+//!
+//! In such a plant nothing has to be made and no size earns. At each node of it the simplex method
+//! has least flows before its first pivot, with all sizes 0, and none of its numbers overflows.
+//!
+//! `specs/NoDemands` says which plants these are, and `specs/Laws` what is true of them.
+//! `specs/Calls` says how a call ends that searches one. `specs/OneUnit` is a worked plant. Each
+//! law is the contract of a function without a body, which a proof elsewhere calls to have it.
+//!
+//! A worked call that is sure to finish. It is `solve` of a plant of one unit in memory. Its
+//! contract says that it ends with status 0, unless a read, an output or memory fails.
+//!
+//! Modules: `one_unit`, the shelf and the words; `call`, the call.
 #![tactic(auto)]
 
+mod call;
 mod calls;
 mod costs;
 mod edits;
+mod laws;
 mod leaves;
+mod one_unit;
 mod optimum;
 mod orders;
 mod parts;
@@ -18,9 +35,11 @@ mod period_costs;
 mod ranges;
 mod texts;
 
+pub use call::solve_one_unit;
 pub use calls::{check_certifies_periods, stable_agrees};
 pub use costs::{one_cost, solves_agree};
 pub use edits::{call_gives_back, edit_is_undone};
+pub use laws::{nothing_is_past, nothing_stops, one_unit_is_sure, sure_call_is_done};
 pub use leaves::spent_leaves_are_nodes;
 pub use optimum::{
     calls_agree, first_is_optimal, listed_cost_enough, one_cost_is_told, optimum_is_listed,

@@ -1,8 +1,8 @@
 //! `merge` of the same parts in another order.
 ghost use Rattle.call_laws.specs.PartOrders.{EachOrderMerges, MergesAgree};
 
-use part_laws::{grafts_are_partial, open_leaves_stand, order_is_free};
-use part_text::{parts_are_read_once, read_parts_are_spelled};
+use tree_parts::{grafts_are_partial, open_leaves_stand, order_is_free};
+use tree_parts::{parts_are_read_once, read_parts_are_spelled};
 use tree_laws::{claim_has_one_fault, open_leaves_decide, tree_has_one_fault};
 use tree_text_laws::{read_texts_are_spelled, spelled_texts_read};
 

@@ -1,8 +1,8 @@
 //! Calls of a search in parts.
 ghost use Rattle.call_laws.specs.Parts.{MergeTakesPart};
 
-use part_laws::open_leaves_stand;
-use part_text::parts_are_read_once;
+use tree_parts::open_leaves_stand;
+use tree_parts::parts_are_read_once;
 use pns_rules::valid_is_proper;
 use problem_rules::valid_is_well_formed;
 use tree_laws::{claim_has_one_fault, open_leaves_decide, tree_has_one_fault};

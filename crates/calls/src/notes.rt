@@ -1,6 +1,6 @@
 //! Second lines: how many there are at most, and how much of a long word they show.
 
-use messages::{Notes, Piece};
+use studio_words::{Notes, Piece};
 use std::alloc::Global;
 use std::io;
 

@@ -1,6 +1,6 @@
 //! Sums of mixed numbers. No contract says when there is one.
 
-use mixed_numbers::Mixed;
+use exact_numbers::Mixed;
 use std::io;
 
 const MAX: i128 = i128::MAX;

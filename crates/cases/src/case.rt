@@ -1,7 +1,7 @@
 //! A case: the call that it makes, and what it wants.
 
 use pns_io::{MemShelf, MemSink, Outputs};
-use progress::NoWatch;
+use pns_io::NoWatch;
 use std::alloc::{AllocError, Global};
 use studio::{code_of, studio};
 

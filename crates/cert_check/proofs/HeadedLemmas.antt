@@ -17,7 +17,7 @@ use Rattle.tree_rules.specs.Leaf.{Leaf}
 use Rattle.tree_rules.specs.Costs.{CostsEnough}
 use Rattle.tree_rules.specs.Accepted.{Tree, first_node}
 use Rattle.tree_laws.specs.Laws.{PassingClaimHasNoFault}
-use Rattle.head_laws.specs.Laws.{AcceptedByIsOptimal, PassingTreeHasNoFaultBy}
+use Rattle.tree_laws.specs.HeadLaws.{AcceptedByIsOptimal, PassingTreeHasNoFaultBy}
 use Rattle.head_rules.specs.declared.line_why.LineWhy.{LineWhy}
 use Rattle.head_rules.specs.declared.refusal.Refusal.{Refusal}
 use Rattle.head_rules.specs.declared.refusal.Refusal.TheVariants.{Memory, Claim, Line}

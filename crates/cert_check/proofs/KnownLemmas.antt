@@ -12,8 +12,8 @@ use Rattle.pns_rules.proofs.OptionLemmas.{makers_apart, base_set, free_set}
 use Rattle.tree_rules.specs.Ways.{at_material, either, MayBranch}
 use Rattle.tree_rules.specs.Tree.{End, branch, leaf, TreeNode, StepsPass, after_all, EndPasses}
 use Rattle.tree_rules.specs.Tree.{below}
-use Rattle.cert_parts.specs.Known.{KnowsInside}
-use Rattle.cert_parts.proofs.NodeLemmas.{known_after}
+use Rattle.cert_check.specs.Known.{KnowsInside}
+use Rattle.cert_check.proofs.NodeLemmas.{known_after}
 use Rattle.cert_check.specs.Subtrees.{AllKnown}
 
 pub known_after_all : (g : Shape) (n : Node) (ss : List Step) → KnowsInside g n → StepsPass g n ss

@@ -15,7 +15,7 @@ use Rattle.tree_rules.specs.Leaf.{Leaf, LeafPasses, LeafFails}
 use Rattle.tree_rules.specs.Accepted.{Tree}
 use Rattle.tree_laws.proofs.OpenLemmas.{passes_too}
 use Rattle.head_rules.specs.Headed.{LeafPassesBy, LeafFailsBy}
-use Rattle.head_laws.proofs.EmptyLemmas.{by_passes, by_fails, fault_too}
+use Rattle.tree_laws.proofs.EmptyLemmas.{by_passes, by_fails, fault_too}
 use Rattle.cert_check.specs.Refusals.{NamesFault}
 use Rattle.cert_check.specs.declared.walk.Stop.{Stop}
 

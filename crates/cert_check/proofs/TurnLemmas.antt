@@ -11,9 +11,9 @@ use Rattle.tree_rules.specs.Leaf.{Leaf, dead, clash, refuted, bounded, charged, 
 use Rattle.tree_rules.specs.Accepted.{Tree}
 use Rattle.unit_sets.specs.declared.node.Node.{Node}
 use Rattle.pgraph.specs.View.{node_of}
-use Rattle.cert_parts.specs.Known.{KnowsInside}
+use Rattle.cert_check.specs.Known.{KnowsInside}
 use Rattle.cert_check.specs.Subtrees.{stack_of, AllKnown}
-use Rattle.part_rules.specs.OpenLeaves.{OpenAt, open_here, open_leaves}
+use Rattle.tree_text_rules.specs.OpenLeaves.{OpenAt, open_here, open_leaves}
 use Rattle.cert_check.specs.OpenLeaves.{AllBefore, NoneBefore, AreThoseBefore, AreBefore}
 use Rattle.cert_check.specs.Refusals.{NamesFault}
 use Rattle.cert_check.specs.Visits.{IsVisited, Halts, refusal_at}

@@ -1,6 +1,12 @@
 pub mod Bare
 pub mod Headed
+pub mod Known
+pub mod Lines
 pub mod OpenLeaves
 pub mod Refusals
+pub mod Shown
 pub mod Subtrees
+pub mod Trims
+pub mod Uses
+pub mod View
 pub mod Visits

@@ -3,7 +3,7 @@ use Rattle.std.specs.Prelude.{◌≡◌, ℕ, ◌<◌, ◌≤◌, List, [], ◌�
 use Rattle.pns_rules.specs.Shape.{Shape}
 use Rattle.pns_rules.specs.Nodes.{Node}
 use Rattle.tree_rules.specs.Accepted.{Tree}
-use Rattle.part_rules.specs.OpenLeaves.{OpenAt, open_leaves}
+use Rattle.tree_text_rules.specs.OpenLeaves.{OpenAt, open_leaves}
 use Rattle.cert_check.specs.declared.open_leaf.OpenLeaf.{OpenLeaf}
 use Rattle.tree_rules.specs.declared.refusal.Refusal.{Refusal}
 use Rattle.tree_rules.specs.declared.refusal.Refusal.TheVariants.{Memory, Claim}

@@ -7,7 +7,7 @@ use Rattle.tree_rules.specs.Tree.{skip}
 use Rattle.tree_rules.specs.Accepted.{Tree}
 use Rattle.unit_sets.specs.declared.node.Node.{Node}
 use Rattle.pgraph.specs.View.{node_of}
-use Rattle.cert_parts.specs.Known.{KnowsInside}
+use Rattle.cert_check.specs.Known.{KnowsInside}
 use Rattle.cert_check.specs.declared.subtrees.Behind.{Behind}
 
 -- the subtree of the node at i ends before e

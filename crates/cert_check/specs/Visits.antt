@@ -11,7 +11,7 @@ use Rattle.tree_rules.specs.Leaf.{Leaf}
 use Rattle.tree_rules.specs.Accepted.{Tree}
 use Rattle.charges.specs.Known.{facts_of}
 use Rattle.head_rules.specs.Headed.{LeafPassesBy, LeafFailsBy}
-use Rattle.cert_parts.specs.Shown.{cost_over}
+use Rattle.cert_check.specs.Shown.{cost_over}
 use Rattle.cert_check.specs.Bare.{as_judged}
 use Rattle.cert_check.specs.declared.visit.Judge.{Judge}
 use Rattle.cert_check.specs.declared.visit.Halt.{Halt}

@@ -5,7 +5,7 @@ ghost use Rattle.pgraph.specs.Tables.{shape};
 ghost use Rattle.pgraph.specs.View.{node_of};
 ghost use Rattle.cert_check.specs.Subtrees.{stack_of};
 
-use cert_parts::child;
+use crate::child;
 use pgraph::Graph;
 use std::alloc::AllocError;
 use unit_sets::{Node, UnitSet};

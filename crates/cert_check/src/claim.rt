@@ -3,11 +3,11 @@ ghost use Rattle.std.specs.Prelude.{◌≡◌, ◌↔◌, Err, IsOk, OnOk, IfErr
 ghost use Rattle.tree_rules.specs.declared.why.Why.{Why};
 ghost use Rattle.tree_rules.specs.Claim.{claimed_cost, ClaimPasses, ClaimFails};
 ghost use Rattle.branch_tree.specs.View.{claim_of};
-ghost use Rattle.cert_parts.specs.Shown.{cost_over};
+ghost use Rattle.cert_check.specs.Shown.{cost_over};
 
 use branch_tree::Claim;
-use cert_parts::judge_network;
-use frac128::CostOver;
+use crate::judge_network;
+use exact_numbers::CostOver;
 use pgraph::Site;
 use tree_laws::claim_has_one_fault;
 use tree_rules::Why;

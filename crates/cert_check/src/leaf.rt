@@ -9,17 +9,17 @@ ghost use Rattle.charges.specs.Known.{facts_of};
 ghost use Rattle.pgraph.specs.View.{node_of};
 ghost use Rattle.branch_tree.specs.View.{end_of};
 ghost use Rattle.cert_check.specs.Visits.{leaf_passes, leaf_fails};
-ghost use Rattle.cert_parts.specs.Known.{KnowsInside};
-ghost use Rattle.cert_parts.specs.Shown.{cost_over};
+ghost use Rattle.cert_check.specs.Known.{KnowsInside};
+ghost use Rattle.cert_check.specs.Shown.{cost_over};
 
 use crate::visit::Judge;
 use branch_tree::{End, Scaled};
-use cert_parts::{
+use crate::{
     judge_bound, judge_charge, judge_clash, judge_dead, judge_low, judge_open, judge_refutation,
 };
 use charge_rules::ChargeWhy;
 use charges::Charge;
-use covers::Covers;
+use pgraph::Covers;
 use pgraph::Site;
 use tree_rules::Why;
 use unit_sets::Node;

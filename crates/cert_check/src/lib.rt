@@ -15,20 +15,71 @@
 //! Modules: `claim` judges claims, `leaf` leaves; `subtrees` finds the ends of subtrees, `children`
 //! puts children on the stack; `visit` is one node, `walk` all, `open_leaf` what is still open;
 //! `check` and `headed` are the calls.
+//!
+//! The parts of a certificate, judged one by one, over problems and graphs alone.
+//!
+//! The parts are a network, a step at a node and the node that it leaves, the options of a branch,
+//! and each leaf. No judgement depends on how a tree is found. Each is exact. What passes is what
+//! the definitions of `tree_rules` let pass, and a refusal is the first line of their table that
+//! fails, with its cause. No call needs numbers that the problem has: whatever uses another number
+//! fails. No call takes memory.
+//!
+//! Modules: `sets` and `materials` are tests of sets and what a node needs; `steps` which steps are
+//! possible; `nodes` the nodes that steps and options leave, `options` whether given sets are all
+//! options of a material: they can be as many as 2^128, so their list is walked and never made;
+//! `either` branches in two at one unit; `network` and `leaves` judge claims and leaves, and
+//! `charge` what charges a node, with facts that are known of sizes.
+//!
+//! The head of a tree is judged line by line: what is known after it, or the first line that fails.
+//!
+//! [`judge_head`] judges the lines of a head in order, from the node at which nothing is decided.
+//! It gives what is [`Known`] after them: a node, and facts of sizes and uses. If a line fails, it
+//! gives the first that does, counted from 0, and why. [`judge_line`] judges one line by what is
+//! known at its place, also for those who look for lines. No judgement depends on how the line was
+//! found: a charge is formed anew, a step is judged as in a tree, and what can be of use of a unit
+//! is computed. Each is exact, by the definitions of `head_rules`. No call takes memory.
+//!
+//! Modules: `known`; `charged` forms the charge of a line, `sizes` tests the size of a cap, `uses`
+//! the amount of a use, `trim` computes what can be of use; `line` judges one line, and `head` all
+//! of them.
 #![tactic(auto)]
 
+mod charge;
+mod charged;
 mod check;
 mod children;
 mod claim;
+mod either;
+mod head;
 mod headed;
+mod known;
 mod leaf;
+mod leaves;
+mod line;
+mod materials;
+mod network;
+mod nodes;
 mod open_leaf;
+mod options;
+mod sets;
+mod sizes;
+mod steps;
 mod subtrees;
+mod trim;
+mod uses;
 mod visit;
 mod walk;
 
+pub use charge::judge_charge;
 pub use check::{check_from, check_nodes, check_tree};
 pub use claim::check_claim;
+pub use either::{are_options_of_unit, with_unit, without_unit};
+pub use head::{HeadFault, judge_head};
 pub use headed::check_headed;
+pub use known::Known;
+pub use leaves::{judge_bound, judge_clash, judge_dead, judge_low, judge_open, judge_refutation};
+pub use line::judge_line;
+pub use network::judge_network;
+pub use nodes::{after_steps, are_all_options, child};
 pub use open_leaf::OpenLeaf;
 pub use walk::Stop;

@@ -2,7 +2,7 @@
 ghost use Rattle.std.specs.Prelude.{◌≡◌, ◌++◌, OnOk};
 ghost use Rattle.pgraph.specs.View.{node_of};
 ghost use Rattle.branch_tree.specs.View.{end_of};
-ghost use Rattle.part_rules.specs.OpenLeaves.{open_here};
+ghost use Rattle.tree_text_rules.specs.OpenLeaves.{open_here};
 ghost use Rattle.cert_check.specs.OpenLeaves.{leaves_at};
 
 use branch_tree::End;

@@ -5,8 +5,8 @@ use Rattle.std.proofs.lemmas.Int.{ints}
 use Rattle.integer_laws.specs.Range.{InRange}
 use Rattle.problem_rules.specs.Problem.{Problem}
 use Rattle.pns_rules.specs.Nodes.{Node}
-use Rattle.mixed_numbers.specs.declared.number.Mixed.{Mixed}
-use Rattle.mixed_numbers.specs.Number.{numerator, denominator}
+use Rattle.exact_numbers.specs.declared.number.Mixed.{Mixed}
+use Rattle.exact_numbers.specs.Number.{numerator, denominator}
 use Rattle.flow_rules.specs.Net.{net_of}
 use Rattle.flow_rules.specs.Relaxed.{IsRelaxed, relaxed_cost, bound}
 use Rattle.flow_rules.specs.Laws.{RelaxedDuality}

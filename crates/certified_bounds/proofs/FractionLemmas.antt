@@ -5,9 +5,9 @@ use Rattle.std.specs.declared.cmp.Ordering.{Ordering}
 use Rattle.std.specs.declared.cmp.Ordering.TheVariants.{Less, Equal, Greater}
 use Rattle.std.proofs.lemmas.Cmp.{int_ranked}
 use Rattle.std.proofs.lemmas.Int.{ints}
-use Rattle.mixed_numbers.specs.declared.number.Mixed.{Mixed}
-use Rattle.mixed_numbers.specs.Number.{denominator}
-use Rattle.mixed_numbers.specs.OrderLaws.{denominator_positive}
+use Rattle.exact_numbers.specs.declared.number.Mixed.{Mixed}
+use Rattle.exact_numbers.specs.Number.{denominator}
+use Rattle.exact_numbers.specs.MixedOrderLaws.{denominator_positive}
 use Rattle.integer_laws.proofs.Ring.{ring_z}
 use Rattle.integer_laws.proofs.Order.{mul-le_right, cancel_le}
 

@@ -3,7 +3,7 @@ ghost use Rattle.std.specs.Prelude.{◌≡◌, true, false, Some, IfOk, IfSome, 
 ghost use Rattle.pns_rules.specs.Shape.{shape_of};
 ghost use Rattle.pns_rules.specs.Ends.{IsSound, IsDecided};
 ghost use Rattle.pgraph.specs.View.{node_of};
-ghost use Rattle.mixed_numbers.specs.Number.{numerator, denominator};
+ghost use Rattle.exact_numbers.specs.Number.{numerator, denominator};
 ghost use Rattle.flow_rules.specs.Net.{net_of};
 ghost use Rattle.scaled_flows.specs.Divisors.{AreDivisors};
 ghost use Rattle.scaled_flows.specs.LeastCost.{IsLeastCost};
@@ -17,7 +17,7 @@ use crate::lows::{first_low, least, low_to, proving};
 use crate::proposals::{Proposals, Proposed};
 use crate::refutations::{first_refuted, refuted};
 use branch_tree::{Network, Scaled};
-use mixed_numbers::Mixed;
+use exact_numbers::Mixed;
 use pgraph::Site;
 use scaled_flows::{Scales, cost_of_sizes, least_value};
 use std::alloc::{AllocError, Global};

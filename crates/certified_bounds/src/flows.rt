@@ -3,7 +3,7 @@ ghost use Rattle.std.specs.Prelude.{◌≡◌, true, IfOk, IfSome};
 ghost use Rattle.pns_rules.specs.Shape.{shape_of};
 ghost use Rattle.pns_rules.specs.Ends.{IsSound, IsDecided};
 ghost use Rattle.pgraph.specs.View.{node_of};
-ghost use Rattle.mixed_numbers.specs.Number.{numerator, denominator};
+ghost use Rattle.exact_numbers.specs.Number.{numerator, denominator};
 ghost use Rattle.scaled_flows.specs.LeastCost.{IsLeastCost};
 ghost use Rattle.certified_bounds.specs.Certified.{IsCertified, IsNetworkAt};
 
@@ -12,7 +12,7 @@ use crate::judged::cost_of_network;
 use crate::lows::exact;
 use crate::proposals::Proposals;
 use branch_tree::Network;
-use mixed_numbers::Mixed;
+use exact_numbers::Mixed;
 use pgraph::Site;
 use std::alloc::{AllocError, Global};
 use unit_sets::Node;

@@ -15,7 +15,7 @@ ghost use Rattle.certified_bounds.specs.Certified.{cost_over};
 
 use flow_program::{bound_of, cost_of, feasible, refutes, sets_of};
 use flow_rules::sums_are_last;
-use mixed_numbers::Mixed;
+use exact_numbers::Mixed;
 use pgraph::{Graph, Site};
 use unit_sets::Node;
 

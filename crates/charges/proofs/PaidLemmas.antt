@@ -18,8 +18,8 @@ use Rattle.flow_program.proofs.WalkLemmas.{IsNext, has_next, passed, rest_within
 use Rattle.charge_rules.specs.Cover as rules
 use Rattle.charge_rules.specs.Cover.{is_beside, paid_by, paid, added, weights}
 use Rattle.charge_rules.specs.ChargeSteps.{added_steps, weight_steps, beside_steps, paid_steps}
-use Rattle.covers.specs.declared.cover.Cover.{Cover}
-use Rattle.covers.specs.View.{cover_of, covers_of}
+use Rattle.pgraph.specs.declared.cover.Cover.{Cover}
+use Rattle.pgraph.specs.CoversView.{cover_of, covers_of}
 use Rattle.charges.specs.Sets.{cover_steps, AreBesideSmall, IsBesideSmall}
 use Rattle.charges.proofs.OwnLemmas.{same_all}
 

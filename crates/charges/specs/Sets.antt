@@ -3,7 +3,7 @@ use Rattle.std.specs.Prelude.{ℕ, ◌<◌, ℤ, ◌+ℤ◌, ◌++◌, List, map
 use Rattle.std.specs.List.{AllByRecursion}
 use Rattle.charge_rules.specs.Cover as rules
 use Rattle.charge_rules.specs.ChargeSteps.{beside_steps}
-use Rattle.covers.specs.declared.cover.Cover.{Cover}
+use Rattle.pgraph.specs.declared.cover.Cover.{Cover}
 
 -- a unit beside a set is below 128
 abbrev pub IsBesideSmall : Cover → Type 0

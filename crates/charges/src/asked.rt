@@ -13,7 +13,7 @@ use crate::products::quick_product;
 use crate::running::Running;
 use crate::useful::{rate_of, use_rate_of};
 use flow_program::PastSum;
-use int_rows::{checked_difference, checked_sum};
+use exact_numbers::{checked_difference, checked_sum};
 use pgraph::Site;
 
 /// What the use of a material is worth, and the rate at which a unit uses it.

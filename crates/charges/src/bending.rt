@@ -11,7 +11,7 @@ ghost use Rattle.charges.specs.Bends.{as_owed, knee, three_steps, knees_in};
 use crate::knees::{Knees, first_knee};
 use crate::products::quick_product;
 use flow_program::PastSum;
-use int_rows::{checked_difference, checked_sum};
+use exact_numbers::{checked_difference, checked_sum};
 
 /// What is left of the cost of a size, and what the unit owes on top of it.
 #[derive(Clone, Copy)]

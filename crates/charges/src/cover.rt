@@ -5,10 +5,10 @@ ghost use Rattle.pns_rules.specs.Structure.{IsBetween};
 ghost use Rattle.pgraph.specs.Tables.{shape};
 ghost use Rattle.pgraph.specs.View.{node_of};
 ghost use Rattle.charge_rules.specs.Cover.{Covers, IsCover, IsFree, is_beside};
-ghost use Rattle.covers.specs.View.{cover_of};
+ghost use Rattle.pgraph.specs.CoversView.{cover_of};
 
-use covers::Cover;
-use max_structure::maximal;
+use pgraph::Cover;
+use structure_list::maximal;
 use pgraph::Graph;
 use unit_sets::{Node, UnitSet};
 

@@ -35,7 +35,7 @@ mod useful;
 
 pub use charge::{Charge, charge_of};
 pub use cover::{covers_node, is_cover, is_free};
-pub use covers::Cover;
+pub use pgraph::Cover;
 pub use facts::{Demand, Facts};
 pub use knees::rounded_up;
 pub use made::makers_most;

@@ -6,13 +6,13 @@ ghost use Rattle.flow_rules.specs.Steps.{AreInRange, IsFirstPast};
 ghost use Rattle.flow_program.specs.Entry.{entry};
 ghost use Rattle.charge_rules.specs.Cover.{added, weights, paid, paid_by};
 ghost use Rattle.charge_rules.specs.ChargeSteps.{added_steps, weight_steps, paid_steps};
-ghost use Rattle.covers.specs.View.{cover_of, covers_of};
+ghost use Rattle.pgraph.specs.CoversView.{cover_of, covers_of};
 ghost use Rattle.charges.specs.Sets.{cover_steps, IsBesideSmall, AreBesideSmall};
 
 use crate::running::Running;
-use covers::Cover;
+use pgraph::Cover;
 use flow_program::PastSum;
-use int_rows::{checked_difference, checked_sum};
+use exact_numbers::{checked_difference, checked_sum};
 use unit_sets::UnitSet;
 
 /// The sum with the weight of a set, if that is about each structure.

@@ -9,7 +9,7 @@ ghost use Rattle.flow_program.specs.Columns.{least_of};
 
 use crate::running::Running;
 use flow_program::PastSum;
-use int_rows::{checked_product, checked_sum};
+use exact_numbers::{checked_product, checked_sum};
 
 /// The product of two short numbers, which is in range.
 fn short_product(a: i64, b: i64) -> i128

@@ -20,7 +20,7 @@ use crate::knees::Knees;
 use crate::products::{quick_product, with_least};
 use crate::running::Running;
 use flow_program::{PastSum, fixed_costs, unit_numbers};
-use int_rows::{checked_difference, checked_sum};
+use exact_numbers::{checked_difference, checked_sum};
 use pns_problem::Problem;
 use unit_sets::{MatSet, Node, UnitSet};
 

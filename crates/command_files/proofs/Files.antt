@@ -8,13 +8,13 @@ use Rattle.text_rules.specs.Fault.{Fault, seen_none, first_fault, first_is_type}
 use Rattle.text_rules.specs.Line.{lines_of, body_of, meant_of}
 use Rattle.text_rules.specs.Outside.{Told, IfTold}
 use Rattle.text_rules.specs.Value.{or_first, meaning_at}
-use Rattle.io_rules.specs.State.{ShelfState}
+use Rattle.text_rules.specs.State.{ShelfState}
 use Rattle.problem_rules.specs.Problem.{Problem}
 use Rattle.studio_rules.specs.Ending.{Tells, Says}
 use Rattle.studio_rules.specs.declared.status.Status.{Status}
 use Rattle.studio_rules.specs.Reading.{AreHeld, FileFaults, GivesProblem, OnFile, OnText, FileSays}
 use Rattle.studio_rules.specs.Reading.{TextSays}
-use Rattle.endings.proofs.Ending.{Says-map, Says-told}
+use Rattle.command_files.proofs.Ending.{Says-map, Says-told}
 
 -- a file that is too long, also if the shelf knows nothing of it
 pub long_file : (held : Told) (limit : ℕ) → IfTold held (λ file. limit < length file)

@@ -1,3 +1,9 @@
-pub mod Files
 pub mod EditCounts
+pub mod Ending
+pub mod EndingsSeconds
+pub mod Files
+pub mod Keeping
+pub mod Names
+pub mod Printing
+pub mod Put
 pub mod Seconds

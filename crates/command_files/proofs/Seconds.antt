@@ -1,14 +1,14 @@
 -- What the commands on a file and a second file say, from what is said of each.
 use Rattle.std.proofs.Common.{◌≡◌, ◌≤◌, ◌⊎◌, ℕ, List, inl, inr, subst, sym}
 use Rattle.text_rules.specs.Outside.{Told}
-use Rattle.io_rules.specs.State.{ShelfState}
+use Rattle.text_rules.specs.State.{ShelfState}
 use Rattle.problem_rules.specs.Problem.{Problem}
 use Rattle.studio_rules.specs.Reading.{AreHeld, LongFile, IsLong, FileFaults, GivesProblem, OnFile}
 use Rattle.studio_rules.specs.Reading.{OnSecond, OnText, TwoFilesSay, TwoTextsSay}
 use Rattle.studio_rules.specs.Ending.{Says}
 use Rattle.studio_rules.specs.declared.status.Status.{Status}
 use Rattle.studio_rules.specs.declared.status.Status.TheVariants.{TooLong}
-use Rattle.endings.proofs.Ending.{Says-map, Says-over}
+use Rattle.command_files.proofs.Ending.{Says-map, Says-over}
 
 -- a file above its limit is one of the faults of its text
 pub long-faults : (fault : List ℕ → Status → List (List ℕ) → Type 0) (old new : ShelfState)

@@ -1,7 +1,7 @@
 -- What is said of a script that the problem does not take, or whose text has a fault.
 use Rattle.std.specs.Prelude.{ℕ, List}
 use Rattle.problem_rules.specs.Problem.{Problem}
-use Rattle.script_rules.specs.declared.EditKind.{EditKind}
+use Rattle.edit_rules.specs.declared.EditKind.{EditKind}
 use Rattle.studio_rules.specs.Script.{HasEditFault}
 use Rattle.text_lines.specs.declared.fault.TextFault.{TextFault}
 use Rattle.text_lines.specs.declared.fault.TextFault.TheVariants.{Memory, At}

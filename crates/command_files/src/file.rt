@@ -4,8 +4,8 @@ ghost use Rattle.studio_rules.specs.Reading.{AreHeld, LongFile};
 ghost use Rattle.studio_rules.specs.Ending.{Ends, Says};
 ghost use Rattle.studio_rules.specs.Keeps.{Keeps};
 
-use endings::say::{say_memory, tell_with};
-use messages::{read_fault, too_long};
+use crate::say::{say_memory, tell_with};
+use studio_words::{read_fault, too_long};
 use pns_io::{Outputs, ReadAllFault, Shelf, Sink, read_all};
 use std::alloc::Global;
 use studio_rules::Status;

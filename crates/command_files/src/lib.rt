@@ -7,16 +7,43 @@
 //!
 //! Modules: `file`, the bytes of a file; `problem_file`, `script_file`, `plan_file` and
 //! `tree_file`.
+//!
+//! How a command ends: with a status, and a text that is put line by line.
+//!
+//! `Ending` of `studio_rules` says which text may be written with a status, and on which output:
+//!
+//! - an answer on standard output;
+//! - the line that says why there is none, on standard error;
+//! - a front of either, if an output failed;
+//! - the first lines of an answer and the line `memory`, if memory ran out.
+//!
+//! The contract of each call that puts lines is in these words.
+//!
+//! Modules: `status`, the numbers of the statuses; `line`, lines of names; `outputs`, bytes on one
+//! of the outputs; `say`, how lines are put.
+//!
+//! The words of causes and refused nodes are exact.
+//!
+//! They say why a claim, a line at the head of a tree, or a node is refused. `RefusalWords` of
+//! `studio_rules` has the word of each cause, and the lines of what is refused. `say_node` and
+//! `tell_node` put the line of a node, `say_head` that of a line of a head.
 #![tactic(auto)]
 
 mod file;
+pub mod line;
+pub mod outputs;
 mod plan_file;
 mod problem_file;
+pub mod say;
 mod script_file;
+mod status;
 mod tree_file;
+mod words;
 
 pub use file::bytes_of;
 pub use plan_file::plan_of;
 pub use problem_file::{plant_of, problem_of};
 pub use script_file::edited_of;
+pub use status::code_of;
 pub use tree_file::{headed_of, say_tree_fault, tree_kind_word, tree_of};
+pub use words::{line_word, say_head, say_node, tell_node, why_word};

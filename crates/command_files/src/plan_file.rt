@@ -9,10 +9,10 @@ ghost use Rattle.studio_rules.specs.Keeps.{Keeps};
 ghost use Rattle.studio_rules.specs.declared.status.Status.TheVariants.{BadPlan};
 
 use crate::file::bytes_of;
-use endings::say::{say_memory, tell};
-use messages::{Format, Source, fault};
+use crate::say::{say_memory, tell};
+use studio_words::{Format, Source, fault};
 use periods::Plan;
-use plan_text::{PlanFault, PlanKind, read_plan};
+use periods::{PlanFault, PlanKind, read_plan};
 use pns_io::{Outputs, Shelf, Sink};
 use pns_problem::Problem;
 use std::alloc::{AllocError, Global};

@@ -9,8 +9,8 @@ ghost use Rattle.studio_rules.specs.Keeps.{Keeps};
 ghost use Rattle.studio_rules.specs.declared.status.Status.TheVariants.{BadProblem};
 
 use crate::file::bytes_of;
-use endings::say::{say_memory, tell};
-use messages::{Format, Source, fault};
+use crate::say::{say_memory, tell};
+use studio_words::{Format, Source, fault};
 use pns_io::{Outputs, Shelf, Sink};
 use pns_problem::Problem;
 use pns_text::{TextFault, read_problem};

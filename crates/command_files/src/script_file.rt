@@ -11,8 +11,8 @@ ghost use Rattle.studio_rules.specs.declared.status.Status.TheVariants.{BadEdit}
 
 use crate::file::bytes_of;
 use edit_scripts::{EditFault, EditKind, Script, read_script};
-use endings::say::{say_memory, tell};
-use messages::{Format, Source, fault};
+use crate::say::{say_memory, tell};
+use studio_words::{Format, Source, fault};
 use pns_edits::apply;
 use pns_io::{Outputs, Shelf, Sink};
 use pns_problem::Problem;

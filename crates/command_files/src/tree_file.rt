@@ -15,8 +15,8 @@ ghost use Rattle.studio_rules.specs.declared.status.Status.TheVariants.{BadTree}
 
 use crate::file::bytes_of;
 use branch_tree::{Claim, Tree};
-use endings::say::{say_memory, tell};
-use messages::{Format, Source, fault};
+use crate::say::{say_memory, tell};
+use studio_words::{Format, Source, fault};
 use pns_io::{Outputs, Shelf, Sink};
 use pns_problem::Problem;
 use std::alloc::{AllocError, Global};

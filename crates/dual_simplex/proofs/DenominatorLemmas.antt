@@ -6,8 +6,8 @@ use Rattle.std.specs.List.{range_with_len}
 use Rattle.std.proofs.lemmas.Int.{ints}
 use Rattle.integer_laws.specs.Lowest.{IsLowest}
 use Rattle.integer_laws.specs.Range.{InRange}
-use Rattle.path_rules.specs.LinearProgram.{LinearProgram}
-use Rattle.path_rules.specs.ReadFlows.{IsLcm, Formed, Lcm, lcms, sizes, rounds}
+use Rattle.flow_rules.specs.LinearProgram.{LinearProgram}
+use Rattle.flow_rules.specs.ReadFlows.{IsLcm, Formed, Lcm, lcms, sizes, rounds}
 use Rattle.dual_simplex.specs.Rows.{Rows, table, basis}
 use Rattle.dual_simplex.specs.Choice.{columns_of}
 use Rattle.dual_simplex.specs.Reading.{Reading, IsFormedTo, IsFirstOut, formed_of, second_round}

@@ -8,7 +8,7 @@ use Rattle.std.proofs.lemmas.Nat.Gcd.{IsGcd-swap}
 use Rattle.integer_laws.proofs.LowestTerms.{gcd_positive}
 use Rattle.integer_laws.specs.Range.{InRange}
 use Rattle.integer_laws.specs.Reduced.{DividesAll, IsRowGcd, IsReduced}
-use Rattle.int_rows.proofs.Division.{IsRowGcd-more, reduced_from_quotients}
+use Rattle.exact_numbers.proofs.Division.{IsRowGcd-more, reduced_from_quotients}
 
 -- the greatest common divisor of the first number and the i after it
 pub record IsSoFar (first : ℤ) (row : List ℤ) (i : ℕ) (common : ℤ) : Type 0 where

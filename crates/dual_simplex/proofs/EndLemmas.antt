@@ -4,16 +4,16 @@ use Rattle.std.proofs.lemmas.List.{take-append-le, take_all, length-take-le}
 use Rattle.integer_laws.specs.Range.{InRange, AllInRange}
 use Rattle.flow_rules.specs.declared.place.Column.{Column}
 use Rattle.flow_rules.specs.Program.{Program}
-use Rattle.path_rules.specs.LinearProgram.{linear_of}
-use Rattle.path_rules.specs.Multipliers.{AreMultipliers, AreRefuting}
+use Rattle.flow_rules.specs.LinearProgram.{linear_of}
+use Rattle.flow_rules.specs.Multipliers.{AreMultipliers, AreRefuting}
 use Rattle.std.proofs.lemmas.Int.{ints}
-use Rattle.path_rules.specs.ReadFlows.{AreRead}
+use Rattle.flow_rules.specs.ReadFlows.{AreRead}
 use Rattle.dual_simplex.specs.Reading.{IsOwnPositive}
-use Rattle.path_rules.specs.Named.{column_named, nonbasic_named}
+use Rattle.flow_rules.specs.Named.{column_named, nonbasic_named}
 use Rattle.dual_simplex.specs.Bench.{IsLeastOf, IsNoneOf, AreFlowsOf}
 use Rattle.std.specs.Prelude.{ℤ, pos, ◌<ℤ◌, ◌≤ℤ◌}
-use Rattle.path_rules.specs.LinearProgram.{LinearProgram}
-use Rattle.path_rules.specs.Columns.{scale_at}
+use Rattle.flow_rules.specs.LinearProgram.{LinearProgram}
+use Rattle.flow_rules.specs.Columns.{scale_at}
 use Rattle.path_laws.proofs.PathLawLemmas.{basis_is_of_columns}
 use Rattle.dual_simplex.specs.Rows.{Rows, table, basis}
 use Rattle.dual_simplex.specs.Choice.{columns_of, scale_of}

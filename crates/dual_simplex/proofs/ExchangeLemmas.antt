@@ -13,12 +13,12 @@ use Rattle.integer_laws.proofs.Ring.{V, ◌⊖◌, ◌⊗◌, ring}
 use Rattle.integer_laws.specs.declared.which.Which.{Which}
 use Rattle.integer_laws.specs.Combined as rows
 use Rattle.integer_laws.specs.Lowest.{IsLowest}
-use Rattle.int_rows.proofs.LowestLemmas.{lowest_same}
-use Rattle.path_rules.specs.LinearProgram.{LinearProgram}
-use Rattle.path_rules.specs.Columns.{Has, exchanged, scale_at}
-use Rattle.path_rules.specs.Tableau.{IsTableau, IsPrimitive}
-use Rattle.path_rules.specs.Pivots.{HasPivot, IsCombined}
-use Rattle.path_rules.specs.Path.{Fits, IsPastEntry}
+use Rattle.exact_numbers.proofs.LowestLemmas.{lowest_same}
+use Rattle.flow_rules.specs.LinearProgram.{LinearProgram}
+use Rattle.flow_rules.specs.Columns.{Has, exchanged, scale_at}
+use Rattle.flow_rules.specs.Tableau.{IsTableau, IsPrimitive}
+use Rattle.flow_rules.specs.Pivots.{HasPivot, IsCombined}
+use Rattle.flow_rules.specs.Path.{Fits, IsPastEntry}
 use Rattle.path_laws.specs.Phases.{IsExchange}
 use Rattle.path_laws.proofs.RowLemmas.{rows_are_combined, rows_are_primitive}
 use Rattle.dual_simplex.specs.Rows.{Rows, width, row_of, table, basis, AreRows}

@@ -5,12 +5,12 @@ use Rattle.std.specs.Prelude.{ℤ, pos, ◌<ℤ◌}
 use Rattle.std.proofs.lemmas.Bool.{cases_eq}
 use Rattle.integer_laws.specs.declared.which.Which.{Which}
 use Rattle.flow_rules.specs.Program.{Program, IsProgram}
-use Rattle.path_rules.specs.LinearProgram.{LinearProgram, linear_of}
-use Rattle.path_rules.specs.Columns.{scale_at, s_at}
-use Rattle.path_rules.specs.Tableau.{IsTableau}
-use Rattle.path_rules.specs.Pivots.{IsFirstKind, first_kind}
-use Rattle.path_rules.specs.Path.{Fits, IsPastEntry, Reaches}
-use Rattle.path_rules.specs.Places.{IsPastPivot, at_first}
+use Rattle.flow_rules.specs.LinearProgram.{LinearProgram, linear_of}
+use Rattle.flow_rules.specs.Columns.{scale_at, s_at}
+use Rattle.flow_rules.specs.Tableau.{IsTableau}
+use Rattle.flow_rules.specs.Pivots.{IsFirstKind, first_kind}
+use Rattle.flow_rules.specs.Path.{Fits, IsPastEntry, Reaches}
+use Rattle.flow_rules.specs.Places.{IsPastPivot, at_first}
 use Rattle.path_laws.specs.Phases.{IsFirstPhase, IsExchange}
 use Rattle.path_laws.proofs.PathLawLemmas.{basis_is_of_columns, first_phase_pivots}
 use Rattle.path_laws.proofs.PathLawLemmas.{first_phase_goes_on, first_phase_ends}

@@ -4,8 +4,8 @@ use Rattle.number_sets.proofs.SetLemmas.{listed-same}
 use Rattle.flow_rules.specs.Net.{net_of, beside}
 use Rattle.flow_rules.specs.Program.{Program, program_of}
 use Rattle.flow_rules.specs.Relaxed.{stays, units}
-use Rattle.path_rules.specs.LinearProgram.{linear_of}
-use Rattle.path_rules.specs.ReadFlows.{AreRead}
+use Rattle.flow_rules.specs.LinearProgram.{linear_of}
+use Rattle.flow_rules.specs.ReadFlows.{AreRead}
 use Rattle.path_laws.proofs.EndLemmas as law
 use Rattle.path_laws.proofs.SplitLemmas as split
 use Rattle.dual_simplex.specs.Rows.{table, basis}

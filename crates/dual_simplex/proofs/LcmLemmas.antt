@@ -12,8 +12,8 @@ use Rattle.std.proofs.Math.Nat.{dvd_of_mul-dvd-mul_left}
 use Rattle.integer_laws.proofs.Coprime.{dvd_of_coprime}
 use Rattle.integer_laws.specs.Lowest.{IsLowest}
 use Rattle.integer_laws.specs.Range.{InRange}
-use Rattle.int_rows.proofs.LowestLemmas.{lowest_coprime, common_positive}
-use Rattle.path_rules.specs.ReadFlows.{IsLcm}
+use Rattle.exact_numbers.proofs.LowestLemmas.{lowest_coprime, common_positive}
+use Rattle.flow_rules.specs.ReadFlows.{IsLcm}
 
 -- g * p and g * q with p and q coprime have the least common multiple g * p * q
 lcm_parts : (g p q : ℕ) → 0 < g → IsGcd p q 1 → IsLcm (g * p) (g * q) (g * p * q)

@@ -9,14 +9,14 @@ use Rattle.flow_rules.specs.declared.place.Place.TheVariants as places
 use Rattle.flow_rules.specs.Net.{Net}
 use Rattle.flow_rules.specs.Program.{Program, program_of}
 use Rattle.flow_rules.specs.Steps.{IsFirstPast}
-use Rattle.path_rules.specs.LinearProgram.{LinearProgram}
-use Rattle.path_rules.specs.Columns.{Basis}
-use Rattle.path_rules.specs.ReadFlows.{Formed, FlowStep, Lcm, lcms, sizes, rounds, formed}
-use Rattle.path_rules.specs.ReadFlows.{IsPastFlow}
-use Rattle.path_rules.specs.Places as path
+use Rattle.flow_rules.specs.LinearProgram.{LinearProgram}
+use Rattle.flow_rules.specs.Columns.{Basis}
+use Rattle.flow_rules.specs.ReadFlows.{Formed, FlowStep, Lcm, lcms, sizes, rounds, formed}
+use Rattle.flow_rules.specs.ReadFlows.{IsPastFlow}
+use Rattle.flow_rules.specs.Places as path
 use Rattle.dual_simplex.specs.Rows.{table, basis}
 use Rattle.dual_simplex.specs.Bench.{Bench, IsLeastOf, IsNoneOf, AreFlowsOf}
-use Rattle.path_rules.specs.Named.{place_named}
+use Rattle.flow_rules.specs.Named.{place_named}
 use Rattle.dual_simplex.specs.PastPlace.{IsPastOf, IsPastFlowOf}
 use Rattle.dual_simplex.specs.PastLaws.{IsPastHere, EntryIsPast, FlowIsPast, BoundIsPast}
 use Rattle.dual_simplex.specs.PastLaws.{RefutationIsPast, CostIsPast, BalanceIsPast}

@@ -4,7 +4,7 @@ use Rattle.std.specs.Prelude.{ℤ, pos, negsuc, ◌+ℤ◌, ◌*ℤ◌, ◌<ℤ�
 use Rattle.std.proofs.lemmas.Int.{ints}
 use Rattle.std.proofs.Math.Nat.{div-le_of_le-mul, mul-le-mul}
 use Rattle.integer_laws.proofs.Ring.{V, ◌⊕◌, ◌⊗◌, read_equal, read_le}
-use Rattle.path_rules.specs.Rank.{digit, power, rank, IsWithin}
+use Rattle.flow_rules.specs.Rank.{digit, power, rank, IsWithin}
 use Rattle.path_laws.proofs.RankLemmas.{number_below}
 
 abs_of : (z : ℤ) → pos 0 ≤ℤ z → pos (unsigned_abs z) ≡ z

@@ -6,7 +6,7 @@ use Rattle.std.specs.declared.cmp.Ordering.TheVariants.{Equal}
 use Rattle.integer_laws.proofs.Order.{mul_pos, int_cmp-mul}
 use Rattle.integer_laws.proofs.Ring.{V, ◌⊗◌, ring}
 use Rattle.integer_laws.specs.Lowest.{IsLowest}
-use Rattle.int_rows.proofs.LowestLemmas.{common_positive}
+use Rattle.exact_numbers.proofs.LowestLemmas.{common_positive}
 use Rattle.path_laws.proofs.VectorLemmas.{gain-basic}
 use Rattle.dual_simplex.specs.Rows.{Rows, table, basis}
 use Rattle.dual_simplex.specs.Choice.{scale_of}

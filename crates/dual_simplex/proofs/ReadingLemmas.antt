@@ -8,9 +8,9 @@ use Rattle.std.proofs.lemmas.Nat.Gcd.{IsGcd-from_zero, IsGcd-from_mod, dvd-zero,
 use Rattle.integer_laws.proofs.LowestTerms.{gcd_positive}
 use Rattle.integer_laws.proofs.Order.{sign_cases}
 use Rattle.integer_laws.specs.Lowest.{IsLowest}
-use Rattle.int_rows.proofs.Division.{quotient_exact}
-use Rattle.path_rules.specs.LinearProgram.{LinearProgram}
-use Rattle.path_rules.specs.ReadFlows.{IsLcm}
+use Rattle.exact_numbers.proofs.Division.{quotient_exact}
+use Rattle.flow_rules.specs.LinearProgram.{LinearProgram}
+use Rattle.flow_rules.specs.ReadFlows.{IsLcm}
 use Rattle.dual_simplex.specs.Rows.{Rows, table, basis}
 use Rattle.dual_simplex.specs.Choice.{IsOfSize, columns_of}
 use Rattle.dual_simplex.specs.Reading.{Reading, IsOwnPositive}

@@ -4,9 +4,9 @@ use Rattle.std.proofs.Common.{false, cond, arith, refl, sym, ap, ◌∙◌, subs
 use Rattle.std.proofs.Common.{set}
 use Rattle.std.specs.Prelude.{ℤ, pos, nat_lt, nat_eq, nat_le}
 use Rattle.std.proofs.lemmas.Bool.Decides.{eqb_tells, leb_tells}
-use Rattle.path_rules.specs.LinearProgram.{LinearProgram}
-use Rattle.path_rules.specs.Columns.{Has, x_at, s_at, t_at, w_at, right_at, scale_at, start}
-use Rattle.path_rules.specs.Start.{one_at, IsStart}
+use Rattle.flow_rules.specs.LinearProgram.{LinearProgram}
+use Rattle.flow_rules.specs.Columns.{Has, x_at, s_at, t_at, w_at, right_at, scale_at, start}
+use Rattle.flow_rules.specs.Start.{one_at, IsStart}
 use Rattle.path_laws.proofs.StartTableauLemmas.{start_rows, x_entry, right_entry, start_exists}
 use Rattle.path_laws.proofs.StartBasisLemmas.{start-has}
 use Rattle.std.specs.List.{AllWithin}

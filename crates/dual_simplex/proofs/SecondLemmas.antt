@@ -9,13 +9,13 @@ use Rattle.std.proofs.Math.ListN.{get_or-map}
 use Rattle.path_laws.proofs.BoolLemmas.{bool_cases}
 use Rattle.integer_laws.specs.declared.which.Which.{Which}
 use Rattle.integer_laws.specs.Range.{InRange, AllInRange}
-use Rattle.path_rules.specs.LinearProgram.{LinearProgram}
-use Rattle.path_rules.specs.Columns.{Has, columns, right_at, scale_at}
-use Rattle.path_rules.specs.Vectors.{value_top, value_bottom}
-use Rattle.path_rules.specs.Rank.{IsWithin}
-use Rattle.path_rules.specs.Pivots.{IsLeaving, IsEntering, second_kind}
-use Rattle.path_rules.specs.Path.{IsPastEntry}
-use Rattle.path_rules.specs.Places.{at_second}
+use Rattle.flow_rules.specs.LinearProgram.{LinearProgram}
+use Rattle.flow_rules.specs.Columns.{Has, columns, right_at, scale_at}
+use Rattle.flow_rules.specs.Vectors.{value_top, value_bottom}
+use Rattle.flow_rules.specs.Rank.{IsWithin}
+use Rattle.flow_rules.specs.Pivots.{IsLeaving, IsEntering, second_kind}
+use Rattle.flow_rules.specs.Path.{IsPastEntry}
+use Rattle.flow_rules.specs.Places.{at_second}
 use Rattle.path_laws.specs.Phases.{IsExchange}
 use Rattle.path_laws.proofs.PathLawLemmas.{basis_is_of_columns, exchange_goes_on}
 use Rattle.path_laws.proofs.PathLawLemmas.{costs_are_not_negative, vectors_keep_rising}

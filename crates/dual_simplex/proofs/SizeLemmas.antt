@@ -12,9 +12,9 @@ use Rattle.std.proofs.lemmas.List.{get_or_default}
 use Rattle.std.proofs.lemmas.List.FromFn.{fill_by_all}
 use Rattle.integer_laws.proofs.Ring.{V, N, ◌⊗◌, ring}
 use Rattle.flow_rules.specs.Steps.{AreInRange}
-use Rattle.path_rules.specs.LinearProgram.{LinearProgram}
-use Rattle.path_rules.specs.ReadFlows.{Formed, FlowStep, Shift, Scaled, Total, sizes, rounds, size}
-use Rattle.path_rules.specs.ReadFlows.{size_above, AreRead, IsPastFlow}
+use Rattle.flow_rules.specs.LinearProgram.{LinearProgram}
+use Rattle.flow_rules.specs.ReadFlows.{Formed, FlowStep, Shift, Scaled, Total, sizes, rounds, size}
+use Rattle.flow_rules.specs.ReadFlows.{size_above, AreRead, IsPastFlow}
 use Rattle.dual_simplex.specs.Rows.{Rows, table, basis}
 use Rattle.dual_simplex.specs.Choice.{columns_of}
 use Rattle.dual_simplex.specs.Reading.{Reading, IsOwnPositive, IsFormedTo, IsFirstOut, formed_of}

@@ -1,10 +1,10 @@
 -- The start of the path.
 use Rattle.std.proofs.Common.{◌≡◌, ℕ, sym, ◌∙◌, arith}
 use Rattle.std.specs.Prelude.{ℤ}
-use Rattle.path_rules.specs.LinearProgram.{LinearProgram}
-use Rattle.path_rules.specs.Columns.{Basis, start, s_at, t_at, w_at, x_at}
-use Rattle.path_rules.specs.Tableau.{IsTableau}
-use Rattle.path_rules.specs.Start.{IsStart}
+use Rattle.flow_rules.specs.LinearProgram.{LinearProgram}
+use Rattle.flow_rules.specs.Columns.{Basis, start, s_at, t_at, w_at, x_at}
+use Rattle.flow_rules.specs.Tableau.{IsTableau}
+use Rattle.flow_rules.specs.Start.{IsStart}
 use Rattle.path_laws.specs.Phases.{IsFirstPhase, IsOut}
 use Rattle.path_laws.proofs.PathLawLemmas.{start_is_first_phase}
 use Rattle.path_laws.proofs.TableauLawLemmas.{start_is_tableau}

@@ -9,10 +9,10 @@ use Rattle.std.proofs.lemmas.Nat.Gcd.{dvd_trans, dvd_refl, dvd_antisymm}
 use Rattle.std.proofs.lemmas.Bool.Decides.{eqb_tells}
 use Rattle.integer_laws.proofs.Coprime.{one_divides}
 use Rattle.integer_laws.specs.Lowest.{IsLowest}
-use Rattle.int_rows.proofs.LowestLemmas.{lowest_same}
-use Rattle.path_rules.specs.LinearProgram.{LinearProgram}
-use Rattle.path_rules.specs.Columns.{right_at}
-use Rattle.path_rules.specs.ReadFlows.{IsLcm}
+use Rattle.exact_numbers.proofs.LowestLemmas.{lowest_same}
+use Rattle.flow_rules.specs.LinearProgram.{LinearProgram}
+use Rattle.flow_rules.specs.Columns.{right_at}
+use Rattle.flow_rules.specs.ReadFlows.{IsLcm}
 use Rattle.dual_simplex.specs.Rows.{Rows, table, basis}
 use Rattle.dual_simplex.specs.Choice.{IsOfSize, columns_of}
 use Rattle.dual_simplex.specs.Reading.{Reading}

@@ -3,7 +3,7 @@ use Rattle.std.specs.Prelude.{◌≡◌, ◌≢◌, ◌⊎◌, ◌<◌, ℕ, tru
 use Rattle.std.specs.Prelude.{map, slice_index_or}
 use Rattle.integer_laws.specs.declared.which.Which.{Which}
 use Rattle.integer_laws.specs.Combined.{IsCombined, IsPastEntry}
-use Rattle.path_rules.specs.Columns.{exchanged}
+use Rattle.flow_rules.specs.Columns.{exchanged}
 use Rattle.dual_simplex.specs.Rows.{Rows, width, row_at, row_of, basis}
 
 -- a row with entry 0 at e stays, and another is combined with the pivot row so that its entry there

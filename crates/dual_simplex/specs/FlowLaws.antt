@@ -8,7 +8,7 @@ use Rattle.flow_rules.specs.Net.{Net, net_of, beside, units_of}
 use Rattle.flow_rules.specs.Flows.{IsFlows, cost}
 use Rattle.flow_rules.specs.Program.{Program, program_of}
 use Rattle.flow_rules.specs.Relaxed.{IsRelaxed, relaxed_cost, bound, units, rows}
-use Rattle.path_rules.specs.Places.{IsDecided}
+use Rattle.flow_rules.specs.Places.{IsDecided}
 use Rattle.path_laws.specs.Ends.{IsSplit}
 use Rattle.dual_simplex.specs.Bench.{Bench, IsLeastOf, AreFlowsOf}
 

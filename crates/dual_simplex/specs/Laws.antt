@@ -9,8 +9,8 @@ use Rattle.flow_rules.specs.Net.{net_of, beside}
 use Rattle.flow_rules.specs.Program.{Program, program_of}
 use Rattle.flow_rules.specs.Relaxed.{IsRelaxed, relaxed_cost, bound, Refutes, rows}
 use Rattle.integer_laws.specs.declared.which.Which.{Which}
-use Rattle.path_rules.specs.LinearProgram.{LinearProgram}
-use Rattle.path_rules.specs.Path.{IsLast}
+use Rattle.flow_rules.specs.LinearProgram.{LinearProgram}
+use Rattle.flow_rules.specs.Path.{IsLast}
 use Rattle.dual_simplex.specs.Rows.{Rows, basis}
 use Rattle.dual_simplex.specs.Walk.{EndsFeasible, EndsRefuting, EndsPast}
 use Rattle.dual_simplex.specs.Bench.{Bench, IsLeastOf, IsNoneOf}

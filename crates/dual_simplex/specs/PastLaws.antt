@@ -12,10 +12,10 @@ use Rattle.flow_rules.specs.Steps.{IsFirstPast}
 use Rattle.flow_rules.specs.BoundSteps.{bound_steps}
 use Rattle.flow_rules.specs.CostSteps.{cost_steps}
 use Rattle.flow_rules.specs.FeasibleSteps.{feasible_steps}
-use Rattle.path_rules.specs.Places.{IsDecided}
+use Rattle.flow_rules.specs.Places.{IsDecided}
 use Rattle.dual_simplex.specs.Bench.{Bench, IsLeastOf, IsNoneOf, AreFlowsOf}
 use Rattle.dual_simplex.specs.PastPlace.{IsPastOf, IsPastFlowOf}
-use Rattle.path_rules.specs.PastPlace.{IsPastNamed}
+use Rattle.flow_rules.specs.PastPlace.{IsPastNamed}
 
 -- the number at the place overflows at the basis that is kept
 abbrev pub IsPastHere : Net → Node → Bench → Place → Type 0

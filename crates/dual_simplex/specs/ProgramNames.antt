@@ -8,9 +8,9 @@ use Rattle.flow_rules.specs.declared.place.Column.TheVariants.{X, S, T, W, Right
 use Rattle.flow_rules.specs.declared.place.Place.{Place}
 use Rattle.flow_rules.specs.declared.place.Place.TheVariants as places
 use Rattle.flow_rules.specs.Program.{Program}
-use Rattle.path_rules.specs.Columns.{Basis}
+use Rattle.flow_rules.specs.Columns.{Basis}
 use Rattle.dual_simplex.specs.Bench.{Bench, IsNoneOf}
-use Rattle.path_rules.specs.Named.{column_named, nonbasic_named}
+use Rattle.flow_rules.specs.Named.{column_named, nonbasic_named}
 use Rattle.dual_simplex.specs.PastPlace.{IsPastOf, IsPastFlowOf}
 
 abbrev pub IsColumnOf : Program → Column → Type 0

@@ -4,7 +4,7 @@ use Rattle.std.specs.Prelude.{◌≡◌, ℕ, suc, ◌+◌, ◌*◌, ◌≤◌, 
 use Rattle.std.specs.Prelude.{slice_index_or}
 use Rattle.std.specs.List.{slice_range}
 use Rattle.integer_laws.specs.Range.{AllInRange}
-use Rattle.path_rules.specs.Columns.{Basis}
+use Rattle.flow_rules.specs.Columns.{Basis}
 
 pub record Rows : Type 0 where
   -- of the program

@@ -1,7 +1,7 @@
 -- The numbers that are formed for a unit, by the names that `flow_rules` has for them.
 use Rattle.flow_rules.specs.declared.place.FlowStep.{FlowStep}
 use Rattle.flow_rules.specs.declared.place.FlowStep.TheVariants.{Lcm, Shift, Scaled, Total}
-use Rattle.path_rules.specs.ReadFlows as rules
+use Rattle.flow_rules.specs.ReadFlows as rules
 
 abbrev pub step_of : FlowStep → rules.FlowStep
 step_of Lcm = rules.Lcm

@@ -4,7 +4,7 @@ ghost use Rattle.std.specs.Int.{◌∣◌};
 ghost use Rattle.integer_laws.specs.Range.{InRange, AllInRange};
 ghost use Rattle.integer_laws.specs.Reduced.{DividesAll, IsRowGcd, IsReduced};
 
-use int_rows::gcd;
+use exact_numbers::gcd;
 
 /// The number divided by a divisor of it that is above 0.
 pub(crate) fn quotient(number: i128, divisor: i128) -> i128

@@ -2,16 +2,16 @@
 ghost use Rattle.std.specs.Prelude.{◌≡◌, ◌<◌, ◌+◌, ℕ, pos, ◌-ℤ◌, ◌<ℤ◌, ◌≤ℤ◌, length};
 ghost use Rattle.std.specs.Prelude.{slice_index_or};
 ghost use Rattle.integer_laws.specs.Range.{InRange, AllInRange};
-ghost use Rattle.path_rules.specs.Columns.{scale_at};
-ghost use Rattle.path_rules.specs.LinearProgram.{LinearProgram};
-ghost use Rattle.path_rules.specs.Multipliers.{AreMultipliers, AreRefuting};
+ghost use Rattle.flow_rules.specs.Columns.{scale_at};
+ghost use Rattle.flow_rules.specs.LinearProgram.{LinearProgram};
+ghost use Rattle.flow_rules.specs.Multipliers.{AreMultipliers, AreRefuting};
 ghost use Rattle.dual_simplex.specs.Rows.{width, table};
 ghost use Rattle.dual_simplex.specs.Choice.{IsOfSize, columns_of, scale_of};
 ghost use Rattle.dual_simplex.specs.Dual.{multiplier_of, IsNotNegative};
 
 use crate::division::reduce;
 use crate::rows::Rows;
-use int_rows::primitive;
+use exact_numbers::primitive;
 
 /// The difference of two numbers that are not below 0.
 fn difference(left: i128, right: i128) -> i128

@@ -4,8 +4,8 @@ ghost use Rattle.std.specs.Prelude.{IfOk, OnOk};
 ghost use Rattle.std.specs.Option.{SomeIff};
 ghost use Rattle.integer_laws.specs.Range.{InRange, AllInRange};
 ghost use Rattle.flow_rules.specs.Steps.{AreInRange};
-ghost use Rattle.path_rules.specs.LinearProgram.{LinearProgram, linear_of};
-ghost use Rattle.path_rules.specs.ReadFlows.{size, size_above};
+ghost use Rattle.flow_rules.specs.LinearProgram.{LinearProgram, linear_of};
+ghost use Rattle.flow_rules.specs.ReadFlows.{size, size_above};
 ghost use Rattle.dual_simplex.specs.Choice.{IsOfSize};
 ghost use Rattle.dual_simplex.specs.Reading.{IsOwnPositive, Reading, IsFirstOut, formed_of};
 ghost use Rattle.dual_simplex.specs.Reading.{size_steps, second_round};
@@ -16,7 +16,7 @@ use crate::past_flow::PastFlow;
 use crate::rows::Rows;
 use flow_program::Program;
 use flow_rules::FlowStep;
-use int_rows::{checked_product, checked_sum, lowest_terms};
+use exact_numbers::{checked_product, checked_sum, lowest_terms};
 
 /// The size of a unit above its least, over the common denominator; `None` exactly if it is out of
 /// range.

@@ -8,8 +8,8 @@ ghost use Rattle.dual_simplex.specs.Candidates.{vector, ComesBefore};
 
 use crate::candidates::{Candidate, negated};
 use crate::rows::Rows;
-use frac128::Frac;
-use int_rows::checked_product;
+use exact_numbers::Frac;
+use exact_numbers::checked_product;
 use path_laws::columns_are_ordered;
 use std::cmp::Ordering;
 

@@ -5,7 +5,7 @@ ghost use Rattle.integer_laws.specs.Range.{AllInRange};
 ghost use Rattle.dual_simplex.specs.Rows.{row_at};
 ghost use Rattle.dual_simplex.specs.Exchange.{IsStepped, IsPastStep, AreStepped, IsPastAmong};
 
-use int_rows::{PastEntry, combine};
+use exact_numbers::{PastEntry, combine};
 use integer_laws::Which;
 
 /// The first number out of range among the rows of a basis, in the order of their columns: at place

@@ -1,8 +1,8 @@
 //! The walk of the path, from pivot to pivot.
 ghost use Rattle.std.specs.Prelude.{◌≡◌, ◌<◌, ◌≤◌, ◌+◌, ◌-◌, ℕ, pos, suc, true, false, length};
 ghost use Rattle.std.specs.Prelude.{IsTrue, ◌<ℤ◌, ◌≤ℤ◌, OnOk, IfOk, IfErr, IfSome, IfNone};
-ghost use Rattle.path_rules.specs.LinearProgram.{linear_of};
-ghost use Rattle.path_rules.specs.Pivots.{IsLeaving, IsEntering};
+ghost use Rattle.flow_rules.specs.LinearProgram.{linear_of};
+ghost use Rattle.flow_rules.specs.Pivots.{IsLeaving, IsEntering};
 ghost use Rattle.dual_simplex.specs.Rows.{table, basis};
 ghost use Rattle.dual_simplex.specs.Choice.{IsOfSize, scale_of};
 ghost use Rattle.dual_simplex.specs.Walk.{IsInFirst, IsInSecond, EndsFeasible, EndsRefuting};

@@ -16,20 +16,20 @@ use Rattle.edit_rules.specs.Edit.{NamedTerm, Edit, price, bounds, kind, capacity
 use Rattle.edit_rules.specs.Edit.{rename_material, rename_unit, add_material, remove_material}
 use Rattle.edit_rules.specs.Edit.{add_unit, remove_unit, exclude, unexclude, investment, payout}
 use Rattle.edit_rules.specs.Formed.{IsName, IsPlace, IsFormed, script_of, lines_from}
-use Rattle.script_rules.specs.declared.EditKind.{EditKind}
-use Rattle.script_rules.specs.declared.EditKind.TheVariants as kinds
-use Rattle.script_rules.specs.declared.Word.{Word}
-use Rattle.script_rules.specs.declared.Word.TheVariants as words
-use Rattle.script_rules.specs.Fault.{place_of, years_of, place_fault, name_fault, kind_fault}
-use Rattle.script_rules.specs.Fault.{amount_fault, bound_fault, years_fault, names_fault}
-use Rattle.script_rules.specs.Fault.{members_fault}
-use Rattle.script_rules.specs.Line.{file_type, is_space, tokens_of, word_text, word_named}
-use Rattle.script_rules.specs.Printed.{word_of, fields_of, edit_tokens, edit_line, side_tokens}
-use Rattle.script_rules.specs.Printed.{script_text}
-use Rattle.script_rules.specs.Read.{told, judged, edit_by, fields_read, worded_read, tokens_read}
-use Rattle.script_rules.specs.Read.{line_read, with_line, lines_read, text_read, read_script}
-use Rattle.script_rules.specs.Read.{with_sides}
-use Rattle.script_rules.specs.Term.{Pair, terms_fault, sides_fault, term_read}
+use Rattle.edit_rules.specs.declared.EditKind.{EditKind}
+use Rattle.edit_rules.specs.declared.EditKind.TheVariants as kinds
+use Rattle.edit_rules.specs.declared.Word.{Word}
+use Rattle.edit_rules.specs.declared.Word.TheVariants as words
+use Rattle.edit_rules.specs.ScriptFault.{place_of, years_of, place_fault, name_fault, kind_fault}
+use Rattle.edit_rules.specs.ScriptFault.{amount_fault, bound_fault, years_fault, names_fault}
+use Rattle.edit_rules.specs.ScriptFault.{members_fault}
+use Rattle.edit_rules.specs.Line.{file_type, is_space, tokens_of, word_text, word_named}
+use Rattle.edit_rules.specs.Printed.{word_of, fields_of, edit_tokens, edit_line, side_tokens}
+use Rattle.edit_rules.specs.Printed.{script_text}
+use Rattle.edit_rules.specs.Read.{told, judged, edit_by, fields_read, worded_read, tokens_read}
+use Rattle.edit_rules.specs.Read.{line_read, with_line, lines_read, text_read, read_script}
+use Rattle.edit_rules.specs.Read.{with_sides}
+use Rattle.edit_rules.specs.Term.{Pair, terms_fault, sides_fault, term_read}
 use Rattle.edit_laws.proofs.ScriptLines.{IsLine, lines_back}
 use Rattle.edit_laws.proofs.SidesRead.{pair_at, sides_back, terms_back, terms_clear, sides_clear}
 use Rattle.edit_laws.proofs.SidesRead.{side_each}

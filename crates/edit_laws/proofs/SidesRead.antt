@@ -14,13 +14,13 @@ use Rattle.text_laws.proofs.Cuts.{split_at, split_none, joined_none, split_joine
 use Rattle.text_laws.proofs.Each.{each-append, each-to, none_from_each}
 use Rattle.edit_rules.specs.Edit.{NamedTerm}
 use Rattle.edit_rules.specs.Formed.{IsFormedTerm, IsFormedSide, AreFormedSides, term_names}
-use Rattle.script_rules.specs.declared.EditKind.{EditKind}
-use Rattle.script_rules.specs.declared.EditKind.TheVariants as kinds
-use Rattle.script_rules.specs.Fault.{lesser, name_fault, rate_fault}
-use Rattle.script_rules.specs.Printed.{term_tokens, side_tokens}
-use Rattle.script_rules.specs.Term.{Pair, pair_of, with_pair, pairs_of, both, both_sides, is_arrow}
-use Rattle.script_rules.specs.Term.{sides_of, term_fault, terms_fault, materials_of, are_bad_sides}
-use Rattle.script_rules.specs.Term.{sides_fault, term_read}
+use Rattle.edit_rules.specs.declared.EditKind.{EditKind}
+use Rattle.edit_rules.specs.declared.EditKind.TheVariants as kinds
+use Rattle.edit_rules.specs.ScriptFault.{lesser, name_fault, rate_fault}
+use Rattle.edit_rules.specs.Printed.{term_tokens, side_tokens}
+use Rattle.edit_rules.specs.Term.{Pair, pair_of, with_pair, pairs_of, both, both_sides, is_arrow}
+use Rattle.edit_rules.specs.Term.{sides_of, term_fault, terms_fault, materials_of, are_bad_sides}
+use Rattle.edit_rules.specs.Term.{sides_fault, term_read}
 use Rattle.text_laws.proofs.Words.{IsWord, name_word, amount_word, is_plus, word_no_plus}
 use Rattle.text_laws.proofs.Words.{word_no_arrow, terms_split}
 use Rattle.edit_laws.proofs.Tokens.{IsToken, word_token}

@@ -20,12 +20,12 @@ use Rattle.text_laws.proofs.Digits.{decimal_reads, decimal_whole}
 use Rattle.text_laws.proofs.PrintedAmount.{amounts_read_back}
 use Rattle.text_laws.proofs.Words.{name_word, amount_word}
 use Rattle.edit_rules.specs.Formed.{IsName, IsPlace}
-use Rattle.script_rules.specs.declared.EditKind.{EditKind}
-use Rattle.script_rules.specs.declared.EditKind.TheVariants as kinds
-use Rattle.script_rules.specs.Fault.{least, lesser, some_token, unless, name_fault, kind_fault}
-use Rattle.script_rules.specs.Fault.{amount_fault, bound_fault, rate_fault, any_sign, not_negative}
-use Rattle.script_rules.specs.Fault.{positive, is_whole, whole_within, place_of, place_fault}
-use Rattle.script_rules.specs.Fault.{years_of, years_fault, names_fault}
+use Rattle.edit_rules.specs.declared.EditKind.{EditKind}
+use Rattle.edit_rules.specs.declared.EditKind.TheVariants as kinds
+use Rattle.edit_rules.specs.ScriptFault.{least, lesser, some_token, unless, name_fault, kind_fault}
+use Rattle.edit_rules.specs.ScriptFault.{amount_fault, bound_fault, rate_fault, any_sign, not_negative}
+use Rattle.edit_rules.specs.ScriptFault.{positive, is_whole, whole_within, place_of, place_fault}
+use Rattle.edit_rules.specs.ScriptFault.{years_of, years_fault, names_fault}
 
 -- a token with bytes has no other fault
 some_is : (token : List ℕ) (kind : Option EditKind) → 0 < length token

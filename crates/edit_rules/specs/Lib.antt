@@ -3,7 +3,13 @@ pub mod Effect
 pub mod Fault
 pub mod Formed
 pub mod Inverse
+pub mod Line
+pub mod Meaning
 pub mod Migration
 pub mod Numbering
 pub mod Place
+pub mod Printed
+pub mod Read
 pub mod Script
+pub mod ScriptFault
+pub mod Term

@@ -13,7 +13,7 @@ use Rattle.text_lines.specs.Once.{once}
 use Rattle.text_lines.specs.Terms.{term_view, terms_view}
 use Rattle.text_lines.specs.declared.term.Term.{Term}
 use Rattle.text_lines.proofs.Maps.{maps_more}
-use Rattle.script_rules.specs.Term.{Pair, materials_of, are_bad_sides, term_read}
+use Rattle.edit_rules.specs.Term.{Pair, materials_of, are_bad_sides, term_read}
 
 -- one material more
 pub listed : (terms : List Term) (i : ℕ) (d : Term) (old new : List (Bor (List ℕ)))

@@ -15,12 +15,12 @@ use Rattle.text_rules.specs.Amount.{tens_against, amount_limit, signed, scaled, 
 use Rattle.text_rules.specs.Amount.{amount_of}
 use Rattle.text_rules.specs.Fault.{millionths}
 use Rattle.edit_rules.specs.Formed.{IsName, IsPlace, IsPayout}
-use Rattle.script_rules.specs.declared.EditKind.{EditKind}
-use Rattle.script_rules.specs.declared.EditKind.TheVariants as kinds
-use Rattle.script_rules.specs.Fault.{lesser, least, some_token, unless, name_fault, bound_fault}
-use Rattle.script_rules.specs.Fault.{rate_fault, not_negative, positive, is_whole, whole_within}
-use Rattle.script_rules.specs.Fault.{place_of, years_of, years_fault, names_fault}
-use Rattle.script_rules.specs.Read.{told, judged}
+use Rattle.edit_rules.specs.declared.EditKind.{EditKind}
+use Rattle.edit_rules.specs.declared.EditKind.TheVariants as kinds
+use Rattle.edit_rules.specs.ScriptFault.{lesser, least, some_token, unless, name_fault, bound_fault}
+use Rattle.edit_rules.specs.ScriptFault.{rate_fault, not_negative, positive, is_whole, whole_within}
+use Rattle.edit_rules.specs.ScriptFault.{place_of, years_of, years_fault, names_fault}
+use Rattle.edit_rules.specs.Read.{told, judged}
 
 pub err_not_ok : {A B : Type 0} (fault : B) (value : A)
     → ◌≡◌ {A = Result A B} (Err fault) (Ok value) → ⊥

@@ -3,8 +3,8 @@ use Rattle.std.proofs.Common.{◌≡◌, ℕ, Bool, true, false, not, List, Opti
 use Rattle.std.proofs.Common.{if◌then◌else◌, refl, ap, ◌∙◌}
 use Rattle.problem_rules.specs.Names.{has_double}
 use Rattle.text_lines.specs.Once.{once}
-use Rattle.script_rules.specs.declared.EditKind.TheVariants.{BadMembers}
-use Rattle.script_rules.specs.Fault.{members_fault}
+use Rattle.edit_rules.specs.declared.EditKind.TheVariants.{BadMembers}
+use Rattle.edit_rules.specs.ScriptFault.{members_fault}
 
 told_by : (b : Bool) (names : List (List ℕ))
     → (if is_none (if b then None else Some names) then Some BadMembers else None)

@@ -7,7 +7,7 @@ use Rattle.edit_rules.specs.Edit.{NamedTerm, Edit, price, bounds, kind, capacity
 use Rattle.edit_rules.specs.Edit.{rename_material, rename_unit, add_material, remove_material}
 use Rattle.edit_rules.specs.Edit.{add_unit, remove_unit, exclude, unexclude, investment, payout}
 use Rattle.text_rules.specs.Canonical.{joined}
-use Rattle.script_rules.specs.Printed.{term_tokens, side_tokens, fields_of}
+use Rattle.edit_rules.specs.Printed.{term_tokens, side_tokens, fields_of}
 use Rattle.edit_scripts.specs.Printing.{appended, further_terms, head_of, amounts_of, tail_of}
 
 -- after a word, joined by spaces

@@ -18,22 +18,22 @@ use Rattle.edit_rules.specs.Formed.{IsName, IsFormed, IsFormedTerm, IsFormedSide
 use Rattle.edit_rules.specs.Formed.{AreSignedBounds, AreRising, IsFormedScript, IsPayout}
 use Rattle.edit_rules.specs.Formed.{term_names}
 use Rattle.text_rules.specs.Fault.{millionths}
-use Rattle.script_rules.specs.declared.EditKind.{EditKind}
-use Rattle.script_rules.specs.declared.EditKind.TheVariants as kinds
-use Rattle.script_rules.specs.declared.Word.{Word}
-use Rattle.script_rules.specs.declared.Word.TheVariants as words
+use Rattle.edit_rules.specs.declared.EditKind.{EditKind}
+use Rattle.edit_rules.specs.declared.EditKind.TheVariants as kinds
+use Rattle.edit_rules.specs.declared.Word.{Word}
+use Rattle.edit_rules.specs.declared.Word.TheVariants as words
 use Rattle.text_rules.specs.Value.{kind_of}
-use Rattle.script_rules.specs.Fault.{Fault, place_of, years_of, name_fault, kind_fault}
-use Rattle.script_rules.specs.Fault.{amount_fault, bound_fault, place_fault, years_fault}
-use Rattle.script_rules.specs.Fault.{names_fault, members_fault}
-use Rattle.script_rules.specs.Line.{tokens_of, word_named}
-use Rattle.script_rules.specs.Read.{name_read, names_read, kind_read, amount_read, fixed_read}
-use Rattle.script_rules.specs.Read.{bounds_read, costs_read, years_read, material_read}
-use Rattle.script_rules.specs.Read.{with_sides}
-use Rattle.script_rules.specs.Read.{unit_read, exclusion_read, edit_by, fields_read, worded_read}
-use Rattle.script_rules.specs.Read.{tokens_read, line_read, with_line, lines_read}
-use Rattle.script_rules.specs.Term.{Pair, sides_of, term_fault, terms_fault, sides_fault}
-use Rattle.script_rules.specs.Term.{materials_of, are_bad_sides, term_read}
+use Rattle.edit_rules.specs.ScriptFault.{Fault, place_of, years_of, name_fault, kind_fault}
+use Rattle.edit_rules.specs.ScriptFault.{amount_fault, bound_fault, place_fault, years_fault}
+use Rattle.edit_rules.specs.ScriptFault.{names_fault, members_fault}
+use Rattle.edit_rules.specs.Line.{tokens_of, word_named}
+use Rattle.edit_rules.specs.Read.{name_read, names_read, kind_read, amount_read, fixed_read}
+use Rattle.edit_rules.specs.Read.{bounds_read, costs_read, years_read, material_read}
+use Rattle.edit_rules.specs.Read.{with_sides}
+use Rattle.edit_rules.specs.Read.{unit_read, exclusion_read, edit_by, fields_read, worded_read}
+use Rattle.edit_rules.specs.Read.{tokens_read, line_read, with_line, lines_read}
+use Rattle.edit_rules.specs.Term.{Pair, sides_of, term_fault, terms_fault, sides_fault}
+use Rattle.edit_rules.specs.Term.{materials_of, are_bad_sides, term_read}
 use Rattle.edit_scripts.proofs.Clear.{err_not_ok, ok_same, judged_good, both_clear, not_clear}
 use Rattle.edit_scripts.proofs.Clear.{name_clear, names_clear, range_of, bound_clear, rate_clear}
 use Rattle.edit_scripts.proofs.Clear.{place_clear, years_clear}

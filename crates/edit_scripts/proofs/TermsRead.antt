@@ -8,7 +8,7 @@ use Rattle.text_rules.specs.Term.{sides_read}
 use Rattle.text_rules.specs.Term as rates
 use Rattle.text_lines.specs.Terms.{begins, terms_read, both_read}
 use Rattle.text_lines.proofs.Sides.{term-good, term-bad, sides-two, sides-none}
-use Rattle.script_rules.specs.Term.{Pair, pair_of, with_pair, pairs_of, both, both_sides}
+use Rattle.edit_rules.specs.Term.{Pair, pair_of, with_pair, pairs_of, both, both_sides}
 
 begun : (term : List (List ℕ)) → begins term ≡ pair_of term
 begun [] = refl

@@ -7,14 +7,14 @@ use Rattle.std.specs.Str.{bytes_eq}
 use Rattle.std.proofs.lemmas.List.{take_all}
 use Rattle.std.specs.Borrow.{Bor}
 use Rattle.text_lines.specs.View.{texts}
-use Rattle.script_rules.specs.declared.EditKind.TheVariants.{BadLine}
-use Rattle.script_rules.specs.declared.EditKind.{EditKind}
+use Rattle.edit_rules.specs.declared.EditKind.TheVariants.{BadLine}
+use Rattle.edit_rules.specs.declared.EditKind.{EditKind}
 use Rattle.edit_rules.specs.Edit.{Edit, exclude}
-use Rattle.script_rules.specs.Fault.{least, place_of, place_fault, name_fault, names_fault}
-use Rattle.script_rules.specs.Fault.{members_fault}
-use Rattle.script_rules.specs.Term.{Pair, sides_of}
-use Rattle.script_rules.specs.Read.{told, judged, material_read, with_sides, unit_read}
-use Rattle.script_rules.specs.Read.{exclusion_read}
+use Rattle.edit_rules.specs.ScriptFault.{least, place_of, place_fault, name_fault, names_fault}
+use Rattle.edit_rules.specs.ScriptFault.{members_fault}
+use Rattle.edit_rules.specs.Term.{Pair, sides_of}
+use Rattle.edit_rules.specs.Read.{told, judged, material_read, with_sides, unit_read}
+use Rattle.edit_rules.specs.Read.{exclusion_read}
 
 -- the token at a place, without its address
 abbrev at : List (Bor (List ℕ)) → ℕ → List ℕ

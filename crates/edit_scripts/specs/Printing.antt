@@ -7,7 +7,7 @@ use Rattle.edit_rules.specs.Edit.{rename_material, rename_unit, add_material, re
 use Rattle.edit_rules.specs.Edit.{add_unit, remove_unit, exclude, unexclude, investment, payout}
 use Rattle.text_rules.specs.Canonical.{kind_word}
 use Rattle.text_rules.specs.Printed.{amount_bytes}
-use Rattle.script_rules.specs.Printed.{term_tokens, side_tokens, edit_line, printed}
+use Rattle.edit_rules.specs.Printed.{term_tokens, side_tokens, edit_line, printed}
 
 -- the text with the fields appended
 abbrev pub appended : List ℕ → List (List ℕ) → List ℕ

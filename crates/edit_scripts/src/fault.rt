@@ -1,5 +1,5 @@
 //! Why a script is not read or not applied.
-use script_rules::EditKind;
+use edit_rules::EditKind;
 use text_lines::fault;
 
 /// The first fault of a script, or out of memory.

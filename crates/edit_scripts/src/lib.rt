@@ -26,5 +26,5 @@ pub use fault::{EditFault, LineFault};
 pub use print::print_script;
 pub use read::read_script;
 pub use script::Script;
-pub use script_rules::EditKind;
+pub use edit_rules::EditKind;
 pub use term::NamedTerm;

@@ -14,9 +14,9 @@ use Rattle.charge_rules.specs.Cover as rules
 use Rattle.charge_rules.specs.Cover.{IsCover, IsFree, Covers}
 use Rattle.charge_rules.specs.Leaf.{CoversPass}
 use Rattle.charges.specs.Sets.{AreBesideSmall}
-use Rattle.covers.specs.declared.cover.Cover.{Cover}
-use Rattle.covers.specs.View.{cover_of, covers_of}
-use Rattle.covers.specs.Kept.{IsKept, AreKept}
+use Rattle.pgraph.specs.declared.cover.Cover.{Cover}
+use Rattle.pgraph.specs.CoversView.{cover_of, covers_of}
+use Rattle.pgraph.specs.Kept.{IsKept, AreKept}
 use Rattle.tree_rules.specs.Claim.{CostOver, IsAtLeast}
 use Rattle.tree_rules.specs.Leaf.{Scaled, IsOneEach}
 use Rattle.tree_rules.specs.Known.{KnowsCover, IsUnit}

@@ -13,9 +13,9 @@ use Rattle.pns_rules.specs.Ends.{IsSound, IsDecided}
 use Rattle.pns_rules.specs.Nodes as rules
 use Rattle.pgraph.specs.View.{node_of}
 use Rattle.unit_sets.specs.declared.node.Node.{Node}
-use Rattle.mixed_numbers.specs.declared.number.Mixed.{Mixed}
-use Rattle.mixed_numbers.specs.Number.{numerator, denominator}
-use Rattle.mixed_numbers.specs.OrderLaws.{denominator_positive}
+use Rattle.exact_numbers.specs.declared.number.Mixed.{Mixed}
+use Rattle.exact_numbers.specs.Number.{numerator, denominator}
+use Rattle.exact_numbers.specs.MixedOrderLaws.{denominator_positive}
 use Rattle.tree_rules.specs.Leaf.{Scaled}
 use Rattle.flow_rules.specs.Net.{net_of, beside}
 use Rattle.flow_rules.specs.Flows.{IsFlows, cost}
@@ -30,8 +30,8 @@ use Rattle.tree_rules.specs.Claim.{Network, CostOver}
 use Rattle.dual_simplex.specs.Bench.{Bench, IsLeastOf, AreFlowsOf}
 use Rattle.dual_simplex.specs.Laws.{ScaleIsPositive, BoundIsReached, BoundIsLeast}
 use Rattle.dual_simplex.specs.FlowLaws.{UnitsAreInside, SplitFlowsAreFlows, SplitFlowsAreLeast}
-use Rattle.turn_laws.specs.Values.{IsPositive}
-use Rattle.turn_laws.proofs.GrowLemmas.{leaf_fallen}
+use Rattle.search_tree.specs.Values.{IsPositive}
+use Rattle.search_tree.proofs.GrowLemmas.{leaf_fallen}
 use Rattle.node_evaluation.specs.Evaluated.{cost_over, IsBoundOf, IsNetworkOf, IsWorth}
 use Rattle.node_evaluation.proofs.LookLemmas.{under_value}
 use Rattle.tree_rules.specs.Past.{IsPastAt}

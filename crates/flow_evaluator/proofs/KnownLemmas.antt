@@ -16,7 +16,7 @@ use Rattle.flow_rules.specs.declared.place.Place.TheVariants.{Refute}
 use Rattle.tree_rules.specs.Known.{KnowsColumn, KnowsRow, KnowsPlace}
 use Rattle.dual_simplex.specs.Rows.{basis}
 use Rattle.dual_simplex.specs.Bench.{Bench}
-use Rattle.path_rules.specs.Named.{nonbasic_named}
+use Rattle.flow_rules.specs.Named.{nonbasic_named}
 use Rattle.dual_simplex.specs.ProgramNames.{IsColumnOf, IsRowOf, IsPlaceOf, NonbasicAreOfProgram}
 use Rattle.tree_rules.specs.Claim.{CostOver}
 use Rattle.node_evaluation.specs.Evaluated.{IsEvaluated, IsProof}

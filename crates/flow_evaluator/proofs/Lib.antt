@@ -1,7 +1,13 @@
+pub mod AnswerLemmas
+pub mod CertifiedLemmas
 pub mod ChargingLemmas
+pub mod DecidedLemmas
 pub mod FlowLemmas
 pub mod HandLemmas
 pub mod KnownLemmas
+pub mod LeastLemmas
+pub mod NodeLemmas
 pub mod RoomLemmas
+pub mod StructureKnownLemmas
 pub mod ToldLemmas
 pub mod ValueLemmas

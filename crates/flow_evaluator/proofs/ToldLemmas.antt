@@ -4,9 +4,9 @@ use Rattle.std.proofs.Common.{subst, arith}
 use Rattle.std.proofs.lemmas.Int.{ints}
 use Rattle.problem_rules.specs.Problem.{Problem}
 use Rattle.pns_rules.specs.Nodes.{Node}
-use Rattle.mixed_numbers.specs.declared.number.Mixed.{Mixed}
-use Rattle.mixed_numbers.specs.Number.{numerator, denominator}
-use Rattle.mixed_numbers.specs.OrderLaws.{denominator_positive}
+use Rattle.exact_numbers.specs.declared.number.Mixed.{Mixed}
+use Rattle.exact_numbers.specs.Number.{numerator, denominator}
+use Rattle.exact_numbers.specs.MixedOrderLaws.{denominator_positive}
 use Rattle.flow_rules.specs.Laws.{RelaxedDuality}
 use Rattle.tree_rules.specs.Claim.{Network}
 use Rattle.tree_rules.specs.Costs.{IsNoMore}

@@ -9,7 +9,7 @@ use Rattle.charge_rules.specs.Facts.{own_facts}
 use Rattle.charge_rules.specs.Cover.{Cover}
 use Rattle.charge_rules.specs.Leaf as charges
 use Rattle.charge_rules.specs.Leaf.{Handed, CoverPasses}
-use Rattle.covers.specs.Kept.{IsKept}
+use Rattle.pgraph.specs.Kept.{IsKept}
 use Rattle.tree_rules.specs.Claim.{CostOver, IsAtLeast}
 use Rattle.tree_rules.specs.Leaf.{Scaled, IsOneEach}
 use Rattle.tree_rules.specs.Known.{KnowsCover}

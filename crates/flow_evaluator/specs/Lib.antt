@@ -1,2 +1,4 @@
+pub mod Answers
 pub mod Charging
 pub mod Evaluating
+pub mod Laws

@@ -1,6 +1,6 @@
 //! What the last basis of a node's path gives.
 ghost use Rattle.std.specs.Prelude.{◌≡◌, ◌≤ℤ◌, Bool, true, pos, length, None, IfOk};
-ghost use Rattle.mixed_numbers.specs.Number.{numerator, denominator};
+ghost use Rattle.exact_numbers.specs.Number.{numerator, denominator};
 ghost use Rattle.integer_laws.specs.Range.{InRange, AllInRange};
 ghost use Rattle.pns_rules.specs.Shape.{shape_of};
 ghost use Rattle.pns_rules.specs.Ends.{IsSound, IsDecided};
@@ -11,7 +11,7 @@ ghost use Rattle.flow_rules.specs.Relaxed.{bound};
 ghost use Rattle.tree_rules.specs.Leaf.{IsFormed, multiplier};
 ghost use Rattle.dual_simplex.specs.Bench.{IsLeastOf, IsNoneOf};
 ghost use Rattle.tree_rules.specs.Claim.{CostOver};
-ghost use Rattle.turn_laws.specs.Values.{IsPositive};
+ghost use Rattle.search_tree.specs.Values.{IsPositive};
 ghost use Rattle.node_evaluation.specs.Evaluated.{IsEvaluated, IsWorth, IsProof};
 ghost use Rattle.node_evaluation.specs.declared.evaluator.Evaluation.TheVariants.{Stopped};
 ghost use Rattle.node_evaluation.specs.declared.evaluator.Proof.TheVariants as proofs;
@@ -25,7 +25,7 @@ use dual_simplex::{
 };
 use flow_program::Program;
 use flow_rules::Place;
-use mixed_numbers::Mixed;
+use exact_numbers::Mixed;
 use node_evaluation::{Bound, Evaluation, PastStop, Proof};
 use pgraph::Site;
 use std::alloc::{AllocError, Global};

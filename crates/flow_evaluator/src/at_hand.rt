@@ -8,7 +8,7 @@ ghost use Rattle.pns_rules.specs.Ends.{IsSound};
 ghost use Rattle.pgraph.specs.Tables.{shape};
 ghost use Rattle.pgraph.specs.View.{node_of};
 
-use max_structure::maximal;
+use structure_list::maximal;
 use pgraph::{Graph, Site};
 use pns_problem::OperatingUnit;
 use pns_rules::Verdict;

@@ -8,7 +8,7 @@ ghost use Rattle.pgraph.specs.View.{node_of};
 ghost use Rattle.dual_simplex.specs.Bench.{HasRoom};
 ghost use Rattle.tree_rules.specs.Claim as claims;
 ghost use Rattle.tree_rules.specs.Lean.{MayUndercut};
-ghost use Rattle.turn_laws.specs.Values.{IsPositive};
+ghost use Rattle.search_tree.specs.Values.{IsPositive};
 ghost use Rattle.node_evaluation.specs.Evaluated.{IsEvaluated, IsWorth, IsProof, IsAtHand};
 ghost use Rattle.tree_rules.specs.Past.{IsPastAt};
 ghost use Rattle.flow_evaluator.specs.Evaluating.{IsFor};
@@ -28,7 +28,7 @@ use pgraph::Site;
 use pns_problem::Problem;
 use std::alloc::{AllocError, Global};
 use std::marker::Model;
-use structure_flows::{allowed_is_decided, node_of};
+use crate::{allowed_is_decided, node_of};
 use unit_sets::{Node, UnitSet};
 
 /// Values node after node: by a guess that is judged exactly, and if that finds nothing, by the

@@ -14,14 +14,34 @@
 //! Modules: `evaluator` the evaluator; `told` its answers without a path; `answers` what the last
 //! basis of a path gives; `sums` the sums over what the bench keeps, which may overflow; `at_hand`
 //! a trial structure at a node; `tries` when its flows are tried; `charging` charges.
+//!
+//! A structure's least flows, or a refutation, or what overflows on its path.
+//!
+//! [`flows_of`] gives a [`StructureFlows`] for a solution structure: flows of least cost with
+//! multipliers that prove it, multipliers that refute all flows, or the place at which a number
+//! overflows. [`node_of`] is the node of a set of units.
+//!
+//! `LeastFlows` of `tree_rules` has what least flows are, `specs/Answers` what [`flows_of`]
+//! promises. `specs/Laws` has the contracts of the functions of `laws`: a proof elsewhere calls one
+//! to have its law. Further modules: `nodes` the node of a set of units; `least` the call;
+//! `certified` the flows without a path; `answer` the answers.
 #![tactic(auto)]
 
+mod answer;
 mod answers;
 mod at_hand;
+mod certified;
 mod charging;
 mod evaluator;
+mod laws;
+mod least;
+mod nodes;
 mod sums;
 mod told;
 mod tries;
 
+pub use answer::StructureFlows;
 pub use evaluator::FlowEvaluator;
+pub use laws::{allowed_is_decided, multipliers_prove, node_is_decided};
+pub use least::flows_of;
+pub use nodes::node_of;

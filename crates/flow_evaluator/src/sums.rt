@@ -2,7 +2,7 @@
 ghost use Rattle.std.specs.Prelude.{◌≡◌, pos, true, IfOk, IfErr, OnOk};
 ghost use Rattle.number_sets.specs.Sets.{has};
 ghost use Rattle.integer_laws.specs.Range.{InRange};
-ghost use Rattle.mixed_numbers.specs.Number.{numerator, denominator};
+ghost use Rattle.exact_numbers.specs.Number.{numerator, denominator};
 ghost use Rattle.pns_rules.specs.Shape.{shape_of};
 ghost use Rattle.pns_rules.specs.Ends.{IsSound, IsDecided};
 ghost use Rattle.pgraph.specs.View.{node_of};
@@ -23,7 +23,7 @@ use dual_simplex::{
 };
 use flow_program::{bound_of, cost_of, feasible, refutes};
 use flow_rules::{Place, sums_are_last};
-use mixed_numbers::Mixed;
+use exact_numbers::Mixed;
 use pgraph::Site;
 use unit_sets::Node;
 

@@ -24,7 +24,7 @@ use crate::node_sets::{NodeSets, sets_of};
 use crate::products::quick_product;
 use crate::rates::put_rates;
 use crate::tables::by_material;
-use int_rows::{checked_difference, checked_sum};
+use exact_numbers::{checked_difference, checked_sum};
 use pgraph::Graph;
 use pns_problem::Problem;
 use unit_sets::{MatSet, Node, UnitSet};

@@ -13,7 +13,7 @@ use crate::PastSum;
 use crate::costs::{fixed_cost, size_cost, trillionfold};
 use crate::rates::put_rates;
 use crate::tables::by_unit;
-use int_rows::{checked_product, checked_sum};
+use exact_numbers::{checked_product, checked_sum};
 use pgraph::Graph;
 use pns_problem::Problem;
 use unit_sets::UnitSet;

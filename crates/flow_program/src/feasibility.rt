@@ -20,7 +20,7 @@ ghost use Rattle.flow_program.specs.Feasible.{AreInBoxes, AreInRanges};
 use crate::PastSum;
 use crate::ranges::{Range, range_of};
 use crate::tables::by_unit;
-use int_rows::{checked_product, checked_sum};
+use exact_numbers::{checked_product, checked_sum};
 use pgraph::Graph;
 use pns_problem::{Problem, Term};
 use unit_sets::{MatSet, UnitSet};

@@ -3,7 +3,7 @@ ghost use Rattle.std.specs.Prelude.{◌≡◌, ◌*ℤ◌};
 ghost use Rattle.std.specs.Option.{SomeIff};
 ghost use Rattle.integer_laws.specs.Range.{InRange};
 
-use int_rows::checked_product;
+use exact_numbers::checked_product;
 
 /// The product of two short numbers, which is in range.
 fn short_product(a: i64, b: i64) -> i128

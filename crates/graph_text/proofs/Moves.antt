@@ -17,7 +17,7 @@ use Rattle.flow_rules.specs.Steps.{AreInRange}
 use Rattle.flow_rules.specs.FeasibleSteps.{units_at, balance_steps}
 use Rattle.flow_rules.proofs.ZeroLemmas.{int_eq_other}
 use Rattle.tree_rules.specs.Claim.{Network, IsFeasible, size_in}
-use Rattle.pns_tables.proofs.FlowLemmas.{material_in_range}
+use Rattle.report_amounts.proofs.FlowLemmas.{material_in_range}
 
 -- each product of a balance is one of its steps
 step_in_range : (net : Net) (z : ℕ → ℤ) (j : ℕ) (units : List ℕ) (sum : ℤ) (i : ℕ)

@@ -24,7 +24,7 @@ use crate::picture::Picture;
 use crate::role::{is_built, is_in};
 use branch_tree::Network;
 use pns_problem::{Kind, Term};
-use pns_tables::size_at;
+use report_amounts::size_at;
 use report_amounts::material_of;
 use std::alloc::AllocError;
 

@@ -10,7 +10,7 @@ use branch_tree::Network;
 use flow_program::rate_at;
 use pns_problem::{Problem, Term};
 use pns_rules::valid_is_proper;
-use pns_tables::{moved_at, size_at};
+use report_amounts::{moved_at, size_at};
 
 /// What a unit of the network makes of the material less what it uses of it, in 10^-12 over d.
 pub(crate) fn moved(problem: &Problem, network: &Network, u: u32, j: u32) -> i128

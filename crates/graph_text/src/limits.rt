@@ -11,9 +11,9 @@ ghost use Rattle.report_rules.specs.Report.{bought_or_left, turned_flow};
 ghost use Rattle.report_rules.specs.Drawn.{is_limited, is_unit_limited, is_material_limited};
 
 use branch_tree::Network;
-use int_rows::checked_product;
+use exact_numbers::checked_product;
 use pns_problem::{Kind, Problem};
-use pns_tables::size_at;
+use report_amounts::size_at;
 use report_amounts::{flow_at, material_of, unit_of};
 
 /// Whether z over d is the bound. A product that overflows is not z, which is in range.

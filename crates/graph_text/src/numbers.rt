@@ -10,7 +10,7 @@ ghost use Rattle.report_rules.specs.Drawn.{net_label, width_words};
 ghost use Rattle.report_rules.specs.Graph.{exact, told, cost_text};
 
 use branch_tree::Network;
-use decimals::{push_signed, push_six_digits};
+use report_amounts::{push_signed, push_six_digits};
 use pns_problem::Problem;
 use report_amounts::Number;
 use std::alloc::AllocError;

@@ -8,7 +8,7 @@ use crate::limits::is_unit_limited;
 use crate::picture::Picture;
 use branch_tree::Network;
 use pns_problem::Problem;
-use pns_tables::size_at;
+use report_amounts::size_at;
 use report_rules::Role;
 
 /// Whether the unit is one of the network.

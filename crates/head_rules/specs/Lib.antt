@@ -5,4 +5,5 @@ pub mod Headed
 pub mod Keeps
 pub mod Known
 pub mod Laws
+pub mod Proved
 pub mod Trim

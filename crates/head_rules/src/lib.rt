@@ -10,14 +10,18 @@
 //! `Faults` (the first line that fails, and its cause), `Headed` (trees with a head, when one is
 //! accepted, and what a refusal says of it), `Known` (when the numbers of a line are below the
 //! counts of a problem) and `Laws`. Each law is the contract of a function without a body.
+//!
+//! When a head and a tree prove a claim as a search promises it.
+//!
+//! The definition is in `specs/Proved`, over those of `head_rules` and `tree_rules`.
 #![tactic(auto)]
-
-mod line_why;
-mod refusal;
 
 ghost use Rattle.head_rules.specs.Laws.{ChargedIsEmpty, CheaperIsCharged, CheaperPasses, HeadKeeps};
 ghost use Rattle.head_rules.specs.Laws.{HeadHasFacts, HeadKeepsLeast, PassingHasNoFault};
 ghost use Rattle.head_rules.specs.Laws.{FaultIsOne, ChargedHasNoFault, ChargeFaultIsOne};
+
+mod line_why;
+mod refusal;
 
 pub use line_why::LineWhy;
 pub use refusal::Refusal;

@@ -6,10 +6,10 @@ use Rattle.pns_rules.specs.Nodes.{Node}
 use Rattle.tree_rules.specs.Claim.{Claim}
 use Rattle.tree_rules.specs.Accepted.{Tree}
 use Rattle.tree_rules.specs.Proved.{IsProved}
-use Rattle.capping_laws.specs.Capped.{IsCapped}
-use Rattle.capping_laws.specs.Recharged.{recharged_tree}
-use Rattle.capping_laws.specs.Laws.{CappedClaim, RechargedIsLean, RechargedKnows}
-use Rattle.capping_laws.specs.Laws.{RechargedIsAsLong}
+use Rattle.tree_laws.specs.Capped.{IsCapped}
+use Rattle.tree_laws.specs.Recharged.{recharged_tree}
+use Rattle.tree_laws.specs.CappingLaws.{CappedClaim, RechargedIsLean, RechargedKnows}
+use Rattle.tree_laws.specs.CappingLaws.{RechargedIsAsLong}
 use Rattle.headed_search.specs.Lean.{IsLeanFor}
 
 pub lean_for : CappedClaim → RechargedIsLean → RechargedKnows → RechargedIsAsLong

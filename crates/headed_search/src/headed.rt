@@ -6,19 +6,19 @@ ghost use Rattle.tree_rules.specs.Claim as claims;
 ghost use Rattle.tree_rules.specs.Costs.{CostsEnough};
 ghost use Rattle.head_rules.specs.Headed.{head_node};
 ghost use Rattle.head_rules.specs.Known.{KnowsHead};
-ghost use Rattle.headed_rules.specs.Proved.{IsProvedBy};
+ghost use Rattle.head_rules.specs.Proved.{IsProvedBy};
 ghost use Rattle.headed_search.specs.Lean.{IsLeanFor};
 
 use crate::inner::{Candidate, search_capped};
 use crate::numbers::knows_lines;
 use branch_tree::{Claim, Network, Tree};
 use cert_check::check_headed;
-use frac128::CostOver;
-use head_check::judge_head;
-use head_guess::guess_head;
-use head_lines::Head;
+use exact_numbers::CostOver;
+use cert_check::judge_head;
+use crate::guess_head;
+use branch_tree::Head;
 use pgraph::Site;
-use progress::{Effort, Watch};
+use pns_io::{Effort, Watch};
 use std::alloc::Global;
 use tree_parts::is_sound;
 

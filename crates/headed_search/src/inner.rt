@@ -11,14 +11,14 @@ ghost use Rattle.headed_search.specs.Lean.{IsLeanFor};
 use crate::room::with_room;
 use abb_search::Found;
 use branch_tree::{Claim, Network, Tree};
-use capped_plants::{capped, recharged};
-use capping_laws::{
+use crate::{capped, recharged};
+use tree_laws::{
     capped_claim, capped_shape, recharged_is_lean, recharged_is_tree, recharged_knows,
 };
 use cert_check::check_claim;
-use head_check::Known;
+use cert_check::Known;
 use pgraph::{Graph, Site};
-use progress::{Effort, Watch};
+use pns_io::{Effort, Watch};
 use solver::search_watched;
 use std::alloc::Global;
 use unit_sets::Node;

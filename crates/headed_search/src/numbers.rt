@@ -4,14 +4,14 @@ ghost use Rattle.problem_rules.specs.Each.{Each};
 ghost use Rattle.tree_rules.specs.Known.{IsUnit, IsMaterial, AreUnits, KnowsStep, KnowsCover};
 ghost use Rattle.tree_rules.specs.Known.{KnowsCharge};
 ghost use Rattle.pgraph.specs.View.{step_of};
-ghost use Rattle.covers.specs.View.{cover_of, covers_of};
+ghost use Rattle.pgraph.specs.CoversView.{cover_of, covers_of};
 ghost use Rattle.head_rules.specs.Charged.{handed};
 ghost use Rattle.head_rules.specs.Known.{KnowsLine, KnowsHead};
-ghost use Rattle.head_lines.specs.View.{line_of, lines_of};
+ghost use Rattle.branch_tree.specs.HeadView.{line_of, lines_of};
 
 use branch_tree::Scaled;
-use covers::{Cover, Covers};
-use head_lines::HeadLine;
+use pgraph::{Cover, Covers};
+use branch_tree::HeadLine;
 use pgraph::Site;
 use unit_sets::{Step, UnitSet};
 

@@ -1,2 +1,4 @@
+mod LongDivision
+pub mod Pieces
 mod Places
 mod Values

@@ -5,7 +5,7 @@ use Rattle.std.specs.List.{slice_get}
 use Rattle.std.proofs.lemmas.Option.{slice_get_read}
 use Rattle.problem_rules.specs.Problem.{Problem}
 use Rattle.tree_rules.specs.Claim.{Network}
-use Rattle.json_rules.specs.Ranked.{network_json, network_values}
+use Rattle.report_rules.specs.JsonRanked.{network_json, network_values}
 
 module _ (p : Problem) (first : Network) (place : ℕ) where
   -- the value of the network that is read comes first

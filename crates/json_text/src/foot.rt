@@ -4,14 +4,14 @@ ghost use Rattle.std.specs.Prelude.{length, codes};
 ghost use Rattle.number_sets.specs.Sets.{has};
 ghost use Rattle.pns_problem.specs.Printing.{printed};
 ghost use Rattle.tree_rules.specs.Claim.{IsFeasible};
-ghost use Rattle.json_rules.specs.Json.{with_comma};
-ghost use Rattle.json_rules.specs.Facts as facts;
+ghost use Rattle.report_rules.specs.Json.{with_comma};
+ghost use Rattle.report_rules.specs.Facts as facts;
 ghost use Rattle.report_rules.specs.Amounts.{quotient, unit_sum, cost_sum};
 ghost use Rattle.report_rules.specs.Report.{left_out};
 
 use crate::members::number_member;
 use branch_tree::Network;
-use json_pieces::{Json, push_line, push_with_commas};
+use crate::{Json, push_line, push_with_commas};
 use pgraph::Site;
 use pns_problem::Problem;
 use report_amounts::{Number, cost_sum, unit_sum};

@@ -4,14 +4,14 @@ ghost use Rattle.std.specs.Prelude.{unsigned_abs};
 ghost use Rattle.number_sets.specs.Sets.{has};
 ghost use Rattle.pns_problem.specs.Printing.{printed};
 ghost use Rattle.flow_rules.specs.Net.{net_of, materials_of};
-ghost use Rattle.json_rules.specs.Facts as facts;
+ghost use Rattle.report_rules.specs.Facts as facts;
 
 use crate::members::count_member;
 use branch_tree::Network;
-use json_pieces::{Json, push_line, push_with_commas};
+use crate::{Json, push_line, push_with_commas};
 use pgraph::Site;
 use pns_problem::Problem;
-use pns_tables::materials_in;
+use report_amounts::materials_in;
 use std::alloc::{AllocError, Global};
 
 fn units_in(network: &Network) -> u64

@@ -6,18 +6,32 @@
 //!
 //! Modules: `members`, values under their keys; `head`, `units`, `materials` and `foot`, the parts;
 //! `text`, the whole; `lower`, the lower bound and the gap; `ranking`, the networks of a ranking.
+//!
+//! Pieces of JSON text: strings, numbers, arrays and objects.
+//!
+//! `Json` and `Value` of `json_rules` have their bytes. A number is printed twice: in decimal with
+//! 17 digits, and exactly.
+//!
+//! Modules: `piece`, pieces and what they are made of; `digits`, a fraction rounded to 17 digits;
+//! `value`, its text; `lines`, pieces in lines of their own.
 #![tactic(auto)]
 
+mod digits;
 mod foot;
 mod head;
+mod lines;
 mod lower;
 mod materials;
 mod members;
+mod piece;
 mod ranking;
 mod text;
 mod units;
+mod value;
 
+pub use lines::{push_array, push_comma_lines, push_line, push_with_commas};
 pub use lower::{bound_member, first_gap_member, gap_member, low_member};
 pub use members::{count_member, null_member, text_member};
+pub use piece::Json;
 pub use ranking::{first_of, networks_member};
 pub use text::{bare_of, facts_of};

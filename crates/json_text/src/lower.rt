@@ -4,13 +4,13 @@ ghost use Rattle.std.specs.Prelude.{◌≡◌, pos, IfOk, codes};
 ghost use Rattle.tree_rules.specs.Claim as claims;
 ghost use Rattle.branch_tree.specs.View.{claim_of};
 ghost use Rattle.report_rules.specs.Amounts.{quotient};
-ghost use Rattle.json_rules.specs.Json.{member};
-ghost use Rattle.json_rules.specs.Lower as rules;
+ghost use Rattle.report_rules.specs.Json.{member};
+ghost use Rattle.report_rules.specs.JsonLower as rules;
 ghost use Rattle.report_rules.specs.RankLow.{best_claim};
 
 use crate::foot::year;
 use branch_tree::{Claim, Network};
-use json_pieces::Json;
+use crate::Json;
 use pns_problem::Problem;
 use report_amounts::{Number, gap_above};
 use report_rules::{LowerBound, Verdict};
@@ -59,7 +59,7 @@ pub fn low_member(alloc: Global, problem: &Problem, verdict: Verdict) -> Result<
 }
 
 /// The gap, or `null` if the network costs nothing.
-#[tactic(auto, unfolding(json_rules::specs::Lower::gap_over))]
+#[tactic(auto, unfolding(report_rules::specs::Lower::gap_over))]
 fn gap_over(alloc: Global, network: &Network, low: &LowerBound) -> Result<Json, AllocError>
     ensures { IfOk result (λ json. json ≡ rules.gap_over network.now low.now) }
 {

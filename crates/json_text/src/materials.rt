@@ -6,14 +6,14 @@ ghost use Rattle.problem_rules.specs.Problem.{material_at};
 ghost use Rattle.text_rules.specs.Canonical.{kind_word};
 ghost use Rattle.flow_rules.specs.Net.{net_of, materials_of};
 ghost use Rattle.tree_rules.specs.Claim.{IsFeasible};
-ghost use Rattle.json_rules.specs.Facts as facts;
+ghost use Rattle.report_rules.specs.Facts as facts;
 
 use crate::members::{limit_member, number_member, text_member};
 use branch_tree::Network;
-use json_pieces::{Json, push_array};
+use crate::{Json, push_array};
 use pgraph::Site;
 use pns_problem::Problem;
-use pns_tables::{kind_word, materials_in};
+use report_amounts::{kind_word, materials_in};
 use report_amounts::{Marginals, cost, material_of, net, price, unit_sum};
 use report_rules::UnitAmount;
 use report_tables::material_limit;

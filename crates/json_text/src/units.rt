@@ -2,12 +2,12 @@
 ghost use Rattle.std.specs.Prelude.{◌≡◌, ◌<◌, ◌++◌, ℕ, true, IfOk, OnOk, map, length, codes};
 ghost use Rattle.number_sets.specs.Sets.{has};
 ghost use Rattle.pns_problem.specs.Printing.{printed};
-ghost use Rattle.json_rules.specs.Json.{member};
-ghost use Rattle.json_rules.specs.Facts as facts;
+ghost use Rattle.report_rules.specs.Json.{member};
+ghost use Rattle.report_rules.specs.Facts as facts;
 
 use crate::members::{limit_member, number_member, text_member};
 use branch_tree::Network;
-use json_pieces::{Json, push_array};
+use crate::{Json, push_array};
 use pns_problem::Problem;
 use report_amounts::{Marginals, amount, share_of, size, unit_of};
 use report_rules::UnitAmount;
@@ -15,7 +15,7 @@ use report_tables::{NO_BOUND, unit_limit};
 use std::alloc::{AllocError, Global};
 
 /// The share of the upper bound. It is `null` if that bound is not above 0, or stands for none.
-#[tactic(auto, unfolding(json_rules::specs::Facts::share_json))]
+#[tactic(auto, unfolding(report_rules::specs::Facts::share_json))]
 fn share_json(
     alloc: Global,
     problem: &Problem,

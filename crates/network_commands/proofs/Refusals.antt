@@ -8,7 +8,7 @@ use Rattle.studio_rules.specs.Lines.{line}
 use Rattle.studio_rules.specs.Ending.{Tells, Only, OrMemory}
 use Rattle.studio_rules.specs.declared.status.Status.{Status}
 use Rattle.studio_rules.specs.declared.status.Status.TheVariants.{BadClaim}
-use Rattle.endings.proofs.Ending.{only_or_memory_in, one_line}
+use Rattle.command_files.proofs.Ending.{only_or_memory_in, one_line}
 use Rattle.studio_rules.specs.Network.{IsRefusedFor, ClaimRefusal}
 
 pub refused_for : (p : Problem) (claim : Claim) (why : Why) → ClaimFails false p claim why

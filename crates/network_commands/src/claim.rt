@@ -9,11 +9,11 @@ ghost use Rattle.studio_rules.specs.Network.{ClaimRefusal, ClaimsNetwork};
 
 use branch_tree::{Claim, Network};
 use cert_check::check_claim;
-use endings::say::tell_with;
-use messages::{Notes, no_network, refused};
+use command_files::say::tell_with;
+use studio_words::{Notes, no_network, refused};
 use pgraph::Site;
 use pns_io::{Outputs, Sink};
-use refusal_words::why_word;
+use command_files::why_word;
 use std::alloc::Global;
 use studio_rules::Status;
 use tree_rules::Why;

@@ -12,9 +12,9 @@ ghost use Rattle.studio_rules.specs.Keeps.{Keeps};
 
 use branch_tree::Network;
 use command_files::problem_of;
-use endings::say::{say_memory, say_text};
+use command_files::say::{say_memory, say_text};
 use graph_text::{empty_graph, graph_of};
-use max_structure::maximal;
+use structure_list::maximal;
 use pgraph::{Graph, Site};
 use pns_io::{Outputs, Shelf, Sink};
 use pns_problem::Problem;

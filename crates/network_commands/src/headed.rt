@@ -13,10 +13,10 @@ ghost use Rattle.verdicts.specs.Unjudged.{IsUnjudged, IsUnjudgedIf};
 
 use crate::verdict_lines::{network_text, push_failing, push_proved, verdict_text};
 use branch_tree::{Claim, Tree};
-use head_lines::Head;
+use branch_tree::Head;
 use head_rules::LineWhy;
 use pns_problem::Problem;
-use refusal_words::line_word;
+use command_files::line_word;
 use report_rules::HeadedVerdict;
 use report_tables::Plant;
 use std::alloc::{AllocError, Global};

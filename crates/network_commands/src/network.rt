@@ -12,7 +12,7 @@ use crate::claim::network_of;
 use crate::graph::network_graph;
 use crate::table::tables;
 use branch_tree::{Claim, Network, Tree};
-use endings::say::{say_memory, say_text};
+use command_files::say::{say_memory, say_text};
 use pgraph::{Graph, Site};
 use pns_io::{Outputs, Sink};
 use pns_problem::Problem;

@@ -6,7 +6,7 @@ ghost use Rattle.studio_rules.specs.Ending.{Ends, Tells};
 
 use crate::claim::say_refused;
 use crate::headed::headed_report_text;
-use endings::say::{say_memory, say_text};
+use command_files::say::{say_memory, say_text};
 use pns_io::{Outputs, Sink};
 use report_tables::Plant;
 use std::alloc::Global;

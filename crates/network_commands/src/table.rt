@@ -15,7 +15,7 @@ use command_files::{headed_of, problem_of};
 use pgraph::Site;
 use pns_io::{Outputs, Shelf, Sink};
 use pns_problem::Problem;
-use pns_tables::{material_table, unit_table};
+use report_amounts::{material_table, unit_table};
 use std::alloc::{AllocError, Global};
 use studio_rules::Status;
 use tree_reading::Headed;

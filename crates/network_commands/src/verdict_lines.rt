@@ -15,10 +15,10 @@ ghost use Rattle.studio_rules.specs.Report.{first_line};
 ghost use Rattle.studio_rules.specs.Report.{tables_of, VerdictSays};
 
 use branch_tree::{Claim, Network, Tree};
-use clash_tables::clashes_of;
-use marginals::marginals_of;
+use report_tables::clashes_of;
+use report_amounts::marginals_of;
 use pns_problem::Problem;
-use refusal_words::why_word;
+use command_files::why_word;
 use report_amounts::push_gap;
 use report_rules::{LowerBound, Verdict};
 use report_tables::{Plant, push_low, push_total, report_of};

@@ -9,10 +9,10 @@ use Rattle.tree_rules.specs.Claim.{CostOver, claimed_cost}
 use Rattle.search_tree.specs.Cells.{Cell, place_of, cell_at}
 use Rattle.tree_rules.specs.Lean.{MayUndercut}
 use Rattle.tree_rules.specs.Costs.{HasFallen}
-use Rattle.turn_laws.specs.Values.{IsPositiveCost}
-use Rattle.turn_laws.specs.Turns.{AreChildren}
-use Rattle.turn_laws.proofs.GrowLemmas.{leaf_fallen}
-use Rattle.turn_laws.proofs.OrderLemmas.{may_any}
+use Rattle.search_tree.specs.Values.{IsPositiveCost}
+use Rattle.search_tree.specs.Turns.{AreChildren}
+use Rattle.search_tree.proofs.GrowLemmas.{leaf_fallen}
+use Rattle.search_tree.proofs.OrderLemmas.{may_any}
 use Rattle.node_evaluation.specs.Looks.{cost_of}
 use Rattle.node_evaluation.specs.Children.{claim_with, IsBest, IsImproved}
 use Rattle.node_evaluation.proofs.ChildLemmas.{cost_is}

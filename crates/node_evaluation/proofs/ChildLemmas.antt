@@ -16,7 +16,7 @@ use Rattle.pns_rules.specs.Nodes.{Node}
 use Rattle.pns_rules.specs.Nodes as rules
 use Rattle.pns_rules.specs.Ends.{IsSound, IsReduced, IsDead, IsNever}
 use Rattle.pns_rules.proofs.ProperLemmas.{proper_if_valid}
-use Rattle.mixed_numbers.specs.declared.number.Mixed.{Mixed}
+use Rattle.exact_numbers.specs.declared.number.Mixed.{Mixed}
 use Rattle.tree_rules.specs.Ways.{Way, MayBranch, options_at, child_at, IsDecision}
 use Rattle.tree_rules.specs.Tree.{leaf}
 use Rattle.tree_rules.specs.Claim as claims
@@ -26,17 +26,17 @@ use Rattle.tree_rules.specs.Lean.{MayUndercut, IsNoDearer}
 use Rattle.tree_rules.specs.Known.{AreUnits}
 use Rattle.pgraph.specs.View.{node_of}
 use Rattle.unit_sets.specs.declared.node.Node as places
-use Rattle.search_laws.proofs.ValueLemmas.{ways_are_dearer}
-use Rattle.search_laws.proofs.SoundLemmas.{children_are_sound}
+use Rattle.search_tree.proofs.ValueLemmas.{ways_are_dearer}
+use Rattle.search_tree.proofs.SoundLemmas.{children_are_sound}
 use Rattle.search_tree.specs.Cells.{Cell, no_cell, place_of, cell_at}
 use Rattle.search_tree.specs.Growth.{EndsOpen}
 use Rattle.search_tree.specs.Fits.{Follows}
 use Rattle.search_tree.specs.declared.growth.Fresh.{Fresh}
 use Rattle.tree_rules.specs.Costs.{HasFallen}
-use Rattle.turn_laws.specs.Values.{IsPositiveCost}
-use Rattle.turn_laws.specs.Turns.{IsFreshChild}
-use Rattle.turn_laws.proofs.GrowLemmas.{leaf_fallen}
-use Rattle.turn_laws.proofs.OrderLemmas.{reached_dearer, reached_may_undercut, may_any}
+use Rattle.search_tree.specs.Values.{IsPositiveCost}
+use Rattle.search_tree.specs.Turns.{IsFreshChild}
+use Rattle.search_tree.proofs.GrowLemmas.{leaf_fallen}
+use Rattle.search_tree.proofs.OrderLemmas.{reached_dearer, reached_may_undercut, may_any}
 use Rattle.node_evaluation.specs.declared.evaluator.PastStop.{PastStop}
 use Rattle.node_evaluation.specs.declared.looks.Ready.{Ready}
 use Rattle.node_evaluation.specs.declared.looks.Looked.{Looked}

@@ -10,9 +10,9 @@ use Rattle.tree_rules.specs.Ways.{width, MayBranch, IsDecision, options_at}
 use Rattle.tree_rules.specs.Tree.{branch}
 use Rattle.tree_rules.specs.Stops.{IsNextCount}
 use Rattle.tree_rules.specs.Known.{KnowsEnd}
-use Rattle.branch_choice.specs.declared.choice.Choice.{Choice}
-use Rattle.branch_choice.specs.declared.choice.Choice.TheVariants as choices
-use Rattle.branch_choice.specs.Choices.{IsChoice, way_of, option_count}
+use Rattle.node_evaluation.specs.declared.choice.Choice.{Choice}
+use Rattle.node_evaluation.specs.declared.choice.Choice.TheVariants as choices
+use Rattle.node_evaluation.specs.Choices.{IsChoice, way_of, option_count}
 
 pub may_branch : (g : Shape) (n : Node) (c : Choice) → IsChoice g n c → MayBranch g n (way_of c)
 may_branch g n (choices.Material x) h = h.0.needed

@@ -27,9 +27,9 @@ use Rattle.tree_rules.specs.Lean.{HasCheaper, IsNoDearer}
 use Rattle.search_tree.specs.Cells.{Cell, place_of, cell_at}
 use Rattle.search_tree.specs.declared.growth.Fresh.{Fresh}
 use Rattle.tree_rules.specs.Costs.{HasFallen}
-use Rattle.turn_laws.specs.Turns.{IsFreshChild}
-use Rattle.turn_laws.proofs.GrowLemmas.{leaf_fallen}
-use Rattle.turn_laws.proofs.OrderLemmas.{reached_dearer, reached_may_undercut}
+use Rattle.search_tree.specs.Turns.{IsFreshChild}
+use Rattle.search_tree.proofs.GrowLemmas.{leaf_fallen}
+use Rattle.search_tree.proofs.OrderLemmas.{reached_dearer, reached_may_undercut}
 use Rattle.node_evaluation.specs.declared.looks.Ready.{Ready}
 use Rattle.node_evaluation.specs.declared.looks.Looked.{Looked}
 use Rattle.node_evaluation.specs.declared.children.StoppedAt.{StoppedAt}

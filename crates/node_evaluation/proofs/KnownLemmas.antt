@@ -11,7 +11,7 @@ use Rattle.pns_rules.specs.Ends.{IsDead, Leads}
 use Rattle.tree_rules.specs.Known.{AreUnits, IsMaterial, KnowsStep}
 use Rattle.tree_rules.specs.Ways.{Way, MayBranch, options_at}
 use Rattle.tree_laws.proofs.WayLemmas.{choices}
-use Rattle.branch_choice.proofs.ChoiceLemmas.{needed_known}
+use Rattle.node_evaluation.proofs.BranchChoiceLemmas.{needed_known}
 use Rattle.neutral_extension.specs.Moves.{HasSet}
 
 -- the units of an option are units of the problem

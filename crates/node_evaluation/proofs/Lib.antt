@@ -1,9 +1,10 @@
-pub mod ChoiceLemmas
-pub mod OptionLemmas
 pub mod BestLemmas
+pub mod BranchChoiceLemmas
 pub mod ChildLemmas
+pub mod ChoiceLemmas
 pub mod HandLemmas
 pub mod KnownLemmas
 pub mod LookLemmas
+pub mod OptionLemmas
 pub mod OptionWalk
 pub mod SolvedLemmas

@@ -19,14 +19,14 @@ use Rattle.tree_rules.specs.Leaf.{Leaf, bounded, untried, IsUntried, LeafPasses}
 use Rattle.neutral_extension.specs.Moves.{Extends}
 use Rattle.search_tree.specs.Cells.{Cell, place_of}
 use Rattle.search_tree.specs.Growth.{as_shut}
-use Rattle.turn_laws.specs.Values.{IsPositive, IsUnder, IsValueOf}
+use Rattle.search_tree.specs.Values.{IsPositive, IsUnder, IsValueOf}
 use Rattle.tree_rules.specs.Costs.{IsNoMore}
-use Rattle.turn_laws.proofs.GrowLemmas.{leaf_fallen}
-use Rattle.turn_laws.proofs.OrderLemmas.{under_reached, reached_more}
-use Rattle.mixed_numbers.specs.declared.number.Mixed.{Mixed}
-use Rattle.mixed_numbers.specs.OrderLaws.{denominator_positive}
-use Rattle.branch_choice.specs.declared.choice.Choice.{Choice}
-use Rattle.branch_choice.specs.Choices.{IsChoice}
+use Rattle.search_tree.proofs.GrowLemmas.{leaf_fallen}
+use Rattle.search_tree.proofs.OrderLemmas.{under_reached, reached_more}
+use Rattle.exact_numbers.specs.declared.number.Mixed.{Mixed}
+use Rattle.exact_numbers.specs.MixedOrderLaws.{denominator_positive}
+use Rattle.node_evaluation.specs.declared.choice.Choice.{Choice}
+use Rattle.node_evaluation.specs.Choices.{IsChoice}
 use Rattle.node_evaluation.specs.declared.evaluator.Bound.{Bound}
 use Rattle.node_evaluation.specs.declared.evaluator.Interval.{Interval}
 use Rattle.node_evaluation.specs.declared.evaluator.PastStop.{PastStop}

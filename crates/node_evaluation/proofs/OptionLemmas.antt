@@ -7,9 +7,9 @@ use Rattle.pns_rules.specs.Nodes as rules
 use Rattle.pgraph.specs.View.{node_of}
 use Rattle.unit_sets.specs.declared.node.Node.{Node}
 use Rattle.tree_rules.specs.Ways.{Way, decides, child_at}
-use Rattle.branch_choice.specs.declared.choice.Choice.{Choice}
-use Rattle.branch_choice.specs.declared.choice.Choice.TheVariants as choices
-use Rattle.branch_choice.specs.Choices.{IsChoice}
+use Rattle.node_evaluation.specs.declared.choice.Choice.{Choice}
+use Rattle.node_evaluation.specs.declared.choice.Choice.TheVariants as choices
+use Rattle.node_evaluation.specs.Choices.{IsChoice}
 use Rattle.node_evaluation.specs.Children.{IsKnown}
 
 pub child_is : (g : Shape) (n : Node) (w : Way) (option decided rest inside outside : List ℕ)

@@ -5,7 +5,7 @@ use Rattle.problem_rules.specs.Problem.{Problem}
 use Rattle.pns_rules.specs.Shape.{Shape, shape_of}
 use Rattle.pns_rules.specs.Nodes.{Node}
 use Rattle.pns_rules.specs.Ends.{IsSound}
-use Rattle.mixed_numbers.specs.declared.number.Mixed.{Mixed}
+use Rattle.exact_numbers.specs.declared.number.Mixed.{Mixed}
 use Rattle.tree_rules.specs.Ways.{Way}
 use Rattle.tree_rules.specs.Tree.{leaf}
 use Rattle.tree_rules.specs.Claim as claims
@@ -17,10 +17,10 @@ use Rattle.search_tree.specs.Growth.{EndsOpen}
 use Rattle.search_tree.specs.Fits.{Follows}
 use Rattle.search_tree.specs.declared.growth.Fresh.{Fresh}
 use Rattle.tree_rules.specs.Costs.{HasFallen}
-use Rattle.turn_laws.specs.Values.{IsPositiveCost}
-use Rattle.turn_laws.specs.Turns.{IsFreshChild, AreChildren}
-use Rattle.branch_choice.specs.declared.choice.Choice.{Choice}
-use Rattle.branch_choice.specs.declared.choice.Choice.TheVariants.{Material, Unit as AtUnit}
+use Rattle.search_tree.specs.Values.{IsPositiveCost}
+use Rattle.search_tree.specs.Turns.{IsFreshChild, AreChildren}
+use Rattle.node_evaluation.specs.declared.choice.Choice.{Choice}
+use Rattle.node_evaluation.specs.declared.choice.Choice.TheVariants.{Material, Unit as AtUnit}
 use Rattle.node_evaluation.specs.declared.evaluator.PastStop.{PastStop}
 use Rattle.node_evaluation.specs.declared.looks.Ready.{Ready}
 use Rattle.node_evaluation.specs.declared.looks.Looked.{Looked}

@@ -5,8 +5,8 @@ use Rattle.std.specs.Prelude.{◌≡◌, ℕ, pos, ◌≤ℤ◌, Bool, true, fal
 use Rattle.number_sets.specs.Sets.{has}
 use Rattle.problem_rules.specs.Problem.{Problem}
 use Rattle.pns_rules.specs.Nodes.{Node}
-use Rattle.mixed_numbers.specs.declared.number.Mixed.{Mixed}
-use Rattle.mixed_numbers.specs.Number.{numerator, denominator}
+use Rattle.exact_numbers.specs.declared.number.Mixed.{Mixed}
+use Rattle.exact_numbers.specs.Number.{numerator, denominator}
 use Rattle.flow_rules.specs.declared.place.Column.{Column}
 use Rattle.flow_rules.specs.declared.place.Place.{Place}
 use Rattle.tree_rules.specs.Claim.{Network, CostOver, IsFeasible}
@@ -14,7 +14,7 @@ use Rattle.charge_rules.specs.Leaf.{Handed}
 use Rattle.tree_rules.specs.Leaf.{IsRefuted, IsBounded, IsCharged}
 use Rattle.tree_rules.specs.Known.{KnowsCharge}
 use Rattle.tree_rules.specs.Lean.{MayUndercut, HasCheaper}
-use Rattle.turn_laws.specs.Values.{IsValueOf, IsUnder}
+use Rattle.search_tree.specs.Values.{IsValueOf, IsUnder}
 use Rattle.tree_rules.specs.Costs.{IsNoMore}
 use Rattle.node_evaluation.specs.declared.evaluator.Interval.{Interval}
 use Rattle.node_evaluation.specs.declared.evaluator.LowerBound.{LowerBound}

@@ -1,3 +1,4 @@
 pub mod Children
+pub mod Choices
 pub mod Evaluated
 pub mod Looks

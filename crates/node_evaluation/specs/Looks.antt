@@ -5,7 +5,7 @@ use Rattle.problem_rules.specs.Problem.{Problem}
 use Rattle.pns_rules.specs.Shape.{shape_of}
 use Rattle.pns_rules.specs.Nodes.{Node, is_free}
 use Rattle.pns_rules.specs.Ends.{IsSound, IsReduced, IsDead, IsNever}
-use Rattle.mixed_numbers.specs.declared.number.Mixed.{Mixed}
+use Rattle.exact_numbers.specs.declared.number.Mixed.{Mixed}
 use Rattle.tree_rules.specs.Tree.{End, branch, leaf}
 use Rattle.tree_rules.specs.Claim.{Network, CostOver, IsFeasible}
 use Rattle.tree_rules.specs.Leaf.{Leaf, dead, clash, refuted, bounded, charged, untried, IsUntried}
@@ -14,7 +14,7 @@ use Rattle.tree_rules.specs.Lean.{HasCheaper}
 use Rattle.tree_rules.specs.Known.{KnowsNode, KnowsEnd}
 use Rattle.search_tree.specs.Cells.{Cell, place_of}
 use Rattle.search_tree.specs.Fits.{Follows}
-use Rattle.branch_choice.specs.Choices.{IsChoice}
+use Rattle.node_evaluation.specs.Choices.{IsChoice}
 use Rattle.node_evaluation.specs.declared.evaluator.PastStop.{PastStop}
 use Rattle.node_evaluation.specs.declared.looks.Worth.{Worth}
 use Rattle.node_evaluation.specs.declared.looks.Worth.TheVariants.{AtLeast, Settled}

@@ -8,9 +8,9 @@ ghost use Rattle.node_evaluation.specs.Evaluated.{PastPlaces, IsFirstLook, IsEva
 ghost use Rattle.node_evaluation.specs.Evaluated.{IsProof, IsAtHand, IsChargeOf, cost_in};
 
 use branch_tree::{Columns, Multipliers, Network, Scaled};
-use covers::Covers;
+use pgraph::Covers;
 use flow_rules::Place;
-use mixed_numbers::Mixed;
+use exact_numbers::Mixed;
 use pgraph::Site;
 use std::alloc::{AllocError, Global};
 use unit_sets::Node;

@@ -10,21 +10,38 @@
 //! Modules: `evaluator` the trait and its answers; `looks` a look at a node; `children` a look at
 //! all children; `options` the options of a choice; `costs` costs compared; `workspace` what a
 //! search works with.
+//!
+//! How an open leaf is branched: at a material, or in two at one unit.
+//!
+//! [`choose`] keeps the tree small: it splits a leaf at a unit that owes most of its fixed cost, by
+//! the sizes of the last basis. That rule is only a guide. [`choose`] promises that there is
+//! something to decide there ([`choices_decide`]), and that the children are two or three. No call
+//! takes memory.
+//!
+//! Modules: `choice` the rule; `dues` what units and materials owe; `candidates` the unit of the
+//! greatest score; `paths` units in use that lead to no product; `laws`.
 #![tactic(auto)]
 
+mod candidates;
 mod children;
+mod choice;
 mod costs;
+mod dues;
 mod evaluator;
+mod laws;
 mod looks;
 mod options;
+mod paths;
 mod workspace;
 
 pub use children::{
     Children, StoppedAt, cheaper, copy_of_network, costs_no_more, look_at_children,
 };
+pub use choice::{Choice, choose};
 pub use costs::is_no_more;
 pub use evaluator::{
     Bound, Charged, Evaluation, Evaluator, FirstLook, Interval, LowerBound, PastStop, Proof,
 };
+pub use laws::choices_decide;
 pub use looks::{Looked, Ready, Settling, Worth, look, open_cell, settle};
 pub use workspace::Workspace;

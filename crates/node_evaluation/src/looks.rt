@@ -13,9 +13,9 @@ ghost use Rattle.node_evaluation.specs.Looks.{IsLooked, IsSameNode, IsSeen, IsSe
 
 use crate::evaluator::{Bound, Evaluation, Evaluator, FirstLook, LowerBound, PastStop};
 use crate::workspace::Workspace;
-use branch_choice::{Choice, choose};
+use crate::{Choice, choose};
 use branch_tree::{End, Multipliers, Network, Steps};
-use mixed_numbers::Mixed;
+use exact_numbers::Mixed;
 use neutral_extension::{Stop, extend_with};
 use pgraph::Site;
 use search_tree::Cell;

@@ -5,10 +5,10 @@ ghost use Rattle.pns_rules.specs.Nodes.{options};
 ghost use Rattle.pgraph.specs.Tables.{shape};
 ghost use Rattle.pgraph.specs.View.{node_of};
 ghost use Rattle.tree_rules.specs.Ways.{decides, options_at, child_at};
-ghost use Rattle.branch_choice.specs.Choices.{way_of};
+ghost use Rattle.node_evaluation.specs.Choices.{way_of};
 ghost use Rattle.node_evaluation.specs.Children.{IsKnown};
 
-use branch_choice::Choice;
+use crate::Choice;
 use pgraph::Graph;
 use std::alloc::{AllocError, Global};
 use unit_sets::{Node, UnitSet};

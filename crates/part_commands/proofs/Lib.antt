@@ -1,3 +1,6 @@
+mod Behind
 pub mod Lines
 mod MergeLines
 mod PartFiles
+mod Parts
+mod Starts

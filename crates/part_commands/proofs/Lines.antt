@@ -8,8 +8,8 @@ use Rattle.std.proofs.lemmas.List.{map-append, take-append-drop}
 use Rattle.std.proofs.lemmas.Grind.{flat_map-append}
 use Rattle.std.proofs.Math.Seq.{take-suc, drop-cons}
 use Rattle.text_rules.specs.Outside.{HasRisen, AppendsFront}
-use Rattle.io_rules.specs.State.{SinkState, OutputsState}
-use Rattle.part_rules.specs.OpenLeaves.{OpenAt}
+use Rattle.text_rules.specs.State.{SinkState, OutputsState}
+use Rattle.tree_text_rules.specs.OpenLeaves.{OpenAt}
 use Rattle.cert_check.specs.declared.open_leaf.OpenLeaf.{OpenLeaf}
 use Rattle.cert_check.specs.OpenLeaves.{leaf_at, leaves_at}
 use Rattle.studio_rules.specs.Split.{part_line, split_lines, LeavesSay}
@@ -17,8 +17,8 @@ use Rattle.studio_rules.specs.Lines.{line, text_of}
 use Rattle.studio_rules.specs.Ending.{Ends, Tells, Only}
 use Rattle.studio_rules.specs.declared.status.Status.{Status}
 use Rattle.studio_rules.specs.declared.status.Status.TheVariants.{Done, WriteFault, Memory}
-use Rattle.endings.proofs.Ending.{GoesOut, Ends-after, only_in}
-use Rattle.endings.proofs.Put.{Ends-stopped}
+use Rattle.command_files.proofs.Ending.{GoesOut, Ends-after, only_in}
+use Rattle.command_files.proofs.Put.{Ends-stopped}
 
 text_of-push : (ls : List (List ℕ)) (l : List ℕ) → text_of (ls ++ l ∷ []) ≡ text_of ls ++ line l
 text_of-push ls l = flat_map-append line ls (l ∷ [])

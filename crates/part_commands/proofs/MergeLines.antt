@@ -6,14 +6,14 @@ use Rattle.problem_rules.specs.Each.{Each}
 use Rattle.problem_rules.specs.Problem.{Problem}
 use Rattle.text_laws.proofs.Each.{each-append}
 use Rattle.pns_rules.specs.Shape.{Shape, shape_of}
-use Rattle.cert_parts.specs.Known.{KnowsInside}
+use Rattle.cert_check.specs.Known.{KnowsInside}
 use Rattle.tree_rules.specs.Claim.{Claim, Network, network, infeasible, unknown}
 use Rattle.tree_rules.specs.Accepted.{Tree}
 use Rattle.tree_rules.specs.Known.{KnowsStep, KnowsNode, KnowsTree, KnowsClaim, AreUnits}
-use Rattle.part_rules.specs.Graft.{graft_at, grafted, claim_of_both, cheaper, has_open}
-use Rattle.part_rules.specs.Part.{Part, start_of}
-use Rattle.part_rules.specs.Several.{AreMerged}
-use Rattle.part_rules.specs.Spelling.{KnowsPart}
+use Rattle.tree_text_rules.specs.Graft.{graft_at, grafted, claim_of_both, cheaper, has_open}
+use Rattle.tree_text_rules.specs.Part.{Part, start_of}
+use Rattle.tree_text_rules.specs.Several.{AreMerged}
+use Rattle.tree_text_rules.specs.PartSpelling.{KnowsPart}
 
 module _ (p : Problem) where
   graft_known : (k : ℕ) (ts part : Tree) → KnowsTree p ts → KnowsTree p part

@@ -4,11 +4,11 @@ use Rattle.std.proofs.Common.{get_or, refl, sym, ap, ◌∙◌, subst, inl, inr,
 use Rattle.std.specs.List.{Contains}
 use Rattle.std.proofs.Math.Seq.{take-suc, take-length}
 use Rattle.text_rules.specs.Outside.{Told}
-use Rattle.io_rules.specs.State.{ShelfState}
+use Rattle.text_rules.specs.State.{ShelfState}
 use Rattle.problem_rules.specs.Problem.{Problem}
 use Rattle.tree_rules.specs.Claim.{Claim}
 use Rattle.tree_rules.specs.Accepted.{Tree}
-use Rattle.part_rules.specs.Part.{Part}
+use Rattle.tree_text_rules.specs.Part.{Part}
 use Rattle.studio_rules.specs.Reading.{AreHeld, FileFaults, GivesProblem, OnFile}
 use Rattle.studio_rules.specs.TreeFile.{GivesTree, OnTree, TreeFaults, TreeSays}
 use Rattle.studio_rules.specs.Merge.{MergeSays, MergeWork}
@@ -16,7 +16,7 @@ use Rattle.studio_rules.specs.PartFile.{GivesPart, GiveParts, PartFault, PartFau
 use Rattle.studio_rules.specs.PartFile.{are_several}
 use Rattle.studio_rules.specs.Ending.{Says, Tells}
 use Rattle.studio_rules.specs.declared.status.Status.{Status}
-use Rattle.endings.proofs.Ending.{Says-map, Says-told, Says-over}
+use Rattle.command_files.proofs.Ending.{Says-map, Says-told, Says-over}
 
 -- ---- parts in order
 

@@ -12,13 +12,13 @@ ghost use Rattle.studio_rules.specs.Keeps.{Keeps};
 
 use branch_tree::{Claim, Tree};
 use command_files::{problem_of, tree_of};
-use endings::outputs::put_answer;
-use endings::say::{say, say_memory, tell_with};
-use messages::refused;
+use command_files::outputs::put_answer;
+use command_files::say::{say, say_memory, tell_with};
+use studio_words::refused;
 use pgraph::{Graph, Site};
 use pns_io::{Outputs, Shelf, Sink};
 use pns_problem::Problem;
-use refusal_words::{tell_node, why_word};
+use command_files::{tell_node, why_word};
 use std::alloc::{AllocError, Global};
 use structure_list::print_token;
 use studio_rules::Status;

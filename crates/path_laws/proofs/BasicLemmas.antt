@@ -8,9 +8,9 @@ use Rattle.integer_laws.proofs.IndexTotals.{total_below-same, total_below-zero, 
 use Rattle.integer_laws.proofs.Order.{mul_pos}
 use Rattle.integer_laws.proofs.Ring.{V, ◌⊕◌, ◌⊗◌, Neg, ring, mul-zero_z}
 use Rattle.integer_laws.specs.Total.{total_below}
-use Rattle.path_rules.specs.Columns.{Basis, Has, right_at, scale_at, columns}
-use Rattle.path_rules.specs.Equations.{dot}
-use Rattle.path_rules.specs.LinearProgram.{LinearProgram}
+use Rattle.flow_rules.specs.Columns.{Basis, Has, right_at, scale_at, columns}
+use Rattle.flow_rules.specs.Equations.{dot}
+use Rattle.flow_rules.specs.LinearProgram.{LinearProgram}
 use Rattle.path_laws.proofs.BoolLemmas.{bool_cases}
 
 -- f 0 * .. * f (n - 1), and the product of all but the one at k

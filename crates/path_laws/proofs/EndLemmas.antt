@@ -14,10 +14,10 @@ use Rattle.flow_rules.specs.Relaxed as node
 use Rattle.flow_rules.specs.Relaxed.{IsRelaxed, units, rows}
 use Rattle.flow_rules.proofs.NetLemmas.{net_of_valid}
 use Rattle.flow_rules.proofs.DualityLemmas.{relaxed_duality}
-use Rattle.path_rules.specs.LinearProgram.{LinearProgram, linear}
-use Rattle.path_rules.specs.Columns.{Basis, Has, x_at, columns, scale_at}
-use Rattle.path_rules.specs.Multipliers.{multiplier}
-use Rattle.path_rules.specs.ReadFlows.{AreRead, size}
+use Rattle.flow_rules.specs.LinearProgram.{LinearProgram, linear}
+use Rattle.flow_rules.specs.Columns.{Basis, Has, x_at, columns, scale_at}
+use Rattle.flow_rules.specs.Multipliers.{multiplier}
+use Rattle.flow_rules.specs.ReadFlows.{AreRead, size}
 use Rattle.path_laws.proofs.PathLemmas.{IsSound, reaches_sound}
 use Rattle.path_laws.proofs.PhaseLemmas.{complete_along}
 use Rattle.path_laws.specs.Ends.{IsOnPath, EndsLeast}

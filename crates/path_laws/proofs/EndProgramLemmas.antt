@@ -21,7 +21,7 @@ use Rattle.flow_rules.specs.Relaxed as node
 use Rattle.flow_rules.specs.Relaxed.{IsRelaxed, stays, units, rows, lower_at, row_low, row_high}
 use Rattle.flow_rules.specs.Relaxed.{unit_low, unit_cost, fixed_cost, row_balance, reduced_cost}
 use Rattle.flow_rules.proofs.NetLemmas.{IsNet}
-use Rattle.path_rules.specs.LinearProgram.{linear}
+use Rattle.flow_rules.specs.LinearProgram.{linear}
 use Rattle.path_laws.proofs.Relaxed.{flow, IsRelaxedFlow, relaxed_cost, left_over, row_part}
 use Rattle.path_laws.proofs.Relaxed.{unit_part, bound, IsOpen}
 use Rattle.path_laws.proofs.PlaceLemmas.{total-at, at-map, place_of, has_at, beside_at, rates_at}

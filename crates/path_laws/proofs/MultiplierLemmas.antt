@@ -9,9 +9,9 @@ use Rattle.pns_rules.specs.Nodes.{Node}
 use Rattle.flow_rules.specs.Net.{Net, beside}
 use Rattle.flow_rules.specs.Relaxed as node
 use Rattle.flow_rules.specs.Relaxed.{rows}
-use Rattle.path_rules.specs.LinearProgram.{LinearProgram, linear}
-use Rattle.path_rules.specs.Columns.{scale_at}
-use Rattle.path_rules.specs.Multipliers.{multiplier, multipliers, AreMultipliers, AreRefuting}
+use Rattle.flow_rules.specs.LinearProgram.{LinearProgram, linear}
+use Rattle.flow_rules.specs.Columns.{scale_at}
+use Rattle.flow_rules.specs.Multipliers.{multiplier, multipliers, AreMultipliers, AreRefuting}
 use Rattle.path_laws.proofs.Relaxed.{bound}
 use Rattle.path_laws.proofs.PlaceLemmas.{length_map}
 use Rattle.path_laws.proofs.EndProgramLemmas.{at_range, row, bound_is, beside_row}

@@ -8,7 +8,7 @@ use Rattle.std.proofs.Math.Nat.{mul-le-mul}
 use Rattle.integer_laws.specs.Total.{total_below}
 use Rattle.number_sets.proofs.SetLemmas.{length_below}
 use Rattle.flow_rules.specs.Program.{Program, IsWithin, AreRanges, IsProgram}
-use Rattle.path_rules.specs.LinearProgram.{linear_of, low_flow}
+use Rattle.flow_rules.specs.LinearProgram.{linear_of, low_flow}
 use Rattle.path_laws.specs.RangeLaws.{AreWithin, most, ProgramFits}
 use Rattle.path_laws.proofs.SmallLemmas.{first_kind_fits}
 

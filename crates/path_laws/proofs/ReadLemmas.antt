@@ -7,7 +7,7 @@ use Rattle.integer_laws.proofs.IndexTotals.{total_below-same, total_below-mul}
 use Rattle.integer_laws.proofs.Order.{mul_nonneg, mul-le_left}
 use Rattle.integer_laws.proofs.Ring.{V, ◌⊕◌, ◌⊖◌, ◌⊗◌, ring, ring_le, read_equal, read_le}
 use Rattle.integer_laws.specs.Total.{total_below}
-use Rattle.path_rules.specs.LinearProgram.{LinearProgram}
+use Rattle.flow_rules.specs.LinearProgram.{LinearProgram}
 use Rattle.path_laws.proofs.Relaxed.{flow, relaxed_cost, bound, left_over, IsRelaxedFlow}
 
 -- ---- flows that are equal as fractions

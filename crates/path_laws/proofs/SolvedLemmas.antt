@@ -5,9 +5,9 @@ use Rattle.std.proofs.lemmas.Int.{ints}
 use Rattle.integer_laws.proofs.IndexTotals.{total_below-same, total_below-add, total_below-mul}
 use Rattle.integer_laws.proofs.Ring.{V, ◌⊕◌, ◌⊖◌, ◌⊗◌, Neg, ring, ring_le, read_equal, read_le}
 use Rattle.integer_laws.specs.Total.{total_below}
-use Rattle.path_rules.specs.Columns.{x_at, s_at, t_at, w_at, scale_at, columns}
-use Rattle.path_rules.specs.Equations.{IsSolution}
-use Rattle.path_rules.specs.LinearProgram.{LinearProgram}
+use Rattle.flow_rules.specs.Columns.{x_at, s_at, t_at, w_at, scale_at, columns}
+use Rattle.flow_rules.specs.Equations.{IsSolution}
+use Rattle.flow_rules.specs.LinearProgram.{LinearProgram}
 use Rattle.path_laws.proofs.Relaxed.{flow, relaxed_cost, IsRelaxedFlow}
 
 pub flows_of : LinearProgram → (ℕ → ℤ) → ℤ → ℕ → ℤ

@@ -6,9 +6,9 @@ use Rattle.std.proofs.lemmas.Bool.Decides.{eqb_tells, leb_tells}
 use Rattle.integer_laws.specs.Total.{total_below}
 use Rattle.integer_laws.proofs.Ring.{V, ◌⊖◌, ◌⊗◌, ring}
 use Rattle.integer_laws.proofs.IndexTotals.{total_below-same, total_below-zero}
-use Rattle.path_rules.specs.LinearProgram.{LinearProgram}
-use Rattle.path_rules.specs.Columns.{s_at, t_at, w_at, right_at, scale_at, start}
-use Rattle.path_rules.specs.Tableau.{IsIndependent}
+use Rattle.flow_rules.specs.LinearProgram.{LinearProgram}
+use Rattle.flow_rules.specs.Columns.{s_at, t_at, w_at, right_at, scale_at, start}
+use Rattle.flow_rules.specs.Tableau.{IsIndependent}
 
 pub start-has : (p : LinearProgram) (k : ℕ) → p.units ≤ k → k ≤ scale_at p → k ≢ right_at p
     → start p k ≡ true

@@ -11,11 +11,11 @@ use Rattle.integer_laws.proofs.Ring.{V, ◌⊕◌, ◌⊖◌, ◌⊗◌, Neg, ri
 use Rattle.path_laws.proofs.RankLemmas.{number_less, digit_same, digit_less}
 use Rattle.path_laws.proofs.RisingLemmas.{rising_scaled₂}
 use Rattle.path_laws.proofs.VectorLemmas.{gain-basic, gain-other, gain-own, IsNegated, one_pos}
-use Rattle.path_rules.specs.Columns.{Basis, Has}
-use Rattle.path_rules.specs.Lexicographic.{IsRising}
-use Rattle.path_rules.specs.Pivots.{IsPivoted}
-use Rattle.path_rules.specs.Rank.{digit, rank, IsWithin}
-use Rattle.path_rules.specs.Vectors.{gain, value_top, value_bottom}
+use Rattle.flow_rules.specs.Columns.{Basis, Has}
+use Rattle.flow_rules.specs.Lexicographic.{IsRising}
+use Rattle.flow_rules.specs.Pivots.{IsPivoted}
+use Rattle.flow_rules.specs.Rank.{digit, rank, IsWithin}
+use Rattle.flow_rules.specs.Vectors.{gain, value_top, value_bottom}
 use Rattle.path_laws.proofs.BoolLemmas.{bool_cases}
 
 pub top-basic : (b : Basis) (T : ℕ → ℕ → ℤ) (s r k : ℕ) → Has b k

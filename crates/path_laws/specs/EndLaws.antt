@@ -7,9 +7,9 @@ use Rattle.pns_rules.specs.Nodes.{Node}
 use Rattle.flow_rules.specs.Net.{net_of, beside}
 use Rattle.flow_rules.specs.Flows.{IsFlows, cost}
 use Rattle.flow_rules.specs.Relaxed.{IsRelaxed, relaxed_cost, bound, Refutes, units, rows}
-use Rattle.path_rules.specs.LinearProgram.{linear}
-use Rattle.path_rules.specs.Columns.{Basis}
-use Rattle.path_rules.specs.ReadFlows.{AreRead}
+use Rattle.flow_rules.specs.LinearProgram.{linear}
+use Rattle.flow_rules.specs.Columns.{Basis}
+use Rattle.flow_rules.specs.ReadFlows.{AreRead}
 use Rattle.path_laws.specs.Ends.{EndsLeast, EndsNone, IsSplit}
 
 -- ---- least flows

@@ -11,9 +11,17 @@
 //! and reading), `site`, `paths` (the units that lead to a product), `verdict` (the axioms),
 //! `exclusions` (clashes and rivals), `options` (the makers among which a node may choose), and the
 //! public `laws` (steps, ends and children of a graph's nodes).
+//!
+//! Covers as values: sets of units of which each structure of a node has one, with the weights that
+//! a charge of the node gives them.
+//!
+//! A [`Cover`] is one set, and [`Covers`] are those of one charge. Contracts see them in the words
+//! of `charge_rules`. Nothing here takes memory.
 #![tactic(auto)]
 
 mod arcs;
+mod cover;
+mod covers;
 mod exclusions;
 mod graph;
 pub mod laws;
@@ -23,5 +31,7 @@ mod site;
 mod tables;
 mod verdict;
 
+pub use cover::Cover;
+pub use covers::Covers;
 pub use graph::Graph;
 pub use site::Site;

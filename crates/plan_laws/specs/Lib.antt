@@ -1,1 +1,2 @@
+pub mod DesignLaws
 pub mod Laws

@@ -1,5 +1,7 @@
 pub mod Design
 pub mod Expanded
+pub mod Folded
+pub mod Least
 pub mod Line
 pub mod Meaning
 pub mod Plan

@@ -6,7 +6,7 @@ use Rattle.std.specs.Prelude.{◌+◌, ◌++◌, ℕ, Bool, true, false, List, [
 use Rattle.std.specs.Prelude.{if◌then◌else◌}
 use Rattle.std.specs.Str.{bytes_eq}
 use Rattle.problem_rules.specs.Names.{is_among}
-use Rattle.script_rules.specs.Line.{script_lines}
+use Rattle.edit_rules.specs.Line.{script_lines}
 use Rattle.plan_rules.specs.declared.PlanKind.{PlanKind}
 use Rattle.plan_rules.specs.declared.PlanKind.TheVariants.{FileType, BadLine, DoubleLine}
 use Rattle.plan_rules.specs.Line.{file_type, Entry, begins, price, bounds, line_read}

@@ -6,6 +6,14 @@
 //! `Expanded` is the ordinary problem into which a plant and its plan are expanded. `Design`, which
 //! does not mention that problem, says what a design of the plant over its periods is and costs.
 //! `proofs/` reads small plans and expands a small plant by computation.
+//!
+//! Which design a network of an expanded problem stands for, and when a design is one of least
+//! cost.
+//!
+//! The definitions are in `specs/`, over those of `plan_rules`. `Folded` has a design as lists, and
+//! the design of a network. `Least` says when no design of the plant over its periods costs less.
+//! Designs and what they cost are defined in `Design` of `plan_rules`, which mentions only the
+//! plant and its periods.
 #![tactic(auto)]
 
 /// A kind of fault of a plan. The variants are in the order of their numbers, 1 to 12. The whole

@@ -2,8 +2,8 @@
 
 ghost use Rattle.std.specs.Prelude.{◌<◌};
 
-use decimals::push_six_digits;
-use progress::Progress;
+use report_amounts::push_six_digits;
+use pns_io::Progress;
 use std::alloc::{AllocError, Global};
 
 /// Half of what a cost is divided by. A payout period of 0 years counts as one.

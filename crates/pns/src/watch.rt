@@ -1,7 +1,7 @@
 //! Who watches a search: those who read the standard error.
 
 use crate::line::line_of;
-use progress::{Progress, Watch};
+use pns_io::{Progress, Watch};
 use std::alloc::Global;
 use std::env;
 use std::env::VarError;

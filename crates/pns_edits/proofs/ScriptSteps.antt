@@ -16,8 +16,8 @@ use Rattle.edit_rules.specs.Script.{applied, undoing, CanApply, IsFirstFault}
 use Rattle.edit_laws.proofs.ValidLemmas.{edit_keeps_valid}
 use Rattle.edit_scripts.specs.declared.edit.Edit as scripts
 use Rattle.edit_scripts.specs.View.{edit_of}
-use Rattle.script_rules.specs.declared.EditKind.{EditKind}
-use Rattle.script_rules.specs.Meaning.{kind_of}
+use Rattle.edit_rules.specs.declared.EditKind.{EditKind}
+use Rattle.edit_rules.specs.Meaning.{kind_of}
 use Rattle.pns_edits.specs.Answer.{IsEdited}
 use Rattle.pns_edits.specs.Inverse.{edits_of, listed_of}
 use Rattle.pns_edits.specs.declared.inverse.Inverse.{Inverse}

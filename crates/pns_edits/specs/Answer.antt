@@ -6,9 +6,9 @@ use Rattle.edit_rules.specs.Edit.{Edit, Script}
 use Rattle.edit_rules.specs.Effect.{effect}
 use Rattle.edit_rules.specs.Fault.{Fault, checks, fault_of, AreClear}
 use Rattle.edit_rules.specs.Inverse.{inverse}
-use Rattle.script_rules.specs.declared.EditKind.{EditKind}
-use Rattle.script_rules.specs.declared.EditKind.TheVariants.{UnknownName}
-use Rattle.script_rules.specs.Meaning.{kind_of, HasFaultAt}
+use Rattle.edit_rules.specs.declared.EditKind.{EditKind}
+use Rattle.edit_rules.specs.declared.EditKind.TheVariants.{UnknownName}
+use Rattle.edit_rules.specs.Meaning.{kind_of, HasFaultAt}
 use Rattle.text_lines.specs.declared.fault.LineFault.{LineFault}
 use Rattle.text_lines.specs.declared.fault.LineFault.TheVariants as edit
 use Rattle.text_lines.specs.declared.fault.TextFault.{TextFault}

@@ -1,3 +1,3 @@
-pub mod NamedFiles
 pub mod MemoryShelf
 pub mod MemorySink
+pub mod NamedFiles

@@ -9,24 +9,40 @@
 //! `problem_rules`, and names as lists of bytes. Modules: `material`, `term`, `unit`, `exclusion`
 //! (the items, each with its tests), `name` and `name_table`, `parts`, `fault`, `judge` (the first
 //! fault), `problem`, and for its text `amount` and `canonical`.
+//!
+//! Large valid problems, made from a number.
+//!
+//! The same number and count of units give the same problem on each machine. Draws of a linear
+//! congruence give prices, inputs, rates, costs and capacities; everything else is regular. There
+//! are three raw materials R0, R1 and R2, then a chain of intermediates M0, M1 and so on, one for
+//! each three units, and the product P, of which a network makes 10. The units take the stages of
+//! the chain in turn.
+//!
+//! Contracts say which problem it is with `problem_rules`: `Draws` (the states) and `Generated`
+//! (the problem). Modules: `draws`, `materials`, `units`, and `problem` with what is public.
 #![tactic(auto)]
 
 mod amount;
 mod canonical;
+mod draws;
 mod exclusion;
 mod fault;
+mod generator_problem;
 mod judge;
 mod material;
+mod materials;
 mod name;
 mod name_table;
 mod parts;
 mod problem;
 mod term;
 mod unit;
+mod units;
 
 pub use amount::amount_text;
 pub use exclusion::Exclusion;
 pub use fault::BuildFault;
+pub use generator_problem::{generate, generated_is_valid};
 pub use material::{Kind, Material};
 pub use name::is_name;
 pub use parts::Parts;

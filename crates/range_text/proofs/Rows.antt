@@ -10,9 +10,9 @@ use Rattle.tree_text_rules.specs.Read.{Fault, on_line}
 use Rattle.tree_text_rules.specs.declared.TreeKind.{TreeKind}
 use Rattle.tree_text_rules.specs.declared.TreeKind.TheVariants.{BadLine}
 use Rattle.tree_reading.specs.Tells.{IsOfLine}
-use Rattle.range_rules.specs.Table.{words_of, has_no_word, row_read, rows_taken, has_headings}
-use Rattle.range_rules.specs.Table.{lines_taken}
-use Rattle.range_rules.specs.declared.row.Row.{Row}
+use Rattle.report_rules.specs.RangeTable.{words_of, has_no_word, row_read, rows_taken, has_headings}
+use Rattle.report_rules.specs.RangeTable.{lines_taken}
+use Rattle.report_rules.specs.declared.row.Row.{Row}
 
 first_of : {A : Type 0} (b : Bool) (x y : A) → b ≡ true → (if b then x else y) ≡ x
 first_of true x y e = refl

@@ -3,7 +3,7 @@ use Rattle.std.specs.Prelude.{ℕ, List, Option, filter}
 use Rattle.std.specs.Borrow.{Bor}
 use Rattle.tree_text_rules.specs.Line.{Token, has_bytes}
 use Rattle.tree_reading.specs.View.{tokens_in}
-use Rattle.range_rules.specs.Table as rules
+use Rattle.report_rules.specs.RangeTable as rules
 use Rattle.range_text.specs.declared.words.Cells.{Cells}
 
 -- the words of what is left of a line

@@ -4,15 +4,15 @@ ghost use Rattle.integer_laws.specs.Range.{InRange};
 ghost use Rattle.pns_problem.specs.Printing.{printed};
 ghost use Rattle.flow_rules.specs.Net.{million};
 ghost use Rattle.report_rules.specs.Amounts.{quotient};
-ghost use Rattle.json_rules.specs.Json.{member, truth};
-ghost use Rattle.range_rules.specs.Object as rules;
+ghost use Rattle.report_rules.specs.Json.{member, truth};
+ghost use Rattle.report_rules.specs.Object as rules;
 
-use json_pieces::{Json, push_comma_lines, push_line};
+use json_text::{Json, push_comma_lines, push_line};
 use json_text::text_member;
 use pns_problem::Problem;
-use range_rules::{End, Row};
+use report_rules::{End, Row};
 use report_amounts::Number;
-use stability_rules::Spot;
+use report_rules::Spot;
 use std::alloc::{AllocError, Global};
 
 fn kind_word(spot: Spot) -> &'static str

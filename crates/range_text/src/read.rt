@@ -4,12 +4,12 @@ ghost use Rattle.text_lines.specs.Tells.{Tells};
 ghost use Rattle.tree_reading.specs.Place.{IsCut, lines_at};
 ghost use Rattle.tree_reading.specs.Tells.{IsOfLine};
 ghost use Rattle.tree_reading.specs.View.{line_of};
-ghost use Rattle.range_rules.specs.Table as rules;
+ghost use Rattle.report_rules.specs.RangeTable as rules;
 
 use crate::row::{has_headings, row_of};
 use crate::words::{has_no_word, is_first};
 use pns_problem::Problem;
-use range_rules::Row;
+use report_rules::Row;
 use std::alloc::Global;
 use tree_reading::{Cut, Line, TreeFault, kind_at, line_at};
 use tree_text_rules::TreeKind;

@@ -2,13 +2,13 @@
 ghost use Rattle.std.specs.Prelude.{◌≡◌};
 ghost use Rattle.tree_text_rules.specs.Token as tokens;
 ghost use Rattle.tree_reading.specs.View.{line_of};
-ghost use Rattle.range_rules.specs.Table as rules;
+ghost use Rattle.report_rules.specs.RangeTable as rules;
 ghost use Rattle.range_text.specs.View.{cells_of};
 
 use crate::words::{Cells, cells_of};
 use pns_problem::Problem;
-use range_rules::{End, Row};
-use stability_rules::Spot;
+use report_rules::{End, Row};
+use report_rules::Spot;
 use std::str;
 use text_lines::amount::read_amount;
 use tree_reading::Line;

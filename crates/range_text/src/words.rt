@@ -1,7 +1,7 @@
 //! The words of a line.
 ghost use Rattle.std.specs.Prelude.{◌≡◌, ◌∷◌, [], Ok, Err, IfOk, IfErr, IfSome, IfNone, option_map};
 ghost use Rattle.tree_reading.specs.View.{line_of};
-ghost use Rattle.range_rules.specs.Table as rules;
+ghost use Rattle.report_rules.specs.RangeTable as rules;
 ghost use Rattle.range_text.specs.View.{cells_of, words_in};
 
 use tree_reading::{Line, first_token};

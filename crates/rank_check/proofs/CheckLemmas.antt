@@ -9,7 +9,7 @@ use Rattle.tree_rules.specs.declared.why.Why.{Why}
 use Rattle.tree_rules.specs.Fault.{IsFirstFault}
 use Rattle.tree_rules.specs.Claim.{Network}
 use Rattle.tree_rules.specs.Accepted.{first_node}
-use Rattle.part_rules.specs.OpenLeaves.{OpenAt, open_leaves}
+use Rattle.tree_text_rules.specs.OpenLeaves.{OpenAt, open_leaves}
 use Rattle.cert_check.specs.Bare.{BarePasses, BareFails}
 use Rattle.cert_check.specs.OpenLeaves.{AreThoseBefore}
 use Rattle.rank_rules.specs.declared.why.RankWhy.{RankWhy}

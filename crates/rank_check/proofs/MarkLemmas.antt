@@ -18,13 +18,13 @@ use Rattle.tree_rules.specs.Claim.{Network, CostOver}
 use Rattle.tree_rules.specs.Leaf as leaves
 use Rattle.tree_rules.specs.Accepted as plain_trees
 use Rattle.tree_rules.specs.Accepted.{first_node}
-use Rattle.part_rules.specs.OpenLeaves.{OpenAt, open_here, open_leaves}
+use Rattle.tree_text_rules.specs.OpenLeaves.{OpenAt, open_here, open_leaves}
 use Rattle.rank_rules.specs.declared.why.RankWhy.{RankWhy}
 use Rattle.rank_rules.specs.declared.why.RankWhy.TheVariants.{Plain}
 use Rattle.rank_rules.specs.Leaf.{Leaf, plain, named, LeafPasses, LeafFails, IsTold}
 use Rattle.rank_rules.specs.Ranked.{IsToldAt}
 use Rattle.rank_rules.specs.Marked.{Mark, marked_leaf, first_mark, marked_end, marks_behind, marked}
-use Rattle.cert_parts.specs.Known.{KnowsInside}
+use Rattle.cert_check.specs.Known.{KnowsInside}
 use Rattle.cert_check.specs.Bare.{BarePasses, BareFails}
 use Rattle.cert_check.specs.Subtrees.{AllKnown}
 use Rattle.cert_check.specs.OpenLeaves.{AllBefore, NoneBefore}

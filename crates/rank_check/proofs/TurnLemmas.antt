@@ -6,17 +6,17 @@ use Rattle.problem_rules.specs.Problem.{Problem}
 use Rattle.pns_rules.specs.Nodes.{Node}
 use Rattle.tree_rules.specs.declared.why.Why.TheVariants as causes
 use Rattle.tree_rules.specs.Claim.{Network, CostOver}
-use Rattle.part_rules.specs.OpenLeaves.{OpenAt}
-use Rattle.cert_parts.proofs.NodeLemmas.{step_ahead, none_ahead}
+use Rattle.tree_text_rules.specs.OpenLeaves.{OpenAt}
+use Rattle.cert_check.proofs.NodeLemmas.{step_ahead, none_ahead}
 use Rattle.rank_rules.specs.declared.why.RankWhy.{RankWhy}
 use Rattle.rank_rules.specs.declared.why.RankWhy.TheVariants.{Plain}
 use Rattle.rank_rules.specs.Leaf.{LeafPasses, LeafFails}
 use Rattle.rank_rules.specs.Marked.{Mark, marked_leaf, first_mark, other_marks}
-use Rattle.ranked_tree.specs.declared.mark.Mark as code
-use Rattle.ranked_tree.specs.View.{mark_of}
+use Rattle.rank_check.specs.declared.mark.Mark as code
+use Rattle.rank_check.specs.View.{mark_of}
 use Rattle.rank_check.specs.Marks.{MarksPass, MarkFails, IsFirstMark, AllMarksPass, MarkIsFault}
 use Rattle.rank_check.specs.Marks.{AreKnown}
-use Rattle.cert_parts.specs.Known.{KnowsInside}
+use Rattle.cert_check.specs.Known.{KnowsInside}
 use Rattle.pns_rules.specs.Shape.{shape_of}
 
 pub map_ahead : {X Y : Type 0} (f : X → Y) (xs : List X) (i : ℕ) (x : X) → i < length xs

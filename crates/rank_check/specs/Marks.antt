@@ -10,9 +10,9 @@ use Rattle.tree_rules.specs.Fault.{Fails}
 use Rattle.tree_rules.specs.Tree.{leaf}
 use Rattle.tree_rules.specs.Claim.{Network, CostOver}
 use Rattle.tree_rules.specs.Leaf.{IsOneEach, IsFormed, Reaches}
-use Rattle.part_rules.specs.OpenLeaves.{OpenAt}
+use Rattle.tree_text_rules.specs.OpenLeaves.{OpenAt}
 use Rattle.pns_rules.specs.Shape.{shape_of}
-use Rattle.cert_parts.specs.Known.{KnowsInside}
+use Rattle.cert_check.specs.Known.{KnowsInside}
 use Rattle.rank_rules.specs.declared.why.RankWhy.{RankWhy}
 use Rattle.rank_rules.specs.declared.why.RankWhy.TheVariants.{Plain}
 use Rattle.rank_rules.specs.Leaf.{Leaf, LeafPasses, LeafFails, MayName, named_cost, way_why, IsTold}

@@ -5,7 +5,7 @@ use Rattle.problem_rules.specs.Problem.{Problem}
 use Rattle.pns_rules.specs.Shape.{shape_of}
 use Rattle.tree_rules.specs.Tree.{Pass}
 use Rattle.tree_rules.specs.Accepted.{first_node}
-use Rattle.part_rules.specs.OpenLeaves.{OpenAt}
+use Rattle.tree_text_rules.specs.OpenLeaves.{OpenAt}
 use Rattle.tree_rules.specs.declared.refusal.Refusal as plain
 use Rattle.cert_check.specs.Bare.{BarePasses, BareFails}
 use Rattle.cert_check.specs.Refusals.{NamesFault}

@@ -8,8 +8,8 @@ ghost use Rattle.flow_rules.specs.Flows.{IsFlows};
 ghost use Rattle.tree_rules.specs.Claim as rules;
 ghost use Rattle.tree_rules.specs.Accepted.{first_node};
 ghost use Rattle.tree_rules.specs.Costs.{CostsEnough};
-ghost use Rattle.part_rules.specs.OpenLeaves.{open_leaves};
-ghost use Rattle.cert_parts.specs.Shown.{cost_over};
+ghost use Rattle.tree_text_rules.specs.OpenLeaves.{open_leaves};
+ghost use Rattle.cert_check.specs.Shown.{cost_over};
 ghost use Rattle.cert_check.specs.OpenLeaves.{leaves_at, AreBefore};
 ghost use Rattle.rank_rules.specs.declared.why.RankWhy.{RankWhy};
 ghost use Rattle.rank_rules.specs.Networks as ranks;
@@ -29,14 +29,14 @@ use crate::networks::judge_networks;
 use crate::refusal::RankRefusal;
 use branch_tree::Network;
 use cert_check::{OpenLeaf, Stop, check_nodes};
-use frac128::CostOver;
+use exact_numbers::CostOver;
 use pgraph::Site;
 use rank_laws::{
     alternatives_are_right, listed_are_least, network_has_one_fault, others_are_no_better,
     ranking_has_one_fault,
 };
 use rank_rules::RankWhy;
-use ranked_tree::RankText;
+use crate::RankText;
 use std::alloc::Global;
 use tree_rules::Refusal;
 use unit_sets::{Node, UnitSet};

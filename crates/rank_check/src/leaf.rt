@@ -4,22 +4,22 @@ ghost use Rattle.std.specs.Prelude.{IfErr};
 ghost use Rattle.tree_rules.specs.declared.why.Why.TheVariants as causes;
 ghost use Rattle.pns_rules.specs.Shape.{shape_of};
 ghost use Rattle.pgraph.specs.View.{node_of};
-ghost use Rattle.cert_parts.specs.Known.{KnowsInside};
-ghost use Rattle.cert_parts.specs.Shown.{cost_over};
+ghost use Rattle.cert_check.specs.Known.{KnowsInside};
+ghost use Rattle.cert_check.specs.Shown.{cost_over};
 ghost use Rattle.rank_rules.specs.Networks as ranks;
 ghost use Rattle.rank_rules.specs.Networks.{numbered};
 ghost use Rattle.rank_rules.specs.Leaf.{IsOnly, IsTakenIn, MayName, IsNamed, way_why};
 ghost use Rattle.rank_rules.specs.declared.why.RankWhy.TheVariants as whys;
-ghost use Rattle.ranked_tree.specs.View.{name_of};
+ghost use Rattle.rank_check.specs.View.{name_of};
 ghost use Rattle.rank_check.specs.Marks.{NamedFails};
 
 use crate::order::are_same;
 use branch_tree::Network;
-use cert_parts::judge_bound;
-use frac128::CostOver;
+use cert_check::judge_bound;
+use exact_numbers::CostOver;
 use pgraph::Site;
 use rank_rules::{Naming, RankWhy};
-use ranked_tree::Name;
+use crate::Name;
 use tree_rules::Why;
 use unit_sets::{Node, UnitSet};
 

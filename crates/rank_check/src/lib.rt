@@ -7,15 +7,28 @@
 //!
 //! Modules: `networks` judges the list of networks, `leaf` a leaf that names one, `marks` the open
 //! leaves, and `check` all.
+//!
+//! Ranked trees as values: the networks, best first, with the tree that proves that no other is
+//! better.
+//!
+//! The tree is an ordinary [`branch_tree::Tree`], in which a leaf that names a network is an open
+//! leaf. With the tree there is a [`Mark`] for each open leaf, in preorder. It says that the leaf
+//! is open, or which network it names and how. So the code that reads, prints or judges trees
+//! serves ranked trees too. Contracts see a [`RankText`] as the record of its parts. `Marked` of
+//! `rank_rules` says which ranking it is.
 #![tactic(auto)]
 
 mod check;
 mod leaf;
+mod mark;
 mod marks;
 mod networks;
 mod order;
 mod refusal;
+mod text;
 
 pub use check::check_rank;
+pub use mark::{Mark, Name};
 pub use networks::judge_networks;
 pub use refusal::RankRefusal;
+pub use text::{Asked, RankText};

@@ -3,11 +3,11 @@ ghost use Rattle.std.specs.Prelude.{◌≡◌, false, map, drop, Option, None, O
 ghost use Rattle.tree_rules.specs.Claim as rules;
 ghost use Rattle.pns_rules.specs.Shape.{shape_of};
 ghost use Rattle.pgraph.specs.View.{node_of};
-ghost use Rattle.cert_parts.specs.Known.{KnowsInside};
+ghost use Rattle.cert_check.specs.Known.{KnowsInside};
 ghost use Rattle.cert_check.specs.OpenLeaves.{leaves_at};
 ghost use Rattle.rank_rules.specs.Leaf.{LeafPasses, LeafFails};
 ghost use Rattle.rank_rules.specs.Marked.{marked_leaf, first_mark};
-ghost use Rattle.ranked_tree.specs.View.{mark_of};
+ghost use Rattle.rank_check.specs.View.{mark_of};
 ghost use Rattle.rank_check.specs.Marks.{MarkFails, AreKnown, AllMarksPass, MarkIsFault};
 
 use crate::leaf::judge_numbered;
@@ -15,7 +15,7 @@ use branch_tree::Network;
 use cert_check::OpenLeaf;
 use pgraph::Site;
 use rank_rules::RankWhy;
-use ranked_tree::Mark;
+use crate::Mark;
 use tree_rules::Why;
 use unit_sets::Node;
 

@@ -7,7 +7,7 @@ ghost use Rattle.rank_check.specs.Earlier.{earlier};
 
 use crate::order::judge_order;
 use branch_tree::Network;
-use cert_parts::judge_network;
+use cert_check::judge_network;
 use pgraph::Site;
 use rank_rules::RankWhy;
 use tree_rules::Why;

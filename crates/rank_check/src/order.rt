@@ -7,7 +7,7 @@ ghost use Rattle.rank_rules.specs.Networks.{like_why, OrderFails};
 ghost use Rattle.rank_check.specs.Earlier.{earlier};
 
 use branch_tree::Network;
-use frac128::CostOver;
+use exact_numbers::CostOver;
 use rank_rules::RankWhy;
 use unit_sets::UnitSet;
 

@@ -9,7 +9,7 @@ use Rattle.rank_laws.specs.Laws.{AlternativesAreRight}
 use Rattle.rank_rules.specs.Text.{Text, ranking_of}
 use Rattle.rank_text.specs.Laws.{ReadRanksAreSpelled}
 use Rattle.studio_rules.specs.Reading.{TwoFilesSay}
-use Rattle.io_rules.specs.State.{ShelfState, OutputsState}
+use Rattle.text_rules.specs.State.{ShelfState, OutputsState}
 use Rattle.studio_rules.specs.Ending.{Ends}
 use Rattle.studio_rules.specs.declared.status.Status.{Status}
 use Rattle.studio_rules.specs.declared.status.Status.TheVariants.{Done}

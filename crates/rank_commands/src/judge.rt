@@ -12,7 +12,7 @@ ghost use Rattle.studio_rules.specs.declared.status.Status.TheVariants.{Done, Re
 use crate::rank_file::rank_of;
 use crate::words::rank_why_word;
 use command_files::problem_of;
-use endings::say::{say, say_memory};
+use command_files::say::{say, say_memory};
 use pgraph::{Graph, Site};
 use pns_io::{Outputs, Shelf, Sink};
 use pns_problem::Problem;
@@ -20,7 +20,7 @@ use rank_check::{RankRefusal, check_rank};
 use rank_laws::{alternatives_are_right, listed_are_least, others_are_no_better};
 use rank_rules::RankWhy;
 use rank_text::read_ranks_are_spelled;
-use ranked_tree::RankText;
+use rank_check::RankText;
 use std::alloc::{AllocError, Global};
 use studio_rules::Status;
 

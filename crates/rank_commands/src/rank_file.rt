@@ -7,12 +7,12 @@ ghost use Rattle.studio_rules.specs.Ending.{Ends, Says};
 ghost use Rattle.studio_rules.specs.Keeps.{Keeps};
 
 use command_files::{bytes_of, say_tree_fault};
-use endings::say::say_memory;
-use messages::{Format, Source};
+use command_files::say::say_memory;
+use studio_words::{Format, Source};
 use pns_io::{Outputs, Shelf, Sink};
 use pns_problem::Problem;
 use rank_text::read_rank;
-use ranked_tree::RankText;
+use rank_check::RankText;
 use std::alloc::Global;
 use studio_rules::Status;
 use tree_reading::TreeFault;

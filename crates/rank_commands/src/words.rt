@@ -3,7 +3,7 @@ ghost use Rattle.std.specs.Prelude.{◌≡◌};
 ghost use Rattle.studio_rules.specs.RankWords.{rank_why_word};
 
 use rank_rules::RankWhy;
-use refusal_words::why_word;
+use command_files::why_word;
 
 /// The word that is printed for a cause.
 pub fn rank_why_word(why: RankWhy) -> &'static str

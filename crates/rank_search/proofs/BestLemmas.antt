@@ -18,7 +18,7 @@ use Rattle.rank_rules.specs.Networks.{cost_of, last_cost}
 use Rattle.search_tree.specs.Growth.{EndsOpen}
 use Rattle.search_tree.specs.Cells.{Cell, no_cell, place_of, cell_at}
 use Rattle.tree_rules.specs.Costs.{HasFallen}
-use Rattle.turn_laws.proofs.GrowLemmas.{leaf_fallen}
+use Rattle.search_tree.proofs.GrowLemmas.{leaf_fallen}
 use Rattle.node_evaluation.specs.Looks.{is_bounded, is_charged, IsFoundAt}
 use Rattle.node_evaluation.specs.Children.{IsSolvedAs, IsSolvedBy, AreSolvedBy}
 use Rattle.rank_search.specs.Found.{FoundAt, networks_of, IsOfLeaf, AreApart, AreRising}

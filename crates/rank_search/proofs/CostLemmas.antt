@@ -11,10 +11,10 @@ use Rattle.pns_rules.specs.Nodes.{Node}
 use Rattle.tree_rules.specs.Claim.{Network, CostOver, IsAtMost}
 use Rattle.tree_rules.specs.Lean.{MayUndercut, HasCheaper}
 use Rattle.rank_rules.specs.Networks.{cost_of, last_cost}
-use Rattle.turn_laws.specs.Values.{IsPositive, IsPositiveCost}
+use Rattle.search_tree.specs.Values.{IsPositive, IsPositiveCost}
 use Rattle.tree_rules.specs.Costs.{IsNoMore, HasFallen}
-use Rattle.turn_laws.proofs.FractionLemmas.{fraction_trans}
-use Rattle.turn_laws.proofs.OrderLemmas.{reached_may_undercut}
+use Rattle.search_tree.proofs.FractionLemmas.{fraction_trans}
+use Rattle.search_tree.proofs.OrderLemmas.{reached_may_undercut}
 use Rattle.node_evaluation.specs.Evaluated.{cost_in}
 use Rattle.rank_search.specs.Found.{FoundAt, networks_of, undercut_by, AreRising}
 use Rattle.rank_search.specs.Listed.{Listed, AreScaled, IsListed, AreDearer, IsAdded, AreAdded}

@@ -11,8 +11,8 @@ use Rattle.pns_rules.specs.Ends.{IsSound, IsReduced}
 use Rattle.tree_rules.specs.Ways.{Way, MayBranch, options_at, IsDecision}
 use Rattle.tree_rules.specs.Tree.{End, branch, leaf, TreeNode, after_all, below, Stands, Pass}
 use Rattle.tree_laws.proofs.CountLemmas.{length-listed, free_count}
-use Rattle.search_laws.proofs.ReducedLemmas.{free_units_are_few}
-use Rattle.search_laws.proofs.SpentLemmas.{few_with_options}
+use Rattle.search_tree.proofs.ReducedLemmas.{free_units_are_few}
+use Rattle.search_tree.proofs.SpentLemmas.{few_with_options}
 
 module _ (g : Shape) (proper : IsProper g) (all : ℕ → Bool) (union : IsUnion g (λ u. false) all)
     {L : Type 0} (P : Node → L → Type 0) (start : Node) where

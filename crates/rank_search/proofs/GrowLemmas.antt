@@ -16,14 +16,14 @@ use Rattle.tree_rules.specs.Ways.{Way, MayBranch, options_at, child_at}
 use Rattle.tree_rules.specs.Tree.{branch}
 use Rattle.tree_rules.specs.Claim.{Network, CostOver, claimed_cost}
 use Rattle.tree_rules.specs.Lean.{MayUndercut, IsNoDearer}
-use Rattle.search_laws.proofs.ValueLemmas.{ways_are_dearer}
+use Rattle.search_tree.proofs.ValueLemmas.{ways_are_dearer}
 use Rattle.search_tree.specs.Cells.{Cell, place_of, cell_at}
 use Rattle.search_tree.specs.Fits.{Follows}
 use Rattle.search_tree.specs.Growth.{as_parent}
-use Rattle.turn_laws.specs.Turns.{AreChildren}
-use Rattle.turn_laws.proofs.OrderLemmas.{reached_dearer}
-use Rattle.branch_choice.specs.declared.choice.Choice.{Choice}
-use Rattle.branch_choice.specs.Choices.{IsChoice, way_of, option_count}
+use Rattle.search_tree.specs.Turns.{AreChildren}
+use Rattle.search_tree.proofs.OrderLemmas.{reached_dearer}
+use Rattle.node_evaluation.specs.declared.choice.Choice.{Choice}
+use Rattle.node_evaluation.specs.Choices.{IsChoice, way_of, option_count}
 use Rattle.node_evaluation.specs.Evaluated.{PastPlaces, cost_in}
 use Rattle.node_evaluation.specs.Children.{claim_with, AreSolvedBy, cells_of}
 use Rattle.node_evaluation.proofs.ChildLemmas.{comes}

@@ -15,8 +15,8 @@ use Rattle.rank_rules.specs.Leaf as ranks
 use Rattle.rank_rules.specs.Ranked as ranked
 use Rattle.tree_rules.specs.Known.{KnowsEnd, KnowsTree}
 use Rattle.rank_rules.specs.Marked.{Mark, marked, marked_end, first_mark, marks_behind}
-use Rattle.ranked_tree.specs.declared.mark.Mark as code
-use Rattle.ranked_tree.specs.View.{mark_of}
+use Rattle.rank_check.specs.declared.mark.Mark as code
+use Rattle.rank_check.specs.View.{mark_of}
 use Rattle.rank_rules.specs.Text.{AreNumbered, FitsWay, FitWays, IsBareAt, AreBare}
 use Rattle.search_tree.specs.Preorder.{told_end}
 use Rattle.rank_search.specs.Naming.{Names, opened_end, opened_node, opened, marks_at, marks_in}

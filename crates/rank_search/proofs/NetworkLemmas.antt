@@ -20,7 +20,7 @@ use Rattle.tree_rules.specs.Leaf.{bounded, LeafPasses}
 use Rattle.tree_rules.specs.Accepted.{Proves}
 use Rattle.tree_laws.proofs.AcceptedLemmas.{leaves_are_apart}
 use Rattle.rank_rules.specs.Networks.{RisesFrom, IsNewTo, ArePassing}
-use Rattle.ranked_tree.specs.Known.{KnowsNetwork}
+use Rattle.rank_check.specs.Known.{KnowsNetwork}
 use Rattle.search_tree.specs.Cells.{Cell, place_of, cell_at}
 use Rattle.search_tree.specs.Preorder.{IsPreorder, tree_of}
 use Rattle.search_tree.specs.Laws.{IsGrown}

@@ -12,8 +12,8 @@ use Rattle.tree_rules.specs.Leaf.{Leaf, dead, clash, refuted, bounded, charged, 
 use Rattle.tree_rules.specs.Claim.{Network, CostOver}
 use Rattle.tree_rules.specs.Accepted.{first_node}
 use Rattle.search_tree.specs.Cells.{Cell, place_of, cell_at}
-use Rattle.turn_laws.specs.Values.{IsPositiveCost}
-use Rattle.turn_laws.specs.Kept.{LeafIsKept, EndIsKept}
+use Rattle.search_tree.specs.Values.{IsPositiveCost}
+use Rattle.search_tree.specs.Kept.{LeafIsKept, EndIsKept}
 use Rattle.node_evaluation.specs.Evaluated.{PastPlaces}
 use Rattle.node_evaluation.specs.Children.{AreSolvedBy}
 use Rattle.abb_search.specs.declared.growing.Growing.{Growing}

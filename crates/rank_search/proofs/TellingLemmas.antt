@@ -23,7 +23,7 @@ use Rattle.tree_rules.specs.Claim.{Network, CostOver, claimed_cost, IsSized}
 use Rattle.tree_rules.specs.Lean.{IsLean}
 use Rattle.tree_rules.specs.Stops.{IsOpenAt, IsPending, IsSpent}
 use Rattle.tree_rules.specs.Accepted.{Tree, first_node}
-use Rattle.ranked_tree.specs.Known.{KnowsNetwork}
+use Rattle.rank_check.specs.Known.{KnowsNetwork}
 use Rattle.rank_rules.specs.declared.naming.Naming.{Naming}
 use Rattle.rank_rules.specs.declared.naming.Naming.TheVariants.{Only}
 use Rattle.rank_rules.specs.Leaf as ranks
@@ -41,7 +41,7 @@ use Rattle.search_tree.specs.Shut.{shut_as, shut_end, shut_cells}
 use Rattle.search_tree.proofs.CountLemmas.{preorder_has_all}
 use Rattle.search_tree.proofs.PassLemmas.{passes, cells_stand, told_passes, aligned_start}
 use Rattle.search_tree.proofs.ShutLemmas.{proof_of, shut_at, shut_length, shut_linked}
-use Rattle.turn_laws.proofs.LeanLemmas.{kept_is_lean}
+use Rattle.search_tree.proofs.LeanLemmas.{kept_is_lean}
 use Rattle.node_evaluation.specs.Children.{claim_with}
 use Rattle.node_evaluation.specs.Looks.{KnowsCell}
 use Rattle.abb_search.specs.declared.growing.Growing.{Growing}

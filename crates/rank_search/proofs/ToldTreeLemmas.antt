@@ -21,8 +21,8 @@ use Rattle.search_tree.specs.Preorder.{IsPreorder, tree_of, told_end, told_at, t
 use Rattle.search_tree.proofs.CountLemmas.{preorder_has_all}
 use Rattle.search_tree.proofs.PassLemmas.{nodes_are_told, told_cells_stand, cells_stand}
 use Rattle.search_tree.proofs.PassLemmas.{aligned_start}
-use Rattle.turn_laws.specs.Turns.{IsLeastOpen}
-use Rattle.turn_laws.proofs.OrderLemmas.{no_dearer_self}
+use Rattle.search_tree.specs.Turns.{IsLeastOpen}
+use Rattle.search_tree.proofs.OrderLemmas.{no_dearer_self}
 use Rattle.rank_search.proofs.OrderLemmas.{stands_in}
 
 module _ {L : Type 0} (f : Leaf → L) where

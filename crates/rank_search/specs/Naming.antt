@@ -8,8 +8,8 @@ use Rattle.tree_rules.specs.Leaf.{Leaf, dead, clash, refuted, bounded, charged, 
 use Rattle.tree_rules.specs.Accepted.{Tree}
 use Rattle.rank_rules.specs.declared.naming.Naming.{Naming}
 use Rattle.rank_rules.specs.Marked.{Mark}
-use Rattle.ranked_tree.specs.declared.mark.Mark as marks
-use Rattle.ranked_tree.specs.View.{mark_of}
+use Rattle.rank_check.specs.declared.mark.Mark as marks
+use Rattle.rank_check.specs.View.{mark_of}
 use Rattle.search_tree.specs.declared.shut.Shut.{Shut}
 use Rattle.search_tree.specs.Cells.{Cell}
 use Rattle.search_tree.specs.Preorder.{IsPreorder, tree_of}

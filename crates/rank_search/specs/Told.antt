@@ -11,7 +11,7 @@ use Rattle.rank_rules.specs.Ranked.{Proves}
 use Rattle.tree_rules.specs.Known.{KnowsTree}
 use Rattle.rank_rules.specs.Marked.{Mark, marked}
 use Rattle.rank_rules.specs.Text.{IsCounted}
-use Rattle.ranked_tree.specs.Known.{KnowsNetwork}
+use Rattle.rank_check.specs.Known.{KnowsNetwork}
 use Rattle.tree_rules.specs.Proved.{IsBelowLimit}
 use Rattle.rank_rules.specs.Leaf.{IsOpenLeaf}
 

@@ -3,7 +3,7 @@ ghost use Rattle.std.specs.Prelude.{◌≡◌, ◌<◌, ◌^◌, ◌++◌, ◌�
 ghost use Rattle.problem_rules.specs.Each.{Each};
 ghost use Rattle.tree_rules.specs.Claim.{IsSized};
 ghost use Rattle.tree_rules.specs.Tree.{IsTree};
-ghost use Rattle.ranked_tree.specs.View.{mark_of};
+ghost use Rattle.rank_check.specs.View.{mark_of};
 ghost use Rattle.search_tree.specs.Cells.{IsLinked, cell_at};
 ghost use Rattle.rank_search.specs.Found.{networks_of};
 ghost use Rattle.rank_search.specs.Naming.{AreWithin, IsNamedTree, names_of, name_at, names_at};
@@ -13,7 +13,7 @@ use crate::found::FoundAt;
 use branch_tree::{End, Tree, TreeNode};
 use node_pool::Pool;
 use rank_rules::Naming;
-use ranked_tree::{Mark, Name};
+use rank_check::{Mark, Name};
 use search_tree::{Cell, Shut, nodes_in_preorder};
 use std::alloc::{AllocError, Global};
 use std::mem;

@@ -7,7 +7,7 @@ ghost use Rattle.tree_rules.specs.Accepted.{first_node};
 ghost use Rattle.tree_rules.specs.Stops.{IsOpenAt};
 ghost use Rattle.pgraph.specs.View.{node_of};
 ghost use Rattle.rank_rules.specs.Marked.{marked};
-ghost use Rattle.ranked_tree.specs.View.{mark_of};
+ghost use Rattle.rank_check.specs.View.{mark_of};
 ghost use Rattle.search_tree.specs.Cells.{place_of, cell_at, IsLinked};
 ghost use Rattle.search_tree.specs.Growth.{EndsOpen};
 ghost use Rattle.abb_search.specs.Closing.{ShutAll, EndSome, LeavesOpen, IsSpentFor};
@@ -24,7 +24,7 @@ use abb_search::Growing;
 use branch_tree::{Network, Tree};
 use pgraph::Site;
 use rank_rules::Naming;
-use ranked_tree::Mark;
+use rank_check::Mark;
 use search_tree::Shut;
 use std::alloc::{AllocError, Global};
 

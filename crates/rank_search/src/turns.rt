@@ -13,7 +13,7 @@ use abb_search::{
 };
 use node_evaluation::{Evaluator, Workspace};
 use pgraph::Site;
-use progress::Watch;
+use pns_io::Watch;
 use std::alloc::{AllocError, Global};
 
 /// Branches the leaf that comes next and adds what is found at its children.

@@ -12,7 +12,7 @@ use crate::turns::run;
 use abb_search::{Growing, look_at_root};
 use node_evaluation::{Evaluator, Workspace, copy_of_network};
 use pgraph::Site;
-use progress::{Effort, Watch};
+use pns_io::{Effort, Watch};
 use std::alloc::{AllocError, Global};
 use unit_sets::{Node, UnitSet};
 

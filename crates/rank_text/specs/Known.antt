@@ -3,7 +3,7 @@ use Rattle.problem_rules.specs.Each.{Each}
 use Rattle.problem_rules.specs.Problem.{Problem}
 use Rattle.tree_rules.specs.Known.{KnowsTree, KnowsTail}
 use Rattle.rank_rules.specs.Text.{Text}
-use Rattle.ranked_tree.specs.Known.{KnowsNetwork}
+use Rattle.rank_check.specs.Known.{KnowsNetwork}
 
 pub record KnowsText (p : Problem) (t : Text) : Type 0 where
   pub networks : Each (KnowsNetwork p) t.networks

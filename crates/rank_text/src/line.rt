@@ -5,7 +5,7 @@ ghost use Rattle.text_rules.specs.Canonical.{joined};
 ghost use Rattle.rank_rules.specs.Spelling.{way_word};
 
 use rank_rules::Naming;
-use ranked_tree::Name;
+use rank_check::Name;
 use std::alloc::AllocError;
 use tree_text::{begin, push_count, push_number, push_numbers};
 

@@ -4,13 +4,13 @@ ghost use Rattle.tree_text_rules.specs.LineRead.{one_and_more};
 ghost use Rattle.tree_text_rules.specs.Token as rules;
 ghost use Rattle.text_lines.specs.Tells.{TellsLine};
 ghost use Rattle.tree_reading.specs.View.{line_of, tokens_in};
-ghost use Rattle.ranked_tree.specs.View.{mark_of};
+ghost use Rattle.rank_check.specs.View.{mark_of};
 ghost use Rattle.rank_rules.specs.Opened.{mark_with, named_read};
 
 use branch_tree::{End, Scaled};
 use pns_problem::Problem;
 use rank_rules::Naming;
-use ranked_tree::{Mark, Name};
+use rank_check::{Mark, Name};
 use std::alloc::Global;
 use tree_reading::{
     Line, LineFault, LineParts, children_of, end_line, lesser, next_token, parts_of,

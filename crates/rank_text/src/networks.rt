@@ -4,7 +4,7 @@ ghost use Rattle.problem_rules.specs.Each.{Each};
 ghost use Rattle.tree_reading.specs.Place.{IsCut, IsReached, lines_at};
 ghost use Rattle.tree_reading.specs.Taken.{taken};
 ghost use Rattle.text_lines.specs.Tells.{Tells};
-ghost use Rattle.ranked_tree.specs.Known.{KnowsNetwork};
+ghost use Rattle.rank_check.specs.Known.{KnowsNetwork};
 ghost use Rattle.rank_rules.specs.Read.{networks_taken};
 
 use branch_tree::Network;

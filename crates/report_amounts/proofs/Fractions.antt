@@ -12,9 +12,9 @@ use Rattle.std.proofs.Math.Nat.{mul-div_cancel'}
 use Rattle.integer_laws.proofs.Ring.{mul_neg_at}
 use Rattle.integer_laws.specs.Range.{InRange}
 use Rattle.integer_laws.specs.Lowest.{IsLowest}
-use Rattle.int_rows.proofs.LowestLemmas.{lowest_same}
-use Rattle.frac128.specs.Product.{IsPastLowest}
-use Rattle.frac128.specs.Sum.{IsSumInRange, IsPastSum}
+use Rattle.exact_numbers.proofs.LowestLemmas.{lowest_same}
+use Rattle.exact_numbers.specs.Product.{IsPastLowest}
+use Rattle.exact_numbers.specs.Sum.{IsSumInRange, IsPastSum}
 use Rattle.text_rules.specs.Amount.{signed}
 use Rattle.report_rules.specs.Number.{Fraction, Number, common, gcd, lowest, is_in_range, kept}
 use Rattle.report_rules.specs.Number.{parts, are_in_range, sum_in_range, plus}

@@ -9,7 +9,7 @@ use Rattle.flow_rules.specs.Net.{net_of, materials_of}
 use Rattle.flow_rules.specs.Steps.{AreInRange}
 use Rattle.flow_rules.specs.FeasibleSteps.{units_at, balance_steps}
 use Rattle.tree_rules.specs.Claim.{Network, IsFeasible, size_in}
-use Rattle.pns_tables.proofs.FlowLemmas.{material_in_range}
+use Rattle.report_amounts.proofs.FlowLemmas.{material_in_range}
 
 pub material_known : (p : Problem) (w : Network) (j : ℕ)
     → has (materials_of (net_of p) (has w.units)) j ≡ true → j < length p.materials

@@ -13,7 +13,7 @@ use crate::number::Number;
 use branch_tree::Network;
 use flow_program::rate_at;
 use pns_problem::{OperatingUnit, Problem};
-use pns_tables::size_at;
+use crate::size_at;
 use report_rules::UnitAmount;
 
 pub fn unit_of(problem: &Problem, u: u32) -> &OperatingUnit

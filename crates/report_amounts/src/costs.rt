@@ -13,7 +13,7 @@ use crate::number::Number;
 use branch_tree::Network;
 use pgraph::Site;
 use pns_problem::{Material, Problem};
-use pns_tables::{flow_of, materials_in};
+use crate::{flow_of, materials_in};
 use report_rules::CostPart;
 
 pub fn material_of(problem: &Problem, j: u32) -> &Material

@@ -11,20 +11,71 @@
 //! those of materials; `marginals`, what one more of a material costs or of a size saves; `gap`,
 //! the gap to a lower bound; `ranks` and `changes`, what a network costs more than the first of a
 //! ranking, and its units against those of the first.
+//!
+//! A fraction's nearest decimal, of given places or six digits, halves away from 0.
+//!
+//! `Decimal` of `report_rules` has the text. A fraction is rounded at most once. With given places,
+//! a `~` comes before a decimal that is not the fraction itself. With six digits there is no `~`. A
+//! quotient to be printed is divided by the factors of its divisor one after another. So no product
+//! of them is formed. A lower bound is rounded down.
+//!
+//! Modules: `places`, digits after the point; `signed`, a rounded number with its sign; `quotient`;
+//! `six`, six digits; `down`, six digits of a number that is rounded down.
+//!
+//! A network as tables of comma-separated fields, which a spreadsheet opens.
+//!
+//! [`unit_table`] has the units with their sizes and fixed costs, [`material_table`] the materials
+//! with what is left over of each. Their bytes are those of `Table` in `report_rules`, as the crate
+//! `csv` writes them. All sums are those by which the flows of a network are judged, so no sum
+//! overflows that did not overflow there. The numbers of other texts on a network come from
+//! [`size_at`] and [`flow_of`] too, and its materials from [`materials_in`].
+//!
+//! Modules: `rows`, records by the writer of `csv`; `sizes` and `flows`, the numbers; `units` and
+//! `materials`, the tables.
+//!
+//! A network's marginals, by least flows.
+//!
+//! They say what one more of each of its materials costs, and what one more of each size saves.
+//! They come from multipliers of least flows for its units. `Marginal` of `report_rules` has what
+//! they mean. [`marginals_of`] gives them, or says that a number overflows. The crates that print
+//! them do not know where they come from.
+//!
+//! Modules: `network`, the call.
 #![tactic(auto)]
 
 mod amounts;
 mod changes;
 mod costs;
+mod down;
+mod flows;
 mod gap;
 mod marginals;
+mod materials;
+mod network;
 mod number;
+mod places;
+mod quotient;
 mod ranks;
+mod rows;
+mod signed;
+mod six;
+mod sizes;
+mod units;
 
 pub use amounts::{amount, share_of, size, unit_of, unit_sum};
 pub use changes::{change_of, push_word};
 pub use costs::{cost, cost_sum, flow_at, material_of, net, price};
+pub use down::push_six_digits_down;
+pub use flows::{flow_of, moved_at};
 pub use gap::{gap_above, push_gap};
 pub use marginals::{Marginals, Multipliers};
+pub use materials::{kind_word, material_table, materials_in};
+pub use network::marginals_of;
 pub use number::Number;
+pub use places::push_places;
+pub use quotient::push_quotient;
 pub use ranks::{above_first, place_of, share_above};
+pub use signed::push_signed;
+pub use six::{places_behind, push_six_digits, scale_of};
+pub use sizes::size_at;
+pub use units::unit_table;

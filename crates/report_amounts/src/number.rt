@@ -7,8 +7,8 @@ ghost use Rattle.report_rules.specs.Number.{half_of, doubled_text, number_with, 
 ghost use Rattle.report_rules.specs.Number.{number_text, thousandths_text, share_text};
 ghost use Rattle.report_rules.specs.Lower.{rounded_up, tenths_text, gap_words};
 
-use decimals::{places_behind, push_signed, scale_of};
-use frac128::Frac;
+use crate::{places_behind, push_signed, scale_of};
+use exact_numbers::Frac;
 use std::alloc::AllocError;
 use std::marker::Model;
 

@@ -14,7 +14,7 @@ use Rattle.report_tables.specs.First.{IsFirstFeasible}
 use Rattle.report_rules.specs.Measures.{Measures}
 use Rattle.report_rules.specs.RankVerdict.{IsRankVerdict}
 use Rattle.report_rules.specs.declared.rank_verdict.RankVerdict.{RankVerdict}
-use Rattle.range_rules.specs.Table.{is_table}
+use Rattle.report_rules.specs.RangeTable.{is_table}
 use Rattle.report_commands.specs.Works.{TreeWork, RankWork, VerdictWork, RankLines, FormSays}
 use Rattle.report_commands.specs.declared.form.Form.{Form}
 use Rattle.report_commands.specs.declared.form.Form.TheVariants.{Report, Json, Graph}

@@ -16,7 +16,7 @@ ghost use Rattle.studio_rules.specs.Keeps.{Keeps};
 use crate::form::Form;
 use crate::text::say_any;
 use command_files::{bytes_of, plant_of, problem_of};
-use endings::say::say_memory;
+use command_files::say::say_memory;
 use pns_io::{Outputs, Shelf, Sink};
 use pns_problem::Problem;
 use report_tables::Measures;

@@ -5,12 +5,12 @@ ghost use Rattle.studio_rules.specs.RankGraph.{RankGraphWork};
 ghost use Rattle.studio_rules.specs.Ending.{Ends, Tells};
 
 use crate::ranking::say_network;
-use endings::say::say_told;
+use command_files::say::say_told;
 use network_commands::{list_graph, say_refused};
 use pgraph::Site;
 use pns_io::{Outputs, Sink};
 use rank_check::judge_networks;
-use ranked_tree::RankText;
+use rank_check::RankText;
 use std::alloc::Global;
 use studio_rules::{Scene, Status};
 use tree_rules::Why;

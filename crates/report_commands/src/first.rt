@@ -4,7 +4,7 @@ ghost use Rattle.report_rules.specs.Marginal.{AreFirstMarginals};
 ghost use Rattle.report_tables.specs.First.{IsFirstFeasible};
 
 use branch_tree::Network;
-use marginals::marginals_of;
+use report_amounts::marginals_of;
 use pgraph::Site;
 use report_amounts::Marginals;
 use std::alloc::{AllocError, Global};

@@ -15,12 +15,26 @@
 //! marginals of its first network; `report` and `object`, two texts of a ranking; `drawing`, its
 //! graph; `ranking`, `table` and `text`, the way from the bytes of a file to the text; `call`, the
 //! commands.
+//!
+//! The command `json`: the verdict is that of `report`, and each number is exact.
+//!
+//! It prints what a tree proves of its claim, and the facts of the network of the claim, as one
+//! JSON object. `Json` of `studio_rules` has its lines: the head, and then those of `json_text`.
+//!
+//! `report_commands` reads the files.
+//!
+//! Modules: `head`, the verdict and the claim; `text`, the whole; `headed`, that of a tree that may
+//! have a head; `call`, from the tree to the text.
 #![tactic(auto)]
 
 pub mod call;
 mod drawing;
 mod first;
 mod form;
+mod head;
+mod headed;
+mod json_call;
+mod json_text;
 mod object;
 mod ranking;
 mod report;
@@ -29,3 +43,4 @@ mod text;
 mod words;
 
 pub use form::{Form, Reader};
+pub use json_call::say_stated;

@@ -2,21 +2,21 @@
 ghost use Rattle.std.specs.Prelude.{◌≡◌, [], ℕ, List, IfOk, codes};
 ghost use Rattle.rank_rules.specs.Networks.{ArePassing};
 ghost use Rattle.rank_rules.specs.Text.{ranking_of};
-ghost use Rattle.json_rules.specs.Facts as facts;
-ghost use Rattle.json_rules.specs.Json.{member};
-ghost use Rattle.json_rules.specs.Ranked as ranked;
+ghost use Rattle.report_rules.specs.Facts as facts;
+ghost use Rattle.report_rules.specs.Json.{member};
+ghost use Rattle.report_rules.specs.JsonRanked as ranked;
 ghost use Rattle.report_rules.specs.RankVerdict.{low_of};
 ghost use Rattle.studio_rules.specs.Lines.{text_of};
 ghost use Rattle.studio_rules.specs.RankJson as rules;
 
 use crate::first::first_marginals;
-use json_pieces::Json;
+use json_text::Json;
 use json_text::{
     bound_member, count_member, first_gap_member, first_of, networks_member, text_member,
 };
 use pgraph::Site;
 use rank_commands::rank_why_word;
-use ranked_tree::RankText;
+use rank_check::RankText;
 use report_rules::{LowerBound, RankVerdict};
 use std::alloc::{AllocError, Global};
 

@@ -8,7 +8,7 @@ ghost use Rattle.studio_rules.specs.RankReport.{rank_first_line, RankVerdictSays
 use crate::first::first_marginals;
 use crate::words::push_first_line;
 use pns_problem::Problem;
-use ranked_tree::RankText;
+use rank_check::RankText;
 use report_rules::RankVerdict;
 use report_tables::{Plant, ranking_of};
 use std::alloc::{AllocError, Global};

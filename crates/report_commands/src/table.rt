@@ -4,8 +4,8 @@ ghost use Rattle.studio_rules.specs.RangesJson.{TableSays};
 ghost use Rattle.studio_rules.specs.Ending.{Ends, Tells};
 
 use command_files::say_tree_fault;
-use endings::say::{say_made, say_memory};
-use messages::{Format, Source};
+use command_files::say::{say_made, say_memory};
+use studio_words::{Format, Source};
 use pns_io::{Outputs, Sink};
 use pns_problem::Problem;
 use range_text::{read_table, table_json};

@@ -12,7 +12,7 @@ use network_commands::{push_gap_behind, push_low_words};
 use pns_problem::Problem;
 use rank_commands::rank_why_word;
 use rank_rules::RankWhy;
-use ranked_tree::{Asked, RankText};
+use rank_check::{Asked, RankText};
 use report_rules::{LowerBound, RankVerdict};
 use std::alloc::AllocError;
 

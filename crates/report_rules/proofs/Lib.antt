@@ -1,4 +1,6 @@
+mod LintedTexts
 mod LowerRows
 mod PlainTree
 mod WorkedMeasures
 mod WorkedRanking
+mod WorkedTable

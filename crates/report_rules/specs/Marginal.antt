@@ -8,7 +8,7 @@ use Rattle.problem_rules.specs.Problem.{Problem, unit_at, rate_of}
 use Rattle.flow_rules.specs.declared.place.Column.{Column}
 use Rattle.flow_rules.specs.declared.place.Place.{Place}
 use Rattle.flow_rules.specs.Net.{net_of, beside, million}
-use Rattle.path_rules.specs.PastPlace.{IsPastNamed}
+use Rattle.flow_rules.specs.PastPlace.{IsPastNamed}
 use Rattle.tree_rules.specs.Claim.{Claim, Network, network, infeasible, unknown}
 use Rattle.tree_rules.specs.LeastFlows.{decided, rows_of, IsLeastFlows}
 use Rattle.report_rules.specs.Number.{Number, nothing, times, plus, sum_of}

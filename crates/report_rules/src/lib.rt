@@ -9,22 +9,66 @@
 //! head proves, and `Lower` the lower bound of one that is not finished, and the gap. `Ranked` has
 //! the table of a ranking, `RankVerdict` what the tree of a ranking proves, and `RankLow` the lower
 //! bound of a ranking that is not finished.
+//!
+//! What is odd about a plant that has no fault, as definitions: the kinds of warnings, the items
+//! that they are of, and the lines that tell them.
+//!
+//! The definitions are in `specs/`: `Warned` (whether a kind of warning is due at a material, a
+//! unit, its rates or an exclusion, kind by kind over the problem and the units of its maximal
+//! structure), `Item` (which item a line of the text is of, and which kinds are due at it), `Words`
+//! (the word and the sentence of each kind) and `Lint` (all lines, in the order of the text).
+//! `proofs/` lints small texts by computation.
+//!
+//! The facts of a network as JSON, for programs.
+//!
+//! The network is that of a claim. The definitions are in `specs/`: `Json` (JSON text and its
+//! pieces), `Value` (a number, rounded in decimal and exactly), `Facts` (the lines of the object),
+//! `Lower` (the lower bound and the gap of a tree that is not finished) and `Ranked` (the networks
+//! of a ranking).
+//!
+//! What the sensitivity range of one price or cost is.
+//!
+//! It has the values of that number, with all others unchanged, at which a network stays optimal
+//! among the clash-free ones. [`Spot`] names the number, [`SpotKind`] its kind, and [`Side`] the
+//! side of its present value on which another one is. The definitions are in `specs/`. `Spot` has
+//! the problem with another value in the spot. `Range` has the network's cost there, when it is
+//! optimal, what a range is, and when one may be left open. The laws are in `stability_laws`.
+//!
+//! Tables of ranges.
+//!
+//! `stable FILE TREE` prints such a table, and `json` prints it for programs. It has a row for each
+//! price and cost of a network, with the range of values in which the network stays optimal.
+//! [`Row`] is such a row, and [`End`] is an end of its range. The definitions are in `specs/`:
+//! `Table` (the grammar of the text, and its first fault) and `Object` (the lines of the JSON
+//! object). Nothing here says that a row is true.
 #![tactic(auto)]
 
 mod amount;
 mod column;
 mod cost_part;
+mod end;
 mod headed_verdict;
+mod item;
 mod lower_bound;
 mod rank_verdict;
 mod role;
+mod row;
+mod side;
+mod spot;
 mod verdict;
+mod warning;
 
 pub use amount::UnitAmount;
 pub use column::{Measure, Sort};
 pub use cost_part::CostPart;
+pub use end::End;
 pub use headed_verdict::HeadedVerdict;
+pub use item::Item;
 pub use lower_bound::LowerBound;
 pub use rank_verdict::RankVerdict;
 pub use role::Role;
+pub use row::Row;
+pub use side::Side;
+pub use spot::{Spot, SpotKind};
 pub use verdict::Verdict;
+pub use warning::Warning;

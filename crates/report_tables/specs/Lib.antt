@@ -1,1 +1,3 @@
 pub mod First
+pub mod Opened
+pub mod View

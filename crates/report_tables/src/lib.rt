@@ -9,16 +9,31 @@
 //! `column`, `line` and `table`, aligned tables; `cells`, more cells in a row; `limits`, whether a
 //! number is at a bound; `tables`, a table with an empty line after it; `units`, `materials` and
 //! `money`, the three tables; `foot`; `text`, the whole; `ranking`, the table of a ranking.
+//!
+//! The bounds that clash.
+//!
+//! If a tree proves that no network meets the bounds, the multipliers of each of its refuted leaves
+//! use some of them. `Clash` of `report_rules` has the lines, and [`clashes_of`] gives their bytes.
+//! The checker gives the leaves of a copy of the tree in which all leaves are open, and so the node
+//! of each leaf.
+//!
+//! Modules: `opened`, such a copy; `leaves`, the refuted leaves; `left`, what multipliers leave of
+//! a cost; `bounds`, the lines of bounds; `text`, the whole.
 #![tactic(auto)]
 
+mod bounds;
 mod cells;
+mod clash_text;
 mod column;
 mod foot;
+mod leaves;
+mod left;
 mod limits;
 mod line;
 mod materials;
 mod measures;
 mod money;
+mod opened;
 mod plant;
 mod ranking;
 mod row;
@@ -28,6 +43,7 @@ mod text;
 mod units;
 
 pub use cells::push_words;
+pub use clash_text::clashes_of;
 pub use foot::{left_out, push_names_or_none};
 pub use materials::material_limit;
 pub use measures::{MeasureUnit, Measures};

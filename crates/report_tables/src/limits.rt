@@ -5,7 +5,7 @@ ghost use Rattle.integer_laws.specs.Range.{InRange};
 ghost use Rattle.report_rules.specs.Report.{idle_words, least_words, most_words, limit_words};
 ghost use Rattle.report_rules.specs.Report.{unbounded_or};
 
-use int_rows::checked_product;
+use exact_numbers::checked_product;
 
 /// Whether z over d is the bound. A product that overflows is not z, which is in range.
 fn is_at(z: i128, bound: i128, d: i128) -> bool

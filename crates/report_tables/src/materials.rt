@@ -29,7 +29,7 @@ use crate::tables::push_table_and_gap;
 use branch_tree::Network;
 use pgraph::Site;
 use pns_problem::{Kind, Problem};
-use pns_tables::{kind_word, materials_in};
+use report_amounts::{kind_word, materials_in};
 use report_amounts::{Marginals, cost, cost_sum, flow_at, material_of, net, price, unit_sum};
 use report_rules::{CostPart, Sort, UnitAmount};
 use std::alloc::{AllocError, Global};

@@ -18,7 +18,7 @@ use crate::plant::Plant;
 use crate::row::Row;
 use crate::tables::push_table_and_gap;
 use branch_tree::Network;
-use decimals::{push_six_digits, push_six_digits_down};
+use report_amounts::{push_six_digits, push_six_digits_down};
 use pgraph::Site;
 use pns_problem::Problem;
 use report_amounts::{Number, cost_sum, unit_sum};

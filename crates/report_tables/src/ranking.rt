@@ -19,7 +19,7 @@ use crate::tables::push_table_and_gap;
 use crate::text::push_report;
 use branch_tree::Network;
 use pns_problem::Problem;
-use pns_tables::size_at;
+use report_amounts::size_at;
 use report_amounts::{Marginals, above_first, change_of, place_of, push_word, share_above};
 use report_rules::Sort;
 use std::alloc::{AllocError, Global};

@@ -17,7 +17,7 @@ use crate::units::push_units;
 use branch_tree::Network;
 use pgraph::Site;
 use pns_problem::Problem;
-use pns_tables::materials_in;
+use report_amounts::materials_in;
 use report_amounts::Marginals;
 use std::alloc::{AllocError, Global};
 

@@ -24,7 +24,7 @@ use crate::row::Row;
 use crate::tables::push_table_and_gap;
 use branch_tree::Network;
 use pns_problem::Problem;
-use pns_tables::size_at;
+use report_amounts::size_at;
 use report_amounts::{Marginals, amount, share_of, size, unit_of, unit_sum};
 use report_rules::{Sort, UnitAmount};
 use std::alloc::{AllocError, Global};

@@ -10,7 +10,7 @@ use Rattle.std.proofs.lemmas.Int.{ints}
 use Rattle.integer_laws.specs.Total.{total}
 use Rattle.integer_laws.proofs.Ring.{mul_comm_z, mul_assoc_z, mul-add_z, mul-zero_z}
 use Rattle.integer_laws.proofs.LowestTerms.{part_divides}
-use Rattle.int_rows.proofs.Division.{quotient_exact}
+use Rattle.exact_numbers.proofs.Division.{quotient_exact}
 use Rattle.number_sets.specs.Sets.{any_below}
 use Rattle.number_sets.proofs.SetLemmas.{any_below-some, any_below-from}
 use Rattle.pns_rules.specs.Shape.{Shape}

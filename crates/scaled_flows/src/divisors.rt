@@ -16,7 +16,7 @@ ghost use Rattle.scaled_flows.specs.Found.{AreRateDivisors, AreUnitDivisors, Div
 
 use crate::settled::scaled;
 use flow_program::{put_rates, rate_at, row_range, unit_numbers};
-use int_rows::{checked_product, gcd};
+use exact_numbers::{checked_product, gcd};
 use pgraph::Graph;
 use pns_problem::Problem;
 use std::alloc::{AllocError, Global};

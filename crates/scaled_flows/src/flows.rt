@@ -1,6 +1,6 @@
 //! The check of guessed flows.
 ghost use Rattle.std.specs.Prelude.{◌≡◌, ◌<◌, ℕ, true, IfSome};
-ghost use Rattle.mixed_numbers.specs.Number.{numerator, denominator};
+ghost use Rattle.exact_numbers.specs.Number.{numerator, denominator};
 ghost use Rattle.number_sets.specs.Sets.{has};
 ghost use Rattle.pns_rules.specs.Shape.{shape_of};
 ghost use Rattle.pgraph.specs.Tables.{shape};
@@ -14,7 +14,7 @@ use crate::optimum::worth_of;
 use crate::rows::are_rows_settled;
 use crate::units::settled_costs;
 use flow_program::{by_unit, fixed_costs, sets_of};
-use mixed_numbers::Mixed;
+use exact_numbers::Mixed;
 use pgraph::Graph;
 use pns_problem::Problem;
 use unit_sets::Node;

@@ -1,6 +1,6 @@
 //! The check of a guessed optimum.
 ghost use Rattle.std.specs.Prelude.{◌≡◌, ◌<◌, ◌≤ℤ◌, ◌*ℤ◌, ℕ, pos, true, IfSome};
-ghost use Rattle.mixed_numbers.specs.Number.{numerator, denominator};
+ghost use Rattle.exact_numbers.specs.Number.{numerator, denominator};
 ghost use Rattle.number_sets.specs.Sets.{has};
 ghost use Rattle.pns_rules.specs.Shape.{shape_of};
 ghost use Rattle.pgraph.specs.Tables.{shape};
@@ -13,7 +13,7 @@ use crate::Scales;
 use crate::rows::are_rows_settled;
 use crate::units::settled_costs;
 use flow_program::{by_material, by_unit, fixed_costs, sets_of};
-use mixed_numbers::Mixed;
+use exact_numbers::Mixed;
 use pgraph::Graph;
 use pns_problem::Problem;
 use unit_sets::Node;

@@ -16,7 +16,7 @@ ghost use Rattle.scaled_flows.specs.Settled.{IsRowSettled};
 use crate::Scales;
 use crate::settled::{is_settled, scaled, scaled_rate};
 use flow_program::{NodeSets, Range, rate_at, row_range, units_with};
-use int_rows::{checked_product, checked_sum};
+use exact_numbers::{checked_product, checked_sum};
 use pgraph::Graph;
 use pns_problem::Problem;
 use unit_sets::{Node, UnitSet};

@@ -17,7 +17,7 @@ ghost use Rattle.scaled_flows.specs.Settled.{IsSettled, IsSizeSettled};
 use crate::Scales;
 use crate::settled::{is_settled, scaled, scaled_rate};
 use flow_program::{Range, UnitNumbers, put_rates, unit_numbers};
-use int_rows::{checked_difference, checked_product, checked_sum};
+use exact_numbers::{checked_difference, checked_product, checked_sum};
 use pgraph::Graph;
 use pns_problem::Problem;
 use unit_sets::{MatSet, Node, UnitSet};

@@ -7,7 +7,7 @@ use Rattle.std.proofs.lemmas.Bool.{not-true, or_cases, or_left}
 use Rattle.std.proofs.lemmas.List.{get_or_append_left, length-set}
 use Rattle.link_lists.specs.Lists.{has, without}
 use Rattle.link_lists.proofs.Cells.{has-here, has-later, has-without}
-use Rattle.mixed_numbers.specs.declared.number.Mixed.{Mixed}
+use Rattle.exact_numbers.specs.declared.number.Mixed.{Mixed}
 use Rattle.node_pool.specs.Order.{is_at_least, placed}
 use Rattle.node_pool.specs.Pooled.{Pooled, IsShut, IsWithLeaf, with_shut, with_payload}
 use Rattle.node_pool.proofs.Order.{has-placed}

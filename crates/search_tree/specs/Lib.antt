@@ -1,7 +1,13 @@
+pub mod Below
 pub mod Cells
-pub mod Preorder
 pub mod Fits
 pub mod Growth
+pub mod Kept
 pub mod Laws
+pub mod Preorder
 pub mod Runs
+pub mod SearchLaws
 pub mod Shut
+pub mod TurnLaws
+pub mod Turns
+pub mod Values

@@ -9,7 +9,7 @@ ghost use Rattle.search_tree.specs.Growth.{cells_in_turn, values_in_turn};
 
 use crate::cell::Cell;
 use branch_tree::End;
-use mixed_numbers::Mixed;
+use exact_numbers::Mixed;
 use node_pool::Pool;
 
 /// A child that is ready, with its value.

@@ -10,16 +10,45 @@
 //! - `shut`: what an open leaf ends with in a tree
 //! - `walk`: the cells in preorder
 //! - `laws`: what holds of the tree if each cell fits
+//!
+//! Laws: children cost no less, and units left at a reduced node are a structure.
+//!
+//! Nodes below a node have no cheaper relaxed flows. At a reduced node the units that are not left
+//! out form a solution structure. A material that is still to decide has two options or more, and
+//! so a lean tree has few nodes. `specs/Laws` has the laws, over the definitions of `pns_rules`,
+//! `flow_rules` and `tree_rules`. Each law is the contract of a function that does nothing; a proof
+//! elsewhere calls it to have the law. Modules: `values`, `nodes` and `counts`.
+//!
+//! Branching a cheapest leaf, or shutting leaves, keeps what a search keeps.
+//!
+//! The tree of such a search is lean. It is accepted if no leaf is open, and spent if its budget
+//! does not last for the next branch. `specs/Laws` has the laws, over the cells of `search_tree`:
+//! `Values` says what the value of a node is, `Kept` what a search keeps between two turns, and
+//! `Turns` what a turn does. Each law is the contract of a function that does nothing; a proof
+//! elsewhere calls it to have the law. Modules: `turns` laws of turns, `trees` laws of the tree.
 #![tactic(auto)]
 
 mod cell;
+mod counts;
 mod growth;
 mod laws;
+mod nodes;
 mod shut;
+mod trees;
+mod turns;
+mod values;
 mod walk;
 
 pub use cell::Cell;
+pub use counts::{lean_is_few, options_are_counted, spent_is_never};
 pub use growth::{Fresh, branch};
 pub use laws::{cells_stand, preorder_is_tree, preorder_proves};
+pub use nodes::{children_are_sound, decisions_split, free_units_are_few, reduced_is_structure};
 pub use shut::{Shut, copy_multipliers, copy_scaled};
+pub use trees::{kept_is_lean, kept_is_spent, open_cells_stand, whole_is_accepted};
+pub use turns::{
+    branching_is_kept, growth_is_turn, networks_cost_more, reached_is_no_dearer,
+    reached_may_undercut, shutting_is_kept,
+};
+pub use values::{below_is_no_dearer, children_are_below, children_are_dearer};
 pub use walk::{Preorder, nodes_in_preorder};

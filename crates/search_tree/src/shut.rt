@@ -5,7 +5,7 @@ ghost use Rattle.branch_tree.specs.View.{end_of};
 ghost use Rattle.search_tree.specs.Shut.{shut_as};
 
 use branch_tree::{End, Multipliers, Scaled};
-use covers::Covers;
+use pgraph::Covers;
 use std::alloc::{AllocError, Global};
 
 /// What an open leaf ends with in a tree: what shuts it, or a bound with which it stays open.

@@ -23,7 +23,7 @@ use Rattle.studio_rules.specs.Lines.{text_of}
 use Rattle.studio_rules.specs.Printed.{spelled, OneAnswer}
 use Rattle.studio_rules.specs.declared.status.Status.{Status}
 use Rattle.studio_rules.specs.declared.status.Status.TheVariants.{Done, Spent, Past}
-use Rattle.endings.proofs.Printing.{spelled_text}
+use Rattle.command_files.proofs.Printing.{spelled_text}
 use Rattle.studio_rules.specs.Solve.{AreTextOf, Solves, Holds, status_of, PlainWork}
 use Rattle.studio_rules.specs.Summary.{SummaryWork}
 use Rattle.searches.specs.Found.{certificate_of, CertificateSays, FoundSays}

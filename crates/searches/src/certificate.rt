@@ -17,7 +17,7 @@ ghost use Rattle.searches.specs.Found.{certificate_of, CertificateSays, FoundSay
 use crate::stopped::{claimed, stopped_notes};
 use abb_search::Found;
 use branch_tree::{Claim, Network, Tail, Tree};
-use endings::say::{say_memory, say_searched};
+use command_files::say::{say_memory, say_searched};
 use flow_rules::Place;
 use pns_io::{Outputs, Sink};
 use pns_problem::Problem;

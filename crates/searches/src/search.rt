@@ -8,7 +8,7 @@ ghost use Rattle.abb_search.specs.Found.{IsFound};
 use abb_search::Found;
 use pgraph::{Graph, Site};
 use pns_problem::Problem;
-use progress::{Effort, Watch};
+use pns_io::{Effort, Watch};
 use solver::search_watched;
 use std::alloc::Global;
 use unit_sets::{Node, UnitSet};

@@ -2,8 +2,8 @@
 ghost use Rattle.std.specs.Prelude.{◌≡◌};
 
 use branch_tree::{Claim, Network, Tail};
-use decimals::push_six_digits;
-use messages::{Notes, Stop, not_finished};
+use report_amounts::push_six_digits;
+use studio_words::{Notes, Stop, not_finished};
 use pns_problem::Problem;
 use std::alloc::{AllocError, Global};
 

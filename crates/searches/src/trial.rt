@@ -4,10 +4,10 @@ ghost use Rattle.studio_rules.specs.Trial.{TrialWork};
 ghost use Rattle.studio_rules.specs.Ending.{Ends, Tells};
 
 use crate::summary::say_summed;
-use endings::say::say_memory;
-use generator::generate;
+use command_files::say::say_memory;
+use pns_problem::generate;
 use pns_io::{Outputs, Sink};
-use progress::{Effort, Watch};
+use pns_io::{Effort, Watch};
 use std::alloc::Global;
 use studio_rules::Status;
 

@@ -17,7 +17,7 @@ use abb_search::{Found, look_at_root, run, search_with};
 use branch_tree::Network;
 use node_evaluation::cheaper;
 use pgraph::Site;
-use progress::{Effort, Watch};
+use pns_io::{Effort, Watch};
 use unit_sets::{Node, UnitSet};
 
 // A search that ends within so many nodes needs no charges, which cost more time than they save.

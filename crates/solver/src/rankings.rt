@@ -3,13 +3,13 @@ ghost use Rattle.std.specs.Prelude.{◌≡◌, ◌≤◌};
 ghost use Rattle.pns_rules.specs.Shape.{shape_of};
 ghost use Rattle.pgraph.specs.Tables.{shape};
 ghost use Rattle.rank_search.specs.Ranked.{IsRankedTo};
-ghost use Rattle.distinct_search.specs.Listed.{IsListedTo};
+ghost use Rattle.rank_search.specs.DistinctListed.{IsListedTo};
 
 use crate::workspace::workspace_of;
-use distinct_search::alternatives_with;
+use rank_search::alternatives_with;
 use pgraph::{Graph, Site};
 use pns_problem::Problem;
-use progress::{Effort, NoWatch, Watch};
+use pns_io::{Effort, NoWatch, Watch};
 use rank_search::{Ranked, rank_with};
 use std::alloc::Global;
 

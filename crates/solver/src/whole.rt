@@ -15,7 +15,7 @@ use abb_search::Found;
 use branch_tree::Network;
 use pgraph::{Graph, Site};
 use pns_problem::Problem;
-use progress::{Effort, NoWatch, Watch};
+use pns_io::{Effort, NoWatch, Watch};
 use std::alloc::Global;
 use unit_sets::Node;
 

@@ -5,9 +5,9 @@ use Rattle.std.proofs.lemmas.List.{set-set, get_or-set_same}
 use Rattle.problem_rules.specs.Problem.{Problem, Material, OperatingUnit, material_at, unit_at}
 use Rattle.problem_rules.specs.Problem.{no_material, no_unit}
 use Rattle.problem_rules.specs.Validity.{IsValid}
-use Rattle.stability_rules.specs.declared.spot.Spot.{Spot}
-use Rattle.stability_rules.specs.declared.spot.Spot.TheVariants.{Price, Fix, Proportional}
-use Rattle.stability_rules.specs.Spot.{KnowsSpot, valued, IsAllowedValue}
+use Rattle.report_rules.specs.declared.spot.Spot.{Spot}
+use Rattle.report_rules.specs.declared.spot.Spot.TheVariants.{Price, Fix, Proportional}
+use Rattle.report_rules.specs.Spot.{KnowsSpot, valued, IsAllowedValue}
 use Rattle.stability_laws.specs.Laws.{ValuedIsValid}
 
 -- the later one alone is there

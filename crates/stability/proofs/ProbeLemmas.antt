@@ -11,7 +11,7 @@ use Rattle.tree_rules.specs.Claim.{Network, IsSized, network, CostOver}
 use Rattle.tree_rules.specs.Accepted.{Tree, first_node}
 use Rattle.tree_laws.specs.Laws.{AcceptedIsOptimal, AcceptedHasFlows}
 use Rattle.tree_rules.specs.Proved.{IsProved}
-use Rattle.stability_rules.specs.Range.{IsLeast, IsCheaper}
+use Rattle.report_rules.specs.Range.{IsLeast, IsCheaper}
 
 -- a over b is at most c over d, which is at most e over f
 no_more_trans : (a b c d e f : ℤ) → pos 0 ≤ℤ b → pos 1 ≤ℤ d → pos 0 ≤ℤ f → (a *ℤ d) ≤ℤ (c *ℤ b)

@@ -11,14 +11,14 @@ use Rattle.tree_rules.specs.Claim.{Network, size_in, IsFeasible}
 use Rattle.tree_rules.specs.Accepted.{first_node}
 use Rattle.abb_search.specs.Found.{IsFound}
 use Rattle.abb_search.specs.declared.outcome.Found.TheVariants as founds
-use Rattle.stability_rules.specs.declared.spot.Spot.{Spot}
-use Rattle.stability_rules.specs.declared.side.Side.{Side}
-use Rattle.stability_rules.specs.declared.side.Side.TheVariants.{Below, Above}
-use Rattle.stability_rules.specs.Spot.{KnowsSpot, value_at, valued, IsAllowedValue, value_on}
-use Rattle.stability_rules.specs.Spot.{limit_on}
-use Rattle.stability_rules.specs.Range.{cost_at, IsBestAt, IsCheaper, IsCheaperAt, beyond, IsRange}
-use Rattle.stability_rules.specs.Range.{IsHalfProved, MayWant, IsPastCost}
-use Rattle.stability_rules.specs.Rise.{least_rise}
+use Rattle.report_rules.specs.declared.spot.Spot.{Spot}
+use Rattle.report_rules.specs.declared.side.Side.{Side}
+use Rattle.report_rules.specs.declared.side.Side.TheVariants.{Below, Above}
+use Rattle.report_rules.specs.Spot.{KnowsSpot, value_at, valued, IsAllowedValue, value_on}
+use Rattle.report_rules.specs.Spot.{limit_on}
+use Rattle.report_rules.specs.Range.{cost_at, IsBestAt, IsCheaper, IsCheaperAt, beyond, IsRange}
+use Rattle.report_rules.specs.Range.{IsHalfProved, MayWant, IsPastCost}
+use Rattle.report_rules.specs.Rise.{least_rise}
 use Rattle.stability_laws.specs.Laws.{ValuedIsSame, BestBetween, BestAway}
 use Rattle.stability.specs.Case.{Case}
 use Rattle.stability.specs.Refusal.{IsSearchStop, IsStopAt, IsRefusal}

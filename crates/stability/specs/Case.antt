@@ -3,8 +3,8 @@ use Rattle.std.specs.Prelude.{◌≡◌, ◌≤◌, ℕ, ℤ}
 use Rattle.problem_rules.specs.Problem.{Problem}
 use Rattle.pns_rules.specs.Shape.{Shape, shape_of}
 use Rattle.tree_rules.specs.Claim.{Network, IsFeasible}
-use Rattle.stability_rules.specs.declared.spot.Spot.{Spot}
-use Rattle.stability_rules.specs.Spot.{KnowsSpot, value_at, IsAllowedValue}
+use Rattle.report_rules.specs.declared.spot.Spot.{Spot}
+use Rattle.report_rules.specs.Spot.{KnowsSpot, value_at, IsAllowedValue}
 
 pub record Case : Type 0 where
   pub problem : Problem

@@ -4,7 +4,7 @@ use Rattle.std.specs.Prelude.{◌≡◌, ℕ, ℤ, List}
 use Rattle.problem_rules.specs.Problem.{Problem}
 use Rattle.pns_rules.specs.Shape.{shape_of}
 use Rattle.neutral_extension.specs.Candidates.{AreMakersOf}
-use Rattle.stability_rules.specs.Spot.{valued}
+use Rattle.report_rules.specs.Spot.{valued}
 use Rattle.stability.specs.Case.{Case}
 
 pub record Desk : Type 0 where

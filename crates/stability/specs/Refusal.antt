@@ -5,10 +5,10 @@ use Rattle.tree_rules.specs.Claim.{Network}
 use Rattle.tree_rules.specs.Accepted.{first_node}
 use Rattle.abb_search.specs.Found.{IsFound}
 use Rattle.abb_search.specs.declared.outcome.Found.TheVariants as founds
-use Rattle.stability_rules.specs.declared.spot.Spot.{Spot}
-use Rattle.stability_rules.specs.Spot.{valued, IsAllowedValue}
-use Rattle.stability_rules.specs.Range.{IsBestAt, IsCheaper, IsCheaperAt, IsHalfProved, MayWant}
-use Rattle.stability_rules.specs.Range.{IsPastCost}
+use Rattle.report_rules.specs.declared.spot.Spot.{Spot}
+use Rattle.report_rules.specs.Spot.{valued, IsAllowedValue}
+use Rattle.report_rules.specs.Range.{IsBestAt, IsCheaper, IsCheaperAt, IsHalfProved, MayWant}
+use Rattle.report_rules.specs.Range.{IsPastCost}
 use Rattle.stability.specs.declared.outcome.RangeFault.{RangeFault}
 use Rattle.stability.specs.declared.outcome.RangeFault.TheVariants.{NotBest, Spent, Past, PastCost}
 use Rattle.stability.specs.declared.outcome.RangeFault.TheVariants.{Memory}

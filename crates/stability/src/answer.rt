@@ -1,8 +1,8 @@
 //! The range.
 ghost use Rattle.std.specs.Prelude.{◌≡◌, ◌≤◌, IfOk, IfErr};
 ghost use Rattle.tree_rules.specs.Claim.{IsFeasible};
-ghost use Rattle.stability_rules.specs.Spot.{KnowsSpot, value_at};
-ghost use Rattle.stability_rules.specs.Range.{IsBestAt, IsRange};
+ghost use Rattle.report_rules.specs.Spot.{KnowsSpot, value_at};
+ghost use Rattle.report_rules.specs.Range.{IsBestAt, IsRange};
 ghost use Rattle.stability.specs.Desk.{IsDesk};
 ghost use Rattle.stability.specs.Refusal.{IsRefusal};
 
@@ -11,9 +11,9 @@ use crate::desk::Desk;
 use crate::outcome::{Range, RangeFault};
 use branch_tree::Network;
 use pgraph::Site;
-use progress::{Effort, Watch};
+use pns_io::{Effort, Watch};
 use stability_laws::{best_between, present_stays};
-use stability_rules::{Side, Spot};
+use report_rules::{Side, Spot};
 use std::alloc::Global;
 
 impl<'a> Case<'a> {

@@ -4,15 +4,15 @@ ghost use Rattle.problem_rules.specs.Validity.{IsValid};
 ghost use Rattle.pns_rules.specs.Shape.{shape_of};
 ghost use Rattle.pgraph.specs.Tables.{shape};
 ghost use Rattle.tree_rules.specs.Claim.{IsFeasible};
-ghost use Rattle.stability_rules.specs.Spot.{KnowsSpot, value_at, IsAllowedValue, value_on};
-ghost use Rattle.stability_rules.specs.Spot.{limit_on, least_value, greatest_value};
+ghost use Rattle.report_rules.specs.Spot.{KnowsSpot, value_at, IsAllowedValue, value_on};
+ghost use Rattle.report_rules.specs.Spot.{limit_on, least_value, greatest_value};
 
 use crate::setting::value_at;
 use branch_tree::Network;
 use pgraph::{Graph, Site};
 use pns_problem::Problem;
 use stability_laws::present_stays;
-use stability_rules::{Side, Spot};
+use report_rules::{Side, Spot};
 use std::alloc::Global;
 use std::marker::Model;
 

@@ -8,7 +8,7 @@ ghost use Rattle.tree_rules.specs.Accepted.{first_node};
 ghost use Rattle.tree_rules.specs.Claim.{IsFeasible};
 ghost use Rattle.abb_search.specs.Found.{IsFound};
 ghost use Rattle.abb_search.specs.Answers.{IsAgainst};
-ghost use Rattle.stability_rules.specs.Spot.{valued, IsAllowedValue};
+ghost use Rattle.report_rules.specs.Spot.{valued, IsAllowedValue};
 ghost use Rattle.stability.specs.Desk.{IsDesk};
 
 use crate::case::Case;
@@ -17,7 +17,7 @@ use abb_search::Found;
 use branch_tree::Network;
 use pgraph::{Graph, Site};
 use pns_problem::Problem;
-use progress::{Effort, Watch};
+use pns_io::{Effort, Watch};
 use solver::{FlowWorkspace, search_flows, workspace_of};
 use stability_laws::{present_stays, valued_is_valid};
 use std::alloc::{AllocError, Global};

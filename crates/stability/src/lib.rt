@@ -29,4 +29,4 @@ mod side;
 pub use answer::range;
 pub use outcome::{Range, RangeFault};
 pub use setting::{value_at, valued};
-pub use stability_rules::Spot;
+pub use report_rules::Spot;

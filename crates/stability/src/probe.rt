@@ -4,8 +4,8 @@ ghost use Rattle.std.specs.Prelude.{Some};
 ghost use Rattle.pns_rules.specs.Shape.{shape_of};
 ghost use Rattle.neutral_extension.specs.Candidates.{AreMakersOf};
 ghost use Rattle.tree_rules.specs.Claim.{IsFeasible};
-ghost use Rattle.stability_rules.specs.Spot.{value_at, valued, value_on, IsAllowedValue};
-ghost use Rattle.stability_rules.specs.Range.{repriced};
+ghost use Rattle.report_rules.specs.Spot.{value_at, valued, value_on, IsAllowedValue};
+ghost use Rattle.report_rules.specs.Range.{repriced};
 ghost use Rattle.stability.specs.Desk.{IsDesk};
 ghost use Rattle.stability.specs.Refusal.{IsProbed, IsSearchStop, IsStopAt};
 
@@ -15,11 +15,11 @@ use crate::desk::Desk;
 use crate::outcome::RangeFault;
 use abb_search::Found;
 use branch_tree::Network;
-use frac128::CostOver;
+use exact_numbers::CostOver;
 use pns_problem::Problem;
-use progress::Watch;
+use pns_io::Watch;
 use stability_laws::{present_stays, structures_stay};
-use stability_rules::Side;
+use report_rules::Side;
 use std::alloc::AllocError;
 use tree_laws::{accepted_has_flows, accepted_is_optimal};
 

@@ -8,11 +8,11 @@ use Rattle.std.proofs.lemmas.List.{length-map}
 use Rattle.std.proofs.lemmas.List.Quantifiers.{position-Some}
 use Rattle.problem_rules.specs.Problem.{Problem, Material, OperatingUnit, material_names}
 use Rattle.problem_rules.specs.Problem.{unit_names}
-use Rattle.stability_rules.specs.declared.spot.Spot.{Spot}
-use Rattle.stability_rules.specs.declared.spot.Spot.TheVariants as spots
-use Rattle.stability_rules.specs.declared.spot.SpotKind.{SpotKind}
-use Rattle.stability_rules.specs.declared.spot.SpotKind.TheVariants.{Price, Fix, Proportional}
-use Rattle.stability_rules.specs.Spot.{KnowsSpot}
+use Rattle.report_rules.specs.declared.spot.Spot.{Spot}
+use Rattle.report_rules.specs.declared.spot.Spot.TheVariants as spots
+use Rattle.report_rules.specs.declared.spot.SpotKind.{SpotKind}
+use Rattle.report_rules.specs.declared.spot.SpotKind.TheVariants.{Price, Fix, Proportional}
+use Rattle.report_rules.specs.Spot.{KnowsSpot}
 use Rattle.studio_rules.specs.Stable.{spot_named}
 
 option_known : (P : Spot → Type 0) (make : ℕ → Spot) (o : Option ℕ)

@@ -1,13 +1,13 @@
 -- Lines that are printed.
 use Rattle.std.proofs.Common.{◌≡◌, List, Ok, Err, refl}
 use Rattle.tree_text.specs.declared.fault.PrintFault.TheVariants as faults
-use Rattle.io_rules.specs.State.{OutputsState}
+use Rattle.text_rules.specs.State.{OutputsState}
 use Rattle.tree_text_rules.specs.Line.{Token}
 use Rattle.tree_text.specs.Prints.{Prints}
 use Rattle.studio_rules.specs.Printed.{spelled, OneAnswer}
 use Rattle.studio_rules.specs.Ending.{Ends, Tells}
 use Rattle.studio_rules.specs.declared.status.Status.TheVariants.{NotBest, WriteFault}
-use Rattle.endings.proofs.Printing.{printed_whole, printed_front}
+use Rattle.command_files.proofs.Printing.{printed_whole, printed_front}
 
 -- the text of a network that is not the best, as of other lines
 pub not_best_whole : (lines : List (List Token)) (old new : OutputsState) → new.err ≡ old.err

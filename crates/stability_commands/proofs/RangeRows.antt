@@ -9,10 +9,10 @@ use Rattle.flow_rules.specs.Net.{net_of, materials_of}
 use Rattle.flow_program.proofs.WalkLemmas.{has-first, has-rest}
 use Rattle.tree_rules.specs.Claim.{Network, IsFeasible}
 use Rattle.report_amounts.proofs.Known.{material_known}
-use Rattle.stability_rules.specs.declared.spot.Spot.{Spot}
-use Rattle.stability_rules.specs.declared.spot.Spot.TheVariants.{Price}
-use Rattle.stability_rules.specs.Spot.{KnowsSpot}
-use Rattle.stability_rules.specs.Range.{IsCheaper}
+use Rattle.report_rules.specs.declared.spot.Spot.{Spot}
+use Rattle.report_rules.specs.declared.spot.Spot.TheVariants.{Price}
+use Rattle.report_rules.specs.Spot.{KnowsSpot}
+use Rattle.report_rules.specs.Range.{IsCheaper}
 use Rattle.studio_rules.specs.Printed.{OneAnswer}
 use Rattle.studio_rules.specs.Stable.{not_best_lines}
 use Rattle.studio_rules.specs.StableTable.{cost_spots, spots_of, IsRangeRow, AreRangeRows}

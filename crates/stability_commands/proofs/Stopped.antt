@@ -14,9 +14,9 @@ use Rattle.abb_search.specs.declared.outcome.Found.{Found}
 use Rattle.abb_search.specs.declared.outcome.Found.TheVariants as founds
 use Rattle.abb_search.specs.Found.{IsFound}
 use Rattle.searches.proofs.FoundTexts.{holds}
-use Rattle.stability_rules.specs.declared.spot.Spot.{Spot}
-use Rattle.stability_rules.specs.Spot.{KnowsSpot, valued, IsAllowedValue}
-use Rattle.stability_rules.specs.Range.{MayWant, IsHalfProved, IsPastCost}
+use Rattle.report_rules.specs.declared.spot.Spot.{Spot}
+use Rattle.report_rules.specs.Spot.{KnowsSpot, valued, IsAllowedValue}
+use Rattle.report_rules.specs.Range.{MayWant, IsHalfProved, IsPastCost}
 use Rattle.stability_laws.specs.Laws.{ValuedIsValid}
 use Rattle.stability.specs.declared.outcome.RangeFault.{RangeFault}
 use Rattle.stability.specs.declared.outcome.RangeFault.TheVariants.{NotBest, Spent, Past, PastCost}

@@ -18,11 +18,11 @@ use Rattle.abb_search.specs.Found.{IsFound}
 use Rattle.studio_rules.specs.Solve.{status_of, PlainWork}
 use Rattle.searches.specs.Found.{certificate_of}
 use Rattle.searches.proofs.FoundTexts.{CanPrint, can_print, found_solves, are_text}
-use Rattle.stability_rules.specs.declared.spot.Spot.{Spot}
-use Rattle.stability_rules.specs.declared.side.Side.{Side}
-use Rattle.stability_rules.specs.Spot.{KnowsSpot, valued, IsAllowedValue}
-use Rattle.stability_rules.specs.Range.{IsCheaper, EndsAt, beyond, IsRange, IsHalfProved, MayWant}
-use Rattle.stability_rules.specs.Range.{IsPastCost}
+use Rattle.report_rules.specs.declared.spot.Spot.{Spot}
+use Rattle.report_rules.specs.declared.side.Side.{Side}
+use Rattle.report_rules.specs.Spot.{KnowsSpot, valued, IsAllowedValue}
+use Rattle.report_rules.specs.Range.{IsCheaper, EndsAt, beyond, IsRange, IsHalfProved, MayWant}
+use Rattle.report_rules.specs.Range.{IsPastCost}
 use Rattle.stability_laws.specs.Laws.{ShapeStays}
 use Rattle.studio_rules.specs.Printed.{spelled, OneAnswer}
 use Rattle.studio_rules.specs.declared.status.Status.{Status}

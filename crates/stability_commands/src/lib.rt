@@ -17,4 +17,4 @@ pub mod stable;
 mod table;
 mod text;
 
-pub use stability_rules::SpotKind;
+pub use report_rules::SpotKind;

@@ -2,12 +2,12 @@
 ghost use Rattle.std.specs.Prelude.{◌≡◌, ◌<◌, ◌++◌, ℕ, true, IfOk, OnOk, map, flat_map, length};
 ghost use Rattle.number_sets.specs.Sets.{has};
 ghost use Rattle.flow_rules.specs.Net.{net_of, materials_of};
-ghost use Rattle.stability_rules.specs.declared.spot.Spot.TheVariants.{Price};
+ghost use Rattle.report_rules.specs.declared.spot.Spot.TheVariants.{Price};
 ghost use Rattle.studio_rules.specs.StableTable.{cost_spots, spots_of};
 
 use branch_tree::Network;
 use pgraph::Site;
-use pns_tables::materials_in;
+use report_amounts::materials_in;
 use stability::Spot;
 use std::alloc::{AllocError, Global};
 

@@ -2,7 +2,7 @@
 ghost use Rattle.std.specs.Prelude.{◌≡◌, ◌≤◌, ◌++◌, ℕ, List, IfOk, IfErr, OnOk, string_bytes};
 ghost use Rattle.problem_rules.specs.Each.{Each};
 ghost use Rattle.tree_rules.specs.Claim.{IsFeasible};
-ghost use Rattle.stability_rules.specs.Spot.{KnowsSpot};
+ghost use Rattle.report_rules.specs.Spot.{KnowsSpot};
 ghost use Rattle.studio_rules.specs.Lines.{text_of};
 ghost use Rattle.studio_rules.specs.StableTable.{spots_of, AreRangeRows, has_open, range_table};
 ghost use Rattle.studio_rules.specs.StableTable.{RangesLines, open_lines};
@@ -12,7 +12,7 @@ use crate::cells::{TableFault, row_of};
 use crate::spots::spots_of;
 use branch_tree::Network;
 use pgraph::Site;
-use progress::{Effort, Watch};
+use pns_io::{Effort, Watch};
 use report_rules::Sort;
 use report_tables::{Row, push_table};
 use stability::Spot;

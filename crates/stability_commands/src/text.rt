@@ -16,7 +16,7 @@ use pns_io::Sink;
 use pns_problem::Problem;
 use searches::Certificate;
 use stability::Range;
-use stability_rules::Side;
+use report_rules::Side;
 use std::alloc::{AllocError, Global};
 use tree_text::{PrintFault, print_network};
 

@@ -13,12 +13,12 @@ use Rattle.pns_rules.specs.Structure.{IsStructure, IsAllowed}
 use Rattle.flow_rules.specs.Net.{net_of}
 use Rattle.flow_rules.specs.Flows.{IsFlows, cost}
 use Rattle.tree_rules.specs.Claim.{Network, size_in, IsFeasible}
-use Rattle.stability_rules.specs.declared.spot.Spot.{Spot}
-use Rattle.stability_rules.specs.declared.side.Side.{Side}
-use Rattle.stability_rules.specs.declared.side.Side.TheVariants.{Below, Above}
-use Rattle.stability_rules.specs.Spot.{KnowsSpot, value_at, valued, value_on}
-use Rattle.stability_rules.specs.Range.{cost_at, IsBestAt}
-use Rattle.stability_rules.specs.Rise.{least_rise}
+use Rattle.report_rules.specs.declared.spot.Spot.{Spot}
+use Rattle.report_rules.specs.declared.side.Side.{Side}
+use Rattle.report_rules.specs.declared.side.Side.TheVariants.{Below, Above}
+use Rattle.report_rules.specs.Spot.{KnowsSpot, value_at, valued, value_on}
+use Rattle.report_rules.specs.Range.{cost_at, IsBestAt}
+use Rattle.report_rules.specs.Rise.{least_rise}
 use Rattle.stability_laws.specs.Laws.{IsLine}
 use Rattle.stability_laws.proofs.LineLemmas.{subtracted, by, not_below}
 use Rattle.stability_laws.proofs.NetLemmas.{shape_stays, flows_from, flows_to, cost_is_a_line}

@@ -14,10 +14,10 @@ use Rattle.flow_rules.specs.Steps.{AreInRange}
 use Rattle.flow_rules.specs.CostSteps.{cost_steps}
 use Rattle.flow_rules.specs.FeasibleSteps.{units_at, balance_steps, materials_steps, feasible_steps}
 use Rattle.tree_rules.specs.Claim.{Network, size_in, IsFeasible}
-use Rattle.stability_rules.specs.declared.spot.Spot.{Spot}
-use Rattle.stability_rules.specs.declared.spot.Spot.TheVariants.{Price, Fix, Proportional}
-use Rattle.stability_rules.specs.Spot.{KnowsSpot, valued}
-use Rattle.stability_rules.specs.Range.{repriced}
+use Rattle.report_rules.specs.declared.spot.Spot.{Spot}
+use Rattle.report_rules.specs.declared.spot.Spot.TheVariants.{Price, Fix, Proportional}
+use Rattle.report_rules.specs.Spot.{KnowsSpot, valued}
+use Rattle.report_rules.specs.Range.{repriced}
 use Rattle.stability_laws.specs.Laws.{IsLine}
 use Rattle.stability_laws.proofs.LineLemmas.{constant, itself, added, subtracted, times, by}
 use Rattle.stability_laws.proofs.LineLemmas.{either_line, total_line, total_below_line}

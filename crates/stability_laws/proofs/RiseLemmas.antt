@@ -22,12 +22,12 @@ use Rattle.flow_rules.specs.Flows.{IsFlows, balance, cost}
 use Rattle.flow_rules.proofs.ListedLemmas.{All-listed, total-listed}
 use Rattle.flow_rules.proofs.NetLemmas.{IsNet, net_of_valid, not_negative_from}
 use Rattle.flow_rules.proofs.RelaxedLemmas.{rate_of_other}
-use Rattle.stability_rules.specs.declared.spot.Spot.{Spot}
-use Rattle.stability_rules.specs.declared.spot.Spot.TheVariants.{Price, Fix, Proportional}
-use Rattle.stability_rules.specs.declared.side.Side.{Side}
-use Rattle.stability_rules.specs.declared.side.Side.TheVariants.{Below, Above}
-use Rattle.stability_rules.specs.Spot.{KnowsSpot, valued, value_on}
-use Rattle.stability_rules.specs.Rise.{least_left, most_left, least_rise}
+use Rattle.report_rules.specs.declared.spot.Spot.{Spot}
+use Rattle.report_rules.specs.declared.spot.Spot.TheVariants.{Price, Fix, Proportional}
+use Rattle.report_rules.specs.declared.side.Side.{Side}
+use Rattle.report_rules.specs.declared.side.Side.TheVariants.{Below, Above}
+use Rattle.report_rules.specs.Spot.{KnowsSpot, valued, value_on}
+use Rattle.report_rules.specs.Rise.{least_left, most_left, least_rise}
 use Rattle.stability_laws.proofs.NetLemmas.{fix_in, net_in, net_valued}
 
 -- ---- one unit

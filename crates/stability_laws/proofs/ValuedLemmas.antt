@@ -14,9 +14,9 @@ use Rattle.edit_laws.proofs.Soundness.{IsSoundUnit}
 use Rattle.edit_laws.proofs.Goodness.{IsGoodMaterial, IsGoodUnit, IsWell}
 use Rattle.edit_laws.proofs.SoundLemmas.{material_kept, unit_kept, product_kept}
 use Rattle.edit_laws.proofs.ValidLemmas.{well_from_valid, valid_from_well}
-use Rattle.stability_rules.specs.declared.spot.Spot.{Spot}
-use Rattle.stability_rules.specs.declared.spot.Spot.TheVariants.{Price, Fix, Proportional}
-use Rattle.stability_rules.specs.Spot.{KnowsSpot, value_at, valued, IsAllowedValue}
+use Rattle.report_rules.specs.declared.spot.Spot.{Spot}
+use Rattle.report_rules.specs.declared.spot.Spot.TheVariants.{Price, Fix, Proportional}
+use Rattle.report_rules.specs.Spot.{KnowsSpot, value_at, valued, IsAllowedValue}
 
 -- ---- the value at each place
 

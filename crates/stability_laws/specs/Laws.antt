@@ -10,11 +10,11 @@ use Rattle.flow_rules.specs.Flows.{IsFlows, cost}
 use Rattle.flow_rules.specs.Steps.{AreInRange}
 use Rattle.flow_rules.specs.CostSteps.{cost_steps}
 use Rattle.tree_rules.specs.Claim.{Network, size_in, IsFeasible}
-use Rattle.stability_rules.specs.declared.spot.Spot.{Spot}
-use Rattle.stability_rules.specs.declared.side.Side.{Side}
-use Rattle.stability_rules.specs.Spot.{KnowsSpot, value_at, valued, IsAllowedValue, value_on}
-use Rattle.stability_rules.specs.Range.{cost_at, repriced, IsBestAt}
-use Rattle.stability_rules.specs.Rise.{least_rise}
+use Rattle.report_rules.specs.declared.spot.Spot.{Spot}
+use Rattle.report_rules.specs.declared.side.Side.{Side}
+use Rattle.report_rules.specs.Spot.{KnowsSpot, value_at, valued, IsAllowedValue, value_on}
+use Rattle.report_rules.specs.Range.{cost_at, repriced, IsBestAt}
+use Rattle.report_rules.specs.Rise.{least_rise}
 
 abbrev pub ValuedIsValid : Type 0
 ValuedIsValid = (p : Problem) → IsValid p → (spot : Spot) → KnowsSpot p spot → (v : ℤ)

@@ -1,5 +1,8 @@
+pub mod Best
+mod LintsMaximal
+pub mod ListingParts
+pub mod ListingStart
+pub mod Listings
 pub mod Maximal
 pub mod Named
-pub mod Listings
-pub mod ListingStart
-pub mod ListingParts
+mod Texts

@@ -9,7 +9,7 @@ use Rattle.std.proofs.lemmas.Bool.{le-ltb, lt-ltb}
 use Rattle.std.proofs.lemmas.Grind.{flat_map-append}
 use Rattle.std.proofs.Math.Seq.{take-append-add}
 use Rattle.text_rules.specs.Outside.{HasRisen, AppendsFront}
-use Rattle.io_rules.specs.State.{SinkState, OutputsState}
+use Rattle.text_rules.specs.State.{SinkState, OutputsState}
 use Rattle.problem_rules.specs.Problem.{Problem}
 use Rattle.structure_list.specs.Rest.{Rest, IsToCome}
 use Rattle.studio_rules.specs.Lines.{line, text_of}
@@ -18,8 +18,8 @@ use Rattle.structure_commands.specs.Listing.{RestSays}
 use Rattle.studio_rules.specs.Ending.{Ends, Tells, Only, OrMemory}
 use Rattle.studio_rules.specs.declared.status.Status.{Status}
 use Rattle.studio_rules.specs.declared.status.Status.TheVariants.{Done, WriteFault, Memory}
-use Rattle.endings.proofs.Ending.{GoesOut, Ends-after, only_in, only_or_memory_in}
-use Rattle.endings.proofs.Put.{Ends-stopped}
+use Rattle.command_files.proofs.Ending.{GoesOut, Ends-after, only_in, only_or_memory_in}
+use Rattle.command_files.proofs.Put.{Ends-stopped}
 
 pub last_of-push : (ss : List (List ℕ)) (s : List ℕ) → last_of (ss ++ s ∷ []) ≡ s
 last_of-push [] s = refl

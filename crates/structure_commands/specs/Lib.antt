@@ -1,2 +1,4 @@
+pub mod Judged
 pub mod Listing
 pub mod ListingLaws
+pub mod Meant

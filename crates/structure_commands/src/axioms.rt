@@ -11,7 +11,7 @@ ghost use Rattle.studio_rules.specs.Keeps.{Keeps};
 ghost use Rattle.studio_rules.specs.declared.status.Status.TheVariants.{Refused};
 
 use command_files::problem_of;
-use endings::say::{say, say_memory};
+use command_files::say::{say, say_memory};
 use pgraph::Graph;
 use pns_io::{Outputs, Shelf, Sink};
 use pns_problem::Problem;

@@ -17,11 +17,11 @@ ghost use Rattle.studio_rules.specs.Keeps.{Keeps};
 ghost use Rattle.studio_rules.specs.declared.status.Status.TheVariants.{Done, BadToken};
 
 use command_files::problem_of;
-use endings::line::push_unit_names;
-use endings::outputs::put_answer;
-use endings::say::{say, say_memory, say_of, tell};
-use max_structure::Steps;
-use messages::bad_token;
+use command_files::line::push_unit_names;
+use command_files::outputs::put_answer;
+use command_files::say::{say, say_memory, say_of, tell};
+use structure_list::Steps;
+use studio_words::bad_token;
 use pgraph::Graph;
 use pns_io::{Failed, Outputs, Shelf, Sink};
 use pns_problem::Problem;

@@ -12,9 +12,9 @@ ghost use Rattle.studio_rules.specs.Keeps.{Keeps};
 ghost use Rattle.studio_rules.specs.declared.status.Status.TheVariants.{Done};
 
 use command_files::problem_of;
-use endings::line::{push_material_names, push_unit_names};
-use endings::say::{say, say_both, say_memory};
-use max_structure::maximal;
+use command_files::line::{push_material_names, push_unit_names};
+use command_files::say::{say, say_both, say_memory};
+use structure_list::maximal;
 use pgraph::Graph;
 use pns_io::{Outputs, Shelf, Sink};
 use pns_problem::Problem;

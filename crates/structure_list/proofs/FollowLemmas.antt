@@ -7,10 +7,10 @@ use Rattle.pns_rules.specs.Shape.{Shape}
 use Rattle.pns_rules.specs.Structure.{IsStructure, IsAllowed}
 use Rattle.pns_rules.specs.Trace.{IsBefore}
 use Rattle.pns_rules.proofs.OrderLemmas.{before_apart, before_not_after}
-use Rattle.decisions.specs.declared.position.Position.{Position}
-use Rattle.decisions.specs.declared.turn.Turn.{Turn}
-use Rattle.decisions.specs.Position.{IsTurn, IsSettled, IsWithinNode}
-use Rattle.decisions.proofs.TurnLemmas.{turn_apart}
+use Rattle.structure_list.specs.declared.position.Position.{Position}
+use Rattle.structure_list.specs.declared.turn.Turn.{Turn}
+use Rattle.structure_list.specs.Position.{IsTurn, IsSettled, IsWithinNode}
+use Rattle.structure_list.proofs.TurnLemmas.{turn_apart}
 use Rattle.structure_list.specs.Rest.{IsUnderWay}
 use Rattle.structure_list.specs.Tight.{IsSide}
 use Rattle.structure_list.specs.Start.{IsStart}

@@ -1,6 +1,15 @@
+pub mod BalanceLemmas
+pub mod CompareLemmas
+pub mod DecidedLemmas
 pub mod DigitLemmas
 pub mod FollowLemmas
+pub mod GreatestLemmas
+pub mod LeavingLemmas
+pub mod NodeLemmas
+pub mod PositionLemmas
 pub mod StackLemmas
 pub mod StartLemmas
 pub mod TightLemmas
 pub mod TokenLemmas
+pub mod TurnLemmas
+pub mod UnionLemmas

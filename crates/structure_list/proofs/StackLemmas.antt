@@ -12,10 +12,10 @@ use Rattle.pns_rules.specs.Shape.{Shape, IsProper}
 use Rattle.pns_rules.specs.Structure.{IsAllowed, IsUnion}
 use Rattle.pns_rules.specs.Trace.{IsBefore}
 use Rattle.unit_sets.specs.declared.node.Node.{Node}
-use Rattle.decisions.specs.declared.position.Position.{Position}
-use Rattle.decisions.specs.declared.turn.Turn.{Turn}
-use Rattle.decisions.specs.Position.{IsPosition, IsTurn, IsSettled, IsWithinNode, free_count}
-use Rattle.decisions.proofs.TurnLemmas.{turn_apart}
+use Rattle.structure_list.specs.declared.position.Position.{Position}
+use Rattle.structure_list.specs.declared.turn.Turn.{Turn}
+use Rattle.structure_list.specs.Position.{IsPosition, IsTurn, IsSettled, IsWithinNode, free_count}
+use Rattle.structure_list.proofs.TurnLemmas.{turn_apart}
 use Rattle.structure_list.specs.Family.{IsOf}
 use Rattle.structure_list.specs.Tight.{IsTight, IsSide, IsForced}
 use Rattle.structure_list.specs.Stack.{InStack, ArePlaced, IsStack, IsCut, HaveSame, Finds, weight}

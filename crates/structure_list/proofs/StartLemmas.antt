@@ -15,9 +15,9 @@ use Rattle.pns_rules.specs.Listing.{IsLater, IsListing}
 use Rattle.pns_rules.proofs.ListingLemmas.{goes_on, goes_back}
 use Rattle.pns_rules.proofs.OrderLemmas.{same_set, before_apart, before_trans}
 use Rattle.pgraph.specs.Tables.{Tables, shape}
-use Rattle.max_structure.specs.Rest.{IsKept}
-use Rattle.decisions.specs.Position.{IsPosition, IsWithinNode, free_count}
-use Rattle.decisions.specs.declared.position.Position.{Position}
+use Rattle.structure_list.specs.MaxRest.{IsKept}
+use Rattle.structure_list.specs.Position.{IsPosition, IsWithinNode, free_count}
+use Rattle.structure_list.specs.declared.position.Position.{Position}
 use Rattle.structure_list.specs.Rest.{Rest, IsToCome, IsUnderWay}
 use Rattle.structure_list.specs.Family.{IsHead}
 use Rattle.structure_list.specs.Tight.{kept_units, IsTight}

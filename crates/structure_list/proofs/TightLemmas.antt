@@ -19,16 +19,16 @@ use Rattle.pns_rules.proofs.PathLemmas.{found_in, found_leads, path_found}
 use Rattle.pns_rules.proofs.OrderLemmas.{same_set}
 use Rattle.pns_rules.specs.Breaks.{BreaksS1}
 use Rattle.unit_sets.specs.declared.node.Node.{Node}
-use Rattle.max_structure.specs.Rest.{HasAll, IsKept, IsRest, HasNoRest}
-use Rattle.max_structure.proofs.BalanceLemmas.{broken_if_unmade, makes_what_it_uses}
-use Rattle.max_structure.proofs.UnionLemmas.{structure_of}
-use Rattle.decisions.specs.declared.position.Position.{Position}
-use Rattle.decisions.specs.declared.turn.Turn.{Turn}
-use Rattle.decisions.specs.Position.{IsPosition, IsTurn, IsSettled, IsWithinNode, with_unit}
-use Rattle.decisions.specs.Position.{makes_it, free_count}
-use Rattle.decisions.proofs.NodeLemmas.{has_added, has_more, has_either, wider_in, taken_in}
-use Rattle.decisions.proofs.NodeLemmas.{narrow_in, fewer}
-use Rattle.decisions.proofs.PositionLemmas.{position_of}
+use Rattle.structure_list.specs.MaxRest.{HasAll, IsKept, IsRest, HasNoRest}
+use Rattle.structure_list.proofs.BalanceLemmas.{broken_if_unmade, makes_what_it_uses}
+use Rattle.structure_list.proofs.UnionLemmas.{structure_of}
+use Rattle.structure_list.specs.declared.position.Position.{Position}
+use Rattle.structure_list.specs.declared.turn.Turn.{Turn}
+use Rattle.structure_list.specs.Position.{IsPosition, IsTurn, IsSettled, IsWithinNode, with_unit}
+use Rattle.structure_list.specs.Position.{makes_it, free_count}
+use Rattle.structure_list.proofs.NodeLemmas.{has_added, has_more, has_either, wider_in, taken_in}
+use Rattle.structure_list.proofs.NodeLemmas.{narrow_in, fewer}
+use Rattle.structure_list.proofs.PositionLemmas.{position_of}
 use Rattle.structure_list.specs.Tight.{kept_units, IsTight, IsSide, IsForced}
 
 -- a structure with these units makes all that they need

@@ -1,4 +1,8 @@
+pub mod Balance
+pub mod Due
 pub mod Family
+pub mod MaxRest
+pub mod Position
 pub mod Rest
 pub mod Stack
 pub mod Start

@@ -5,7 +5,7 @@ use Rattle.number_sets.specs.Sets.{has}
 use Rattle.pns_rules.specs.Shape.{Shape}
 use Rattle.pns_rules.specs.Listing.{IsLater, IsListed, IsListing}
 use Rattle.pgraph.specs.Tables.{Tables, shape}
-use Rattle.decisions.specs.declared.position.Position.{Position}
+use Rattle.structure_list.specs.declared.position.Position.{Position}
 use Rattle.structure_list.specs.Stack.{InStack, IsStack}
 
 pub record Rest : Type 0 where

@@ -7,8 +7,8 @@ use Rattle.number_sets.specs.Sets.{has, IsRising}
 use Rattle.pns_rules.specs.Shape.{Shape}
 use Rattle.pns_rules.specs.Structure.{IsUnion}
 use Rattle.pns_rules.specs.Trace.{IsBefore}
-use Rattle.decisions.specs.declared.position.Position.{Position}
-use Rattle.decisions.specs.Position.{IsPosition, free_count}
+use Rattle.structure_list.specs.declared.position.Position.{Position}
+use Rattle.structure_list.specs.Position.{IsPosition, free_count}
 use Rattle.structure_list.specs.Family.{IsOf}
 use Rattle.structure_list.specs.Tight.{IsTight}
 

@@ -6,10 +6,10 @@ use Rattle.number_sets.specs.Sets.{has, IsWithin}
 use Rattle.pns_rules.specs.Shape.{Shape}
 use Rattle.pns_rules.specs.Structure.{is_needed, HasPath}
 use Rattle.unit_sets.specs.declared.node.Node.{Node}
-use Rattle.max_structure.specs.Rest.{IsKept}
-use Rattle.decisions.specs.declared.position.Position.{Position}
-use Rattle.decisions.specs.declared.turn.Turn.{Turn}
-use Rattle.decisions.specs.Position.{IsPosition, IsWithinNode, free_count}
+use Rattle.structure_list.specs.MaxRest.{IsKept}
+use Rattle.structure_list.specs.declared.position.Position.{Position}
+use Rattle.structure_list.specs.declared.turn.Turn.{Turn}
+use Rattle.structure_list.specs.Position.{IsPosition, IsWithinNode, free_count}
 
 -- the units that are not left out
 abbrev pub kept_units : Shape → Node → ℕ → Bool

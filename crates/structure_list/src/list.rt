@@ -8,7 +8,7 @@ ghost use Rattle.structure_list.specs.Rest.{Rest, IsToCome, IsUnderWay};
 
 use crate::search::{next_structure, stack_after};
 use crate::stack::Stack;
-use max_structure::Steps;
+use crate::Steps;
 use pgraph::Graph;
 use pns_rules::Verdict;
 use std::alloc::Global;

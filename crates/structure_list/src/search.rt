@@ -4,15 +4,15 @@ ghost use Rattle.std.specs.Prelude.{IsTrue, IfSome, IfNone};
 ghost use Rattle.number_sets.specs.Sets.{has, IsRising};
 ghost use Rattle.pns_rules.specs.Structure.{IsStructure, IsAllowed, IsUnion};
 ghost use Rattle.pgraph.specs.Tables.{shape};
-ghost use Rattle.decisions.specs.Position.{IsTurn, free_count, IsWithinNode};
+ghost use Rattle.structure_list.specs.Position.{IsTurn, free_count, IsWithinNode};
 ghost use Rattle.structure_list.specs.Rest.{IsUnderWay};
 ghost use Rattle.structure_list.specs.Stack.{IsStack, Finds, weight};
 ghost use Rattle.structure_list.specs.Start.{StartsAt, IsStart};
 
 use crate::stack::Stack;
 use crate::turns::{leaving, leaving_counted, taking};
-use decisions::Position;
-use max_structure::{Steps, maximal};
+use crate::Position;
+use crate::{Steps, maximal};
 use pgraph::Graph;
 use std::sync::ledger::Ledger;
 use unit_sets::UnitSet;

@@ -3,12 +3,12 @@ ghost use Rattle.std.specs.Prelude.{◌≡◌, ◌+◌, true, false, IfSome, IfN
 ghost use Rattle.number_sets.specs.Sets.{has};
 ghost use Rattle.pns_rules.specs.Structure.{is_needed};
 ghost use Rattle.pgraph.specs.Tables.{shape};
-ghost use Rattle.max_structure.specs.Rest.{IsRest};
-ghost use Rattle.decisions.specs.Position.{IsTurn};
+ghost use Rattle.structure_list.specs.MaxRest.{IsRest};
+ghost use Rattle.structure_list.specs.Position.{IsTurn};
 ghost use Rattle.structure_list.specs.Tight.{kept_units, IsTight, IsSide, IsForced};
 
-use decisions::{Decided, Position, Turn};
-use max_structure::{Steps, left_out, without_unit};
+use crate::{Decided, Position, Turn};
+use crate::{Steps, left_out, without_unit};
 use pgraph::Graph;
 use std::sync::ledger::Ledger;
 use unit_sets::{Node, UnitSet};

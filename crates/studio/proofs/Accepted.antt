@@ -12,7 +12,7 @@ use Rattle.tree_laws.specs.Laws.{PassingClaimHasNoFault}
 use Rattle.head_rules.specs.Laws.{PassingHasNoFault}
 use Rattle.head_rules.specs.Head.{known_first}
 use Rattle.head_rules.specs.Headed.{head_node, IsAcceptedBy}
-use Rattle.head_laws.specs.Laws.{EmptyHeadProves, PassingTreeHasNoFaultBy}
+use Rattle.tree_laws.specs.HeadLaws.{EmptyHeadProves, PassingTreeHasNoFaultBy}
 use Rattle.tree_text_laws.specs.Laws.{PlainTextsAreHeaded}
 use Rattle.tree_rules.specs.Tail.{Tail, whole, spent, past}
 use Rattle.tree_text_rules.specs.Read as trees

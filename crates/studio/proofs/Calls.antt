@@ -30,8 +30,8 @@ use Rattle.studio_rules.specs.Command.{Alternatives}
 use Rattle.studio_rules.specs.Command.{command_of}
 use Rattle.studio_rules.specs.Lines.{line, text_of}
 use Rattle.studio_rules.specs.Ending.{Finishes}
-use Rattle.endings.proofs.Ending.{writes_as, one_line}
-use Rattle.endings.proofs.Put.{text_out}
+use Rattle.command_files.proofs.Ending.{writes_as, one_line}
+use Rattle.command_files.proofs.Put.{text_out}
 use Rattle.studio_rules.specs.declared.status.Status.{Status}
 use Rattle.studio_rules.specs.declared.status.Status.TheVariants.{Done, ReadFault, WriteFault}
 use Rattle.studio_rules.specs.declared.status.Status.TheVariants.{Memory, TooLong, BadToken}

@@ -12,22 +12,22 @@ use Rattle.edit_rules.specs.Edit.{Edit, Script}
 use Rattle.edit_rules.specs.Effect.{effect}
 use Rattle.edit_rules.specs.Fault as edits
 use Rattle.edit_rules.specs.Script.{CanApply, IsFirstFault}
-use Rattle.script_rules.specs.declared.EditKind.{EditKind}
-use Rattle.script_rules.specs.Fault as scripts
+use Rattle.edit_rules.specs.declared.EditKind.{EditKind}
+use Rattle.edit_rules.specs.ScriptFault as scripts
 use Rattle.plan_rules.specs.declared.PlanKind.{PlanKind}
 use Rattle.plan_rules.specs.Plan.{Plan}
 use Rattle.plan_rules.specs.Read as plans
 use Rattle.text_rules.specs.Outside.{Told}
-use Rattle.io_rules.specs.State.{ShelfState, OutputsState}
+use Rattle.text_rules.specs.State.{ShelfState, OutputsState}
 use Rattle.tree_rules.specs.Claim.{Claim, Network}
 use Rattle.tree_rules.specs.Accepted.{Tree}
 use Rattle.tree_text_rules.specs.Read as trees
-use Rattle.part_rules.specs.Part.{Part}
-use Rattle.part_rules.specs.Read.{PartReads}
-use Rattle.part_text.specs.Laws.{PartsAreReadOnce}
+use Rattle.tree_text_rules.specs.Part.{Part}
+use Rattle.tree_text_rules.specs.PartRead.{PartReads}
+use Rattle.tree_parts.specs.PartLaws.{PartsAreReadOnce}
 use Rattle.rank_rules.specs.Text.{Text}
-use Rattle.stability_rules.specs.declared.spot.Spot.{Spot}
-use Rattle.stability_rules.specs.declared.spot.SpotKind.{SpotKind}
+use Rattle.report_rules.specs.declared.spot.Spot.{Spot}
+use Rattle.report_rules.specs.declared.spot.SpotKind.{SpotKind}
 use Rattle.problem_rules.specs.Generated.{generated}
 use Rattle.studio_rules.specs.Ending.{Ends, IsOneOf}
 use Rattle.studio_rules.specs.declared.status.Status.{Status}
@@ -65,8 +65,8 @@ use Rattle.studio_rules.specs.RankJson.{RankJsonWork}
 use Rattle.studio_rules.specs.RankGraph.{RankGraphWork}
 use Rattle.studio_rules.specs.TextFile.{by_kind, RankSays, EitherSays, OnEither}
 use Rattle.studio_rules.specs.RangesJson.{TableSays, AnySays, OnAny}
-use Rattle.range_rules.specs.Table.{is_table, read_table}
-use Rattle.range_rules.specs.declared.row.Row.{Row}
+use Rattle.report_rules.specs.RangeTable.{is_table, read_table}
+use Rattle.report_rules.specs.declared.row.Row.{Row}
 use Rattle.rank_rules.specs.Headed.{is_ranking}
 use Rattle.studio_rules.specs.Graph.{PlantGraphWork, NetworkGraphWork}
 use Rattle.studio_rules.specs.Expand.{ExpandWork}

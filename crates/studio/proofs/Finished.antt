@@ -4,7 +4,7 @@ use Rattle.number_sets.specs.Sets.{has}
 use Rattle.problem_rules.specs.Problem.{Problem}
 use Rattle.problem_rules.specs.Generated.{generated}
 use Rattle.text_rules.specs.Outside.{Told}
-use Rattle.io_rules.specs.State.{ShelfState, OutputsState}
+use Rattle.text_rules.specs.State.{ShelfState, OutputsState}
 use Rattle.pns_rules.specs.Nodes.{Node}
 use Rattle.pns_rules.specs.declared.verdict.Verdict.{Verdict}
 use Rattle.pns_rules.specs.declared.verdict.Verdict.TheVariants.{Meets, Breaks}
@@ -13,9 +13,9 @@ use Rattle.plan_rules.specs.Expanded.{expanded}
 use Rattle.tree_rules.specs.Claim.{Claim, Network, network, infeasible, unknown}
 use Rattle.tree_rules.specs.Accepted.{Tree}
 use Rattle.tree_rules.specs.Tail.{Tail, whole, spent, past}
-use Rattle.stability_rules.specs.declared.spot.Spot.{Spot}
-use Rattle.stability_rules.specs.declared.spot.SpotKind.{SpotKind}
-use Rattle.stability_rules.specs.Spot.{valued}
+use Rattle.report_rules.specs.declared.spot.Spot.{Spot}
+use Rattle.report_rules.specs.declared.spot.SpotKind.{SpotKind}
+use Rattle.report_rules.specs.Spot.{valued}
 use Rattle.studio_rules.specs.Command.{Alternatives}
 use Rattle.studio_rules.specs.Command.{Command, Flows, Solving, Showing, Ranking, Trial, Ranging}
 use Rattle.studio_rules.specs.Command.{Planning, Parting, PartingAgainst, command_of}

@@ -17,17 +17,17 @@ use Rattle.tree_rules.specs.Accepted.{Tree, first_node, IsPartial, IsAccepted}
 use Rattle.tree_laws.specs.Laws.{PartialIsAccepted}
 use Rattle.tree_rules.specs.Known.{KnowsStep, KnowsNode, KnowsTree, AreUnits}
 use Rattle.tree_rules.specs.Tail.{Tail, whole}
-use Rattle.part_rules.specs.Graft.{graft_at, grafted, claim_of_both, cheaper, has_open, is_open}
-use Rattle.part_rules.specs.OpenLeaves.{OpenAt, IsAmong, open_here, open_leaves}
-use Rattle.part_laws.specs.Laws.{OpenLeavesStand, GraftIsTree}
+use Rattle.tree_text_rules.specs.Graft.{graft_at, grafted, claim_of_both, cheaper, has_open, is_open}
+use Rattle.tree_text_rules.specs.OpenLeaves.{OpenAt, IsAmong, open_here, open_leaves}
+use Rattle.tree_parts.specs.Laws.{OpenLeavesStand, GraftIsTree}
 use Rattle.tree_text_rules.specs.Read.{Certificate, Fault, read_text}
 use Rattle.tree_text_rules.specs.Spelling.{tree_text, tree_text_lines}
 use Rattle.tree_text_laws.specs.Fits.{CountsTree, FitsClaim, FitsTree}
 use Rattle.tree_text_laws.specs.LineFits.{CountsEnd}
 use Rattle.tree_text_laws.specs.Laws.{SpelledTextsRead, ReadTextsAreSpelled}
-use Rattle.part_rules.specs.Part.{Part, start_of}
-use Rattle.part_rules.specs.Several.{AreMerged}
-use Rattle.part_text.specs.Laws.{ReadPartsAreSpelled}
+use Rattle.tree_text_rules.specs.Part.{Part, start_of}
+use Rattle.tree_text_rules.specs.Several.{AreMerged}
+use Rattle.tree_parts.specs.PartLaws.{ReadPartsAreSpelled}
 use Rattle.studio_rules.specs.Reading.{AreHeld, GivesProblem, OnFile}
 use Rattle.studio_rules.specs.TreeFile.{TreeFault, GivesTree, OnTree, tree_limit}
 use Rattle.studio_rules.specs.HeadedFile.{HeadedSays, OnHeaded}
@@ -38,7 +38,7 @@ use Rattle.studio_rules.specs.Merge.{MergeWork}
 use Rattle.studio_rules.specs.Command.{Checking, Splitting, Merging}
 use Rattle.studio_rules.specs.Lines.{line, text_of}
 use Rattle.studio_rules.specs.Printed.{spelled}
-use Rattle.endings.proofs.Printing.{spelled_text}
+use Rattle.command_files.proofs.Printing.{spelled_text}
 use Rattle.studio_rules.specs.declared.status.Status.{Status}
 use Rattle.studio_rules.specs.declared.status.Status.TheVariants.{Done, Refused, NoLeaf}
 use Rattle.studio.specs.SolveLaws.{IsAcceptedOrLong}

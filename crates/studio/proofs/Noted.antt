@@ -3,7 +3,7 @@ use Rattle.std.proofs.Common.{◌≡◌, ◌≤◌, ℕ, List, Result, Ok, Err, 
 use Rattle.std.proofs.Common.{refl, sym, subst, arith, inl, inr}
 use Rattle.std.specs.Io.KnownBytes.{Appends}
 use Rattle.text_rules.specs.Outside.{HasRisen, AppendsFront, last_count}
-use Rattle.io_rules.specs.State.{SinkState, OutputsState}
+use Rattle.text_rules.specs.State.{SinkState, OutputsState}
 use Rattle.studio_rules.specs.Lines.{line}
 use Rattle.studio_rules.specs.Ending.{Ends, Finishes, HasFault, TakesFault}
 use Rattle.studio_rules.specs.declared.status.Status.{Status}

@@ -8,7 +8,7 @@ use Rattle.edit_rules.specs.Edit.{Edit}
 use Rattle.pns_rules.specs.declared.verdict.Verdict.{Verdict}
 use Rattle.pns_rules.specs.declared.verdict.Verdict.TheVariants.{Meets, Breaks}
 use Rattle.text_rules.specs.Outside.{HasRisen, Told, IsToldAnd}
-use Rattle.io_rules.specs.State.{ShelfState, OutputsState}
+use Rattle.text_rules.specs.State.{ShelfState, OutputsState}
 use Rattle.studio_rules.specs.Command.{Command, Max, Axioms, Flows, Listing, Linting, Make}
 use Rattle.studio_rules.specs.Command.{Migrate}
 use Rattle.studio_rules.specs.Command.{Editing, Undoing, Checking, RankChecking, Solving, Showing}
@@ -50,21 +50,21 @@ use Rattle.studio_rules.specs.RankJson.{RankJsonWork}
 use Rattle.studio_rules.specs.RankGraph.{RankGraphWork}
 use Rattle.studio_rules.specs.TextFile.{by_kind, RankSays, EitherSays, OnEither}
 use Rattle.studio_rules.specs.RangesJson.{TableSays, OnAny}
-use Rattle.range_rules.specs.Table.{is_table}
+use Rattle.report_rules.specs.RangeTable.{is_table}
 use Rattle.rank_rules.specs.Headed.{is_ranking}
 use Rattle.studio_rules.specs.Graph.{PlantGraphWork, NetworkGraphWork}
 use Rattle.studio_rules.specs.Split.{SplitWork}
 use Rattle.studio_rules.specs.PartFile.{PartFault, FirstFault, are_several}
 use Rattle.studio_rules.specs.Merge.{MergeWork, MergeSays, FaultSays}
-use Rattle.part_rules.specs.declared.merge_fault.MergeFault.{MergeFault}
-use Rattle.part_rules.specs.declared.merge_fault.MergeFault.TheVariants as merging
+use Rattle.tree_text_rules.specs.declared.merge_fault.MergeFault.{MergeFault}
+use Rattle.tree_text_rules.specs.declared.merge_fault.MergeFault.TheVariants as merging
 use Rattle.tree_rules.specs.declared.refusal.Refusal.TheVariants as refusals
 use Rattle.studio_rules.specs.Start.{OnStart}
 use Rattle.studio_rules.specs.Part.{PartSays, PartWork, ClaimSays, AgainstWork}
 use Rattle.tree_rules.specs.Claim.{network, infeasible, unknown}
 use Rattle.studio_rules.specs.Periods.{PeriodsWork}
-use Rattle.stability_rules.specs.declared.spot.Spot.{Spot}
-use Rattle.stability_rules.specs.declared.spot.SpotKind.{SpotKind}
+use Rattle.report_rules.specs.declared.spot.Spot.{Spot}
+use Rattle.report_rules.specs.declared.spot.SpotKind.{SpotKind}
 use Rattle.studio_rules.specs.Stable.{spot_named, SpotWork, NamedWork, StableWork}
 use Rattle.studio_rules.specs.StableTable.{RangesWork}
 use Rattle.studio_rules.specs.Best.{FilesClaimBest, AcceptedIsBest}

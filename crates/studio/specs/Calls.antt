@@ -1,7 +1,7 @@
 -- Laws over calls of `studio` one after another: what one call put out another accepts, or goes on
 -- from, if the problem file stays as it is between the calls.
 use Rattle.std.specs.Prelude.{◌≡◌, ◌⊎◌, ◌≤◌, ◌<◌, ◌+◌, ◌++◌, ℕ, List, [], ◌∷◌, Some, length, codes}
-use Rattle.io_rules.specs.State.{ShelfState, OutputsState}
+use Rattle.text_rules.specs.State.{ShelfState, OutputsState}
 use Rattle.studio_rules.specs.TreeFile.{tree_limit}
 use Rattle.studio_rules.specs.Command.{Command, Listing, Checking, RankChecking, Solving, Ranking}
 use Rattle.studio_rules.specs.Command.{Alternatives}

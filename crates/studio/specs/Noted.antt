@@ -1,7 +1,7 @@
 -- What standard error shows of a fault of an output.
 use Rattle.std.specs.Prelude.{◌≡◌, ◌≤◌}
 use Rattle.text_rules.specs.Outside.{last_count}
-use Rattle.io_rules.specs.State.{OutputsState}
+use Rattle.text_rules.specs.State.{OutputsState}
 use Rattle.studio_rules.specs.Ending.{TakesFault}
 use Rattle.studio_rules.specs.declared.status.Status.{Status}
 use Rattle.studio_rules.specs.declared.status.Status.TheVariants.{WriteFault}

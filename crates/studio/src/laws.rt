@@ -7,10 +7,10 @@ ghost use Rattle.studio.specs.Calls.{CheckAcceptsSolved, RankcheckAcceptsRanked}
 ghost use Rattle.studio.specs.Calls.{RankcheckAcceptsAlternatives};
 ghost use Rattle.studio.specs.Calls.{CheckAcceptsMerged, ListingsJoin};
 
-use head_laws::{empty_head_is_none, tree_has_one_fault_by};
+use tree_laws::{empty_head_is_none, tree_has_one_fault_by};
 use head_rules::one_fault;
-use part_laws::{grafts_are_partial, open_leaves_stand};
-use part_text::read_parts_are_spelled;
+use tree_parts::{grafts_are_partial, open_leaves_stand};
+use tree_parts::read_parts_are_spelled;
 use problem_rules::valid_is_well_formed;
 use rank_laws::{network_has_one_fault, ranking_has_one_fault};
 use tree_laws::{claim_has_one_fault, open_leaves_decide};

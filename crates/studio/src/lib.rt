@@ -15,7 +15,7 @@ mod call;
 mod laws;
 
 pub use call::studio;
-pub use endings::code_of;
+pub use command_files::code_of;
 pub use laws::{
     alternatives_are_accepted, check_accepts_merged, check_accepts_solved, listings_join,
     parts_join, rankcheck_accepts_alternatives, rankcheck_accepts_ranked, ranked_is_accepted,

@@ -2,7 +2,7 @@
 use Rattle.std.specs.List.{Contains}
 use Rattle.std.specs.Prelude.{◌≡◌, ◌≤◌, ◌⊎◌, ℕ, List, [], ◌∷◌, Option, Some, None, length, codes}
 use Rattle.text_rules.specs.Outside.{HasRisen, Told, IsToldAnd}
-use Rattle.io_rules.specs.State.{ShelfState, OutputsState}
+use Rattle.text_rules.specs.State.{ShelfState, OutputsState}
 use Rattle.studio_rules.specs.Command.{Command, command_of, IsFileOf, IsFileWord}
 use Rattle.studio_rules.specs.Command.{Max, Axioms, Flows, Listing, Linting, Make, Migrate, Editing}
 use Rattle.studio_rules.specs.Command.{Undoing, Checking, RankChecking, Solving, Showing, Ranking}
@@ -16,8 +16,8 @@ use Rattle.tree_rules.specs.Claim.{Network, network}
 use Rattle.tree_text_rules.specs.Read.{HeadedCertificate}
 use Rattle.plan_rules.specs.Plan.{Plan}
 use Rattle.plan_rules.specs.Expanded.{expanded}
-use Rattle.stability_rules.specs.declared.spot.Spot.{Spot}
-use Rattle.stability_rules.specs.declared.spot.SpotKind.{SpotKind}
+use Rattle.report_rules.specs.declared.spot.Spot.{Spot}
+use Rattle.report_rules.specs.declared.spot.SpotKind.{SpotKind}
 use Rattle.studio_rules.specs.Reading.{AreHeld, GivesProblem, OnFile, OnText, file_limit}
 use Rattle.studio_rules.specs.Max.{MaxWork}
 use Rattle.studio_rules.specs.Axioms.{AxiomsWork}

@@ -8,7 +8,7 @@ use Rattle.problem_rules.specs.Problem.{Problem}
 use Rattle.pns_rules.specs.Shape.{shape_of}
 use Rattle.text_rules.specs.declared.TextKind.{TextKind}
 use Rattle.edit_rules.specs.Migration.{has_payout, out_of_range_at}
-use Rattle.script_rules.specs.declared.EditKind.{EditKind}
+use Rattle.edit_rules.specs.declared.EditKind.{EditKind}
 use Rattle.plan_rules.specs.declared.PlanKind.{PlanKind}
 use Rattle.plan_rules.specs.Meaning.{read_plan}
 use Rattle.tree_rules.specs.Claim.{Claim}
@@ -17,10 +17,10 @@ use Rattle.tree_text_rules.specs.declared.TreeKind.{TreeKind}
 use Rattle.tree_text_rules.specs.Read as trees
 use Rattle.rank_rules.specs.Read as ranks
 use Rattle.rank_rules.specs.Headed.{is_ranking}
-use Rattle.range_rules.specs.Table.{is_table, read_table}
-use Rattle.part_rules.specs.Part.{Part}
-use Rattle.part_rules.specs.Read.{PartReads}
-use Rattle.stability_rules.specs.declared.spot.SpotKind.{SpotKind}
+use Rattle.report_rules.specs.RangeTable.{is_table, read_table}
+use Rattle.tree_text_rules.specs.Part.{Part}
+use Rattle.tree_text_rules.specs.PartRead.{PartReads}
+use Rattle.report_rules.specs.declared.spot.SpotKind.{SpotKind}
 use Rattle.studio_rules.specs.Reading.{AreHeld, GivesProblem, Reads, file_limit}
 use Rattle.studio_rules.specs.Script.{HasEditFault}
 use Rattle.studio_rules.specs.TreeFile.{GivesTree, tree_limit}

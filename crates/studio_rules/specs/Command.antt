@@ -8,8 +8,8 @@ use Rattle.problem_rules.specs.Names.{is_name, has_double}
 use Rattle.studio_rules.specs.PageLines.{text_of, IsOfLines}
 use Rattle.studio_rules.specs.Overview.{overview, version}
 use Rattle.studio_rules.specs.Pages.{page_text, command_text}
-use Rattle.stability_rules.specs.declared.spot.SpotKind.{SpotKind}
-use Rattle.stability_rules.specs.declared.spot.SpotKind.TheVariants as kinds
+use Rattle.report_rules.specs.declared.spot.SpotKind.{SpotKind}
+use Rattle.report_rules.specs.declared.spot.SpotKind.TheVariants as kinds
 use Rattle.studio_rules.specs.declared.scene.Scene.{Scene}
 use Rattle.studio_rules.specs.declared.scene.Scene.TheVariants as scenes
 use Rattle.studio_rules.specs.Numeral.{number_within, last_byte, but_last}

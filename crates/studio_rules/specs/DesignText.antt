@@ -5,7 +5,7 @@ use Rattle.std.specs.Prelude.{ℕ, ℤ, ◌+◌, List, [], ◌∷◌, ◌++◌, 
 use Rattle.std.specs.Fmt.{signed_decimal}
 use Rattle.number_sets.specs.Sets.{has}
 use Rattle.problem_rules.specs.Problem.{Problem, unit_names}
-use Rattle.design_rules.specs.Folded.{Run, Written}
+use Rattle.plan_rules.specs.Folded.{Run, Written}
 use Rattle.studio_rules.specs.Lines.{spaced_names, names_in}
 
 -- the names of the units in file order, each after a space

@@ -17,7 +17,7 @@ use Rattle.tree_rules.specs.Claim.{Network, IsSized}
 use Rattle.tree_rules.specs.Claim as claims
 use Rattle.tree_text_rules.specs.Spelling.{network_lines, claim_lines, end_line, place_lines}
 use Rattle.flow_rules.specs.Net.{net_of}
-use Rattle.path_rules.specs.PastPlace.{IsPastNamed}
+use Rattle.flow_rules.specs.PastPlace.{IsPastNamed}
 use Rattle.tree_rules.specs.LeastFlows.{decided, IsLeastFlows, HasNoFlows}
 use Rattle.studio_rules.specs.Printed.{spelled}
 use Rattle.studio_rules.specs.Axioms.{units_named, first_stranger, breaks_line, VerdictSays}

@@ -14,9 +14,9 @@ use Rattle.report_rules.specs.declared.headed_verdict.HeadedVerdict.{HeadedVerdi
 use Rattle.report_rules.specs.declared.headed_verdict.HeadedVerdict.TheVariants as headed
 use Rattle.report_rules.specs.HeadedVerdict.{is_plain, IsHeadedVerdict}
 use Rattle.report_rules.specs.Marginal.{Marginals, AreClaimMarginals}
-use Rattle.json_rules.specs.Json.{quoted, null, member}
-use Rattle.json_rules.specs.Facts.{text_member, fact_lines, bare_lines}
-use Rattle.json_rules.specs.Lower.{low_json, gap_json}
+use Rattle.report_rules.specs.Json.{quoted, null, member}
+use Rattle.report_rules.specs.Facts.{text_member, fact_lines, bare_lines}
+use Rattle.report_rules.specs.JsonLower.{low_json, gap_json}
 use Rattle.studio_rules.specs.RefusalWords.{why_word, line_word, claim_line}
 use Rattle.studio_rules.specs.declared.status.Status.{Status}
 use Rattle.studio_rules.specs.declared.status.Status.TheVariants.{Done, BadClaim}

@@ -12,10 +12,10 @@ use Rattle.tree_rules.specs.Tail.{whole}
 use Rattle.tree_rules.specs.declared.refusal.Refusal.{Refusal}
 use Rattle.tree_rules.specs.declared.refusal.Refusal.TheVariants.{Claim, Node, Memory}
 use Rattle.tree_text_rules.specs.Spelling.{tree_text_lines}
-use Rattle.part_rules.specs.Part as parts
-use Rattle.part_rules.specs.Several.{AreMerged, StopsAt}
-use Rattle.part_rules.specs.declared.merge_fault.MergeFault.{MergeFault}
-use Rattle.part_rules.specs.declared.merge_fault.MergeFault.TheVariants as faults
+use Rattle.tree_text_rules.specs.Part as parts
+use Rattle.tree_text_rules.specs.Several.{AreMerged, StopsAt}
+use Rattle.tree_text_rules.specs.declared.merge_fault.MergeFault.{MergeFault}
+use Rattle.tree_text_rules.specs.declared.merge_fault.MergeFault.TheVariants as faults
 use Rattle.studio_rules.specs.RefusalWords.{why_word, claim_line, node_line}
 use Rattle.studio_rules.specs.PartFile.{FirstFault, GiveParts, part_words, are_several}
 use Rattle.studio_rules.specs.Printed.{spelled}

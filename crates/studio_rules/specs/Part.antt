@@ -16,9 +16,9 @@ use Rattle.tree_rules.specs.Tail.{Tail, whole, spent, past}
 use Rattle.tree_rules.specs.Past.{IsPastAt}
 use Rattle.tree_rules.specs.Proved.{IsProved, IsStopped, IsBelowLimit}
 use Rattle.tree_text_rules.specs.Read.{Certificate}
-use Rattle.part_rules.specs.Part.{Part}
-use Rattle.part_rules.specs.Read.{PartReads}
-use Rattle.part_rules.specs.Spelling.{part_text_lines}
+use Rattle.tree_text_rules.specs.Part.{Part}
+use Rattle.tree_text_rules.specs.PartRead.{PartReads}
+use Rattle.tree_text_rules.specs.PartSpelling.{part_text_lines}
 use Rattle.studio_rules.specs.Lines.{text_of}
 use Rattle.studio_rules.specs.Network.{ClaimRefusal}
 use Rattle.studio_rules.specs.Printed.{spelled}

@@ -5,8 +5,8 @@ use Rattle.std.specs.Prelude.{length, take, get_or, nat_lt, codes, decimal}
 use Rattle.text_rules.specs.Outside.{Told}
 use Rattle.problem_rules.specs.Problem.{Problem}
 use Rattle.tree_text_rules.specs.declared.TreeKind.{TreeKind}
-use Rattle.part_rules.specs.Part.{Part}
-use Rattle.part_rules.specs.Read.{PartReads}
+use Rattle.tree_text_rules.specs.Part.{Part}
+use Rattle.tree_text_rules.specs.PartRead.{PartReads}
 use Rattle.studio_rules.specs.Reading.{AreHeld, IsLong}
 use Rattle.studio_rules.specs.TreeFile.{tree_limit, tree_kind_word}
 use Rattle.studio_rules.specs.declared.status.Status.{Status}

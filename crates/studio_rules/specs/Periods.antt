@@ -7,8 +7,8 @@ use Rattle.plan_rules.specs.Expanded.{expanded}
 use Rattle.plan_rules.specs.Plan.{Plan}
 use Rattle.tree_rules.specs.Claim.{Network, network, infeasible}
 use Rattle.tree_rules.specs.Accepted.{Tree}
-use Rattle.design_rules.specs.Folded.{folded}
-use Rattle.design_rules.specs.Least.{IsLeastDesign, HasNoDesign}
+use Rattle.plan_rules.specs.Folded.{folded}
+use Rattle.plan_rules.specs.Least.{IsLeastDesign, HasNoDesign}
 use Rattle.studio_rules.specs.Solve.{Solves, HasProof, PlainWork}
 use Rattle.studio_rules.specs.declared.status.Status.{Status}
 use Rattle.studio_rules.specs.declared.status.Status.TheVariants.{Done}

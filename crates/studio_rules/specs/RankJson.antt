@@ -10,10 +10,10 @@ use Rattle.report_rules.specs.declared.rank_verdict.RankVerdict.TheVariants.{Fai
 use Rattle.report_rules.specs.RankLow.{best_claim}
 use Rattle.report_rules.specs.RankVerdict.{IsRankVerdict, low_of}
 use Rattle.report_rules.specs.Marginal.{Marginals, AreFirstMarginals}
-use Rattle.json_rules.specs.Json.{quoted, null, member}
-use Rattle.json_rules.specs.Facts.{text_member, count_member}
-use Rattle.json_rules.specs.Lower.{bound_json, gap_between}
-use Rattle.json_rules.specs.Ranked.{networks_member, lines_behind}
+use Rattle.report_rules.specs.Json.{quoted, null, member}
+use Rattle.report_rules.specs.Facts.{text_member, count_member}
+use Rattle.report_rules.specs.JsonLower.{bound_json, gap_between}
+use Rattle.report_rules.specs.JsonRanked.{networks_member, lines_behind}
 use Rattle.studio_rules.specs.RankWords.{rank_why_word}
 use Rattle.studio_rules.specs.RankReport.{NetworkRefusal}
 use Rattle.studio_rules.specs.declared.status.Status.{Status}

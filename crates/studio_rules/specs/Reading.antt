@@ -17,7 +17,7 @@ use Rattle.text_rules.specs.declared.TextKind.TheVariants.{DoubleExclusion, Doub
 use Rattle.text_rules.specs.declared.TextKind.TheVariants.{FewMembers, UnknownUnit, BadPayout}
 use Rattle.text_rules.specs.Fault.{Fault}
 use Rattle.text_rules.specs.Value.{read_text}
-use Rattle.io_rules.specs.State.{ShelfState}
+use Rattle.text_rules.specs.State.{ShelfState}
 use Rattle.studio_rules.specs.Ending.{Says}
 use Rattle.studio_rules.specs.declared.status.Status.{Status}
 use Rattle.studio_rules.specs.declared.status.Status.TheVariants.{BadProblem, TooLong}

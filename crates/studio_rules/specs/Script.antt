@@ -6,16 +6,16 @@ use Rattle.problem_rules.specs.Problem.{Problem}
 use Rattle.edit_rules.specs.Edit.{Edit, Script}
 use Rattle.edit_rules.specs.Formed.{script_of}
 use Rattle.edit_rules.specs.Script.{CanApply, applied, undoing}
-use Rattle.script_rules.specs.declared.EditKind.{EditKind}
-use Rattle.script_rules.specs.declared.EditKind.TheVariants.{FileType, BadLine, BadName, BadNumber}
-use Rattle.script_rules.specs.declared.EditKind.TheVariants.{TooFine, TooLarge, Sign, BadTerms}
-use Rattle.script_rules.specs.declared.EditKind.TheVariants.{UnknownName, DoubleName, BadPlace}
-use Rattle.script_rules.specs.declared.EditKind.TheVariants.{LowAboveHigh, InUse, NoProduct}
-use Rattle.script_rules.specs.declared.EditKind.TheVariants.{TooMany, BadMembers}
-use Rattle.script_rules.specs.Line.{file_type}
-use Rattle.script_rules.specs.Read.{read_script}
-use Rattle.script_rules.specs.Printed.{edit_line}
-use Rattle.script_rules.specs.Meaning.{HasFaultAt}
+use Rattle.edit_rules.specs.declared.EditKind.{EditKind}
+use Rattle.edit_rules.specs.declared.EditKind.TheVariants.{FileType, BadLine, BadName, BadNumber}
+use Rattle.edit_rules.specs.declared.EditKind.TheVariants.{TooFine, TooLarge, Sign, BadTerms}
+use Rattle.edit_rules.specs.declared.EditKind.TheVariants.{UnknownName, DoubleName, BadPlace}
+use Rattle.edit_rules.specs.declared.EditKind.TheVariants.{LowAboveHigh, InUse, NoProduct}
+use Rattle.edit_rules.specs.declared.EditKind.TheVariants.{TooMany, BadMembers}
+use Rattle.edit_rules.specs.Line.{file_type}
+use Rattle.edit_rules.specs.Read.{read_script}
+use Rattle.edit_rules.specs.Printed.{edit_line}
+use Rattle.edit_rules.specs.Meaning.{HasFaultAt}
 use Rattle.studio_rules.specs.Reading.{AreHeld, IsLong, OnSecond, file_limit}
 use Rattle.studio_rules.specs.declared.status.Status.{Status}
 use Rattle.studio_rules.specs.declared.status.Status.TheVariants.{BadEdit, TooLong}

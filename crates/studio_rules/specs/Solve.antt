@@ -10,7 +10,7 @@ use Rattle.pns_rules.specs.Ends.{IsSound, IsReduced}
 use Rattle.flow_rules.specs.declared.place.Column.{Column}
 use Rattle.flow_rules.specs.declared.place.Place.{Place}
 use Rattle.flow_rules.specs.Net.{net_of}
-use Rattle.path_rules.specs.PastPlace.{IsPastNamed}
+use Rattle.flow_rules.specs.PastPlace.{IsPastNamed}
 use Rattle.tree_rules.specs.Claim.{Claim, Network, network, infeasible, claimed_cost, IsFeasible}
 use Rattle.tree_rules.specs.Leaf.{IsUntried}
 use Rattle.tree_rules.specs.Accepted.{Tree, first_node}
@@ -22,7 +22,7 @@ use Rattle.tree_text_rules.specs.Read.{Certificate, read_text, HeadedCertificate
 use Rattle.tree_text_rules.specs.Spelling.{tree_text_lines, headed_text_lines}
 use Rattle.tree_rules.specs.Past.{IsPastAt}
 use Rattle.tree_rules.specs.Proved.{IsProved, IsStopped, IsBelowLimit}
-use Rattle.headed_rules.specs.Proved.{IsProvedBy}
+use Rattle.head_rules.specs.Proved.{IsProvedBy}
 use Rattle.studio_rules.specs.Lines.{text_of}
 use Rattle.studio_rules.specs.Printed.{spelled}
 use Rattle.studio_rules.specs.declared.status.Status.{Status}

@@ -7,7 +7,7 @@ use Rattle.pns_rules.specs.Shape.{shape_of}
 use Rattle.tree_rules.specs.declared.why.Why.{Why}
 use Rattle.tree_rules.specs.Claim.{Claim, ClaimPasses, ClaimFails}
 use Rattle.tree_rules.specs.Accepted.{Tree, first_node, IsPartial, NodeIsFault}
-use Rattle.part_rules.specs.OpenLeaves.{OpenAt, open_leaves}
+use Rattle.tree_text_rules.specs.OpenLeaves.{OpenAt, open_leaves}
 use Rattle.pns_rules.specs.Tokens.{token_of}
 use Rattle.studio_rules.specs.RefusalWords.{claim_line, node_line}
 use Rattle.studio_rules.specs.declared.status.Status.{Status}

@@ -10,14 +10,14 @@ use Rattle.tree_rules.specs.Claim.{Network, Claim}
 use Rattle.tree_rules.specs.Accepted.{Tree}
 use Rattle.tree_text_rules.specs.Line.{Token}
 use Rattle.tree_text_rules.specs.Spelling.{network_lines}
-use Rattle.stability_rules.specs.declared.spot.Spot.{Spot}
-use Rattle.stability_rules.specs.declared.spot.Spot.TheVariants as spots
-use Rattle.stability_rules.specs.declared.side.Side.{Side}
-use Rattle.stability_rules.specs.declared.side.Side.TheVariants.{Below, Above}
-use Rattle.stability_rules.specs.declared.spot.SpotKind.{SpotKind}
-use Rattle.stability_rules.specs.declared.spot.SpotKind.TheVariants.{Price, Fix, Proportional}
-use Rattle.stability_rules.specs.Spot.{valued, IsAllowedValue}
-use Rattle.stability_rules.specs.Range.{IsCheaper, IsRange, IsHalfProved, MayWant, IsPastCost}
+use Rattle.report_rules.specs.declared.spot.Spot.{Spot}
+use Rattle.report_rules.specs.declared.spot.Spot.TheVariants as spots
+use Rattle.report_rules.specs.declared.side.Side.{Side}
+use Rattle.report_rules.specs.declared.side.Side.TheVariants.{Below, Above}
+use Rattle.report_rules.specs.declared.spot.SpotKind.{SpotKind}
+use Rattle.report_rules.specs.declared.spot.SpotKind.TheVariants.{Price, Fix, Proportional}
+use Rattle.report_rules.specs.Spot.{valued, IsAllowedValue}
+use Rattle.report_rules.specs.Range.{IsCheaper, IsRange, IsHalfProved, MayWant, IsPastCost}
 use Rattle.studio_rules.specs.Solve.{PlainWork, CanFinish}
 use Rattle.studio_rules.specs.Network.{OnNetwork}
 use Rattle.studio_rules.specs.Printed.{spelled}

@@ -12,10 +12,10 @@ use Rattle.tree_text_rules.specs.Read.{Certificate}
 use Rattle.report_rules.specs.declared.column.Sort.{Sort}
 use Rattle.report_rules.specs.declared.column.Sort.TheVariants.{Words, Sums}
 use Rattle.report_rules.specs.Aligned.{table_lines, cell_at}
-use Rattle.stability_rules.specs.declared.spot.Spot.{Spot}
-use Rattle.stability_rules.specs.declared.spot.Spot.TheVariants.{Price, Fix, Proportional}
-use Rattle.stability_rules.specs.Spot.{value_at, valued, IsAllowedValue}
-use Rattle.stability_rules.specs.Range.{IsRange, IsHalfProved, MayWant, IsPastCost}
+use Rattle.report_rules.specs.declared.spot.Spot.{Spot}
+use Rattle.report_rules.specs.declared.spot.Spot.TheVariants.{Price, Fix, Proportional}
+use Rattle.report_rules.specs.Spot.{value_at, valued, IsAllowedValue}
+use Rattle.report_rules.specs.Range.{IsRange, IsHalfProved, MayWant, IsPastCost}
 use Rattle.studio_rules.specs.Solve.{Holds, status_of}
 use Rattle.studio_rules.specs.Stable.{NotBestLines}
 use Rattle.studio_rules.specs.declared.status.Status.{Status}

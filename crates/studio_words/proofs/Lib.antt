@@ -1,5 +1,6 @@
-pub mod WholePages
-pub mod Within
 pub mod NameLists
 pub mod Numerals
+pub mod Seconds
+pub mod WholePages
+pub mod Within
 mod WorkedWords

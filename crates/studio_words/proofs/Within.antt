@@ -25,7 +25,7 @@ use Rattle.studio_rules.specs.Command.{Json, Planning, Parting, PartingAgainst, 
 use Rattle.studio_rules.specs.Command.{RangingAll, scene_of}
 use Rattle.studio_rules.specs.declared.scene.Scene.{Scene}
 use Rattle.studio_rules.specs.declared.scene.Scene.TheVariants as scenes
-use Rattle.stability_rules.specs.declared.spot.SpotKind.{SpotKind}
+use Rattle.report_rules.specs.declared.spot.SpotKind.{SpotKind}
 
 numeral_within : (least most : ℕ) (word : List ℕ)
     → IfSome (number_within least most word) (λ n. (least ≤ n) × (n ≤ most))

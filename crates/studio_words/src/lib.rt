@@ -5,13 +5,63 @@
 //!
 //! Modules: `command`, the commands; `file_words`, words that are files; `merging`, the words of
 //! `merge`; `unit_names`, the word UNITS; `number`, numbers in words.
+//!
+//! What the program says of itself: the commands on one screen, a page on each command and on the
+//! statuses, its version.
+//!
+//! Each page of a command is in `studio_rules` as lines, and in the code as bytes; the contracts
+//! say that they agree. The pages on formats and faults are one constant there, `TOPIC_PAGES`.
+//! `Pages` has the topics. A new command gets an entry in it, a line in `Overview` and a page in
+//! the file of its kind, and the same in the code. `tools/help write` then writes the manual page
+//! and the completions anew, and says what does not agree.
+//!
+//! Modules: `overview`; `pages`, the page on each topic; `structures`, `flows`, `reports`,
+//! `searches`, `ranks`, `parts`, `edits`, `plans`, `program`, the pages.
+//!
+//! Second lines, printable, after two blanks; their wording has no clause.
+//!
+//! They follow the first line of a refusal, for people: what was wrong, in which place, and how to
+//! mend it. [`Notes`] has the lines. Contracts promise their shape, `Seconds` of `studio_rules`. No
+//! caller decides by their wording. If memory is refused, a note is left out, and the call goes on.
+//!
+//! Modules: `notes`, the lines; `cut`, pieces of a text; `nearest`, the known word that is nearest
+//! to another; `form`, the form of a command and the first word that does not fit it; `call_words`,
+//! `faults` and `reasons`, what is said of words, of a text with a fault, and of the other
+//! refusals.
 #![tactic(auto)]
 
+mod call_words;
 mod command;
+mod cut;
+mod edits;
+mod faults;
 mod file_words;
+mod flows;
+mod form;
 mod merging;
+mod nearest;
+mod notes;
 mod number;
+mod overview;
+mod pages;
+mod parts;
+mod plans;
+mod program;
+mod ranks;
+mod reasons;
+mod reports;
+mod searches;
+mod structures;
 mod unit_names;
 
+pub use call_words::usage;
 pub use command::{Command, command_of};
+pub use faults::{Format, Source, fault};
+pub use notes::{Notes, Piece};
+pub use overview::{overview_text, version_text};
+pub use pages::{command_page_on, page_on};
+pub use reasons::{
+    Stop, bad_node, bad_token, has_payout, no_leaf, no_network, not_finished, out_of_range,
+    read_fault, refused, too_long, unknown_material, unknown_unit,
+};
 pub use unit_names::UnitNames;

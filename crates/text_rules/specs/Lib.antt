@@ -6,5 +6,6 @@ pub mod Field
 pub mod Line
 pub mod Outside
 pub mod Printed
+pub mod State
 pub mod Term
 pub mod Value

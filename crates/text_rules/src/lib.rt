@@ -11,6 +11,13 @@
 //! `UnknownMaterial`, `NoRates`, `NoProduct`, `UnknownUnit`) count only if there is no fault of
 //! form. In each group the fault of the first line is reported, and of the faults at one line the
 //! first in the order of [`TextKind`].
+//!
+//! The states of a shelf, a sink and two outputs.
+//!
+//! They are what the program knows of the world outside it. A shelf holds files by name, and a sink
+//! takes bytes; the state of each is one value. `specs/` has `State`. `Outside` of `text_rules`
+//! says when a count of faults has risen, and what a read gives of a file. The contracts of
+//! `pns_io` and of the commands speak of a state before a call and after it.
 #![tactic(auto)]
 
 /// A kind of fault of a problem text. Of several kinds at one line the first in the order of the

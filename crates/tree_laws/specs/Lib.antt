@@ -1,1 +1,5 @@
+pub mod Capped
+pub mod CappingLaws
+pub mod HeadLaws
 pub mod Laws
+pub mod Recharged

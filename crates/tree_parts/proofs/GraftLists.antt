@@ -7,8 +7,8 @@ use Rattle.pns_rules.specs.Nodes.{Node}
 use Rattle.tree_rules.specs.Tree.{TreeNode, after_all, below, IsTree}
 use Rattle.tree_rules.specs.Leaf.{Leaf}
 use Rattle.tree_rules.specs.Accepted.{Tree}
-use Rattle.part_rules.specs.Graft.{grafted, graft_at}
-use Rattle.part_rules.specs.OpenLeaves.{StandsOpen}
+use Rattle.tree_text_rules.specs.Graft.{grafted, graft_at}
+use Rattle.tree_text_rules.specs.OpenLeaves.{StandsOpen}
 
 pub graft_pieces : (k : ℕ) (ts : Tree) (r : TreeNode Leaf) (rs : Tree) (t : TreeNode Leaf)
     → k < length ts → t ≡ get_or ts k t

@@ -7,18 +7,18 @@ use Rattle.pns_rules.specs.Shape.{shape_of}
 use Rattle.tree_rules.specs.Tree.{IsTree}
 use Rattle.tree_rules.specs.Claim.{Claim, claimed_cost}
 use Rattle.tree_rules.specs.Accepted.{Tree, first_node, IsPartial}
-use Rattle.part_rules.specs.OpenLeaves.{open_leaves, IsAmong, StandsOpen}
-use Rattle.part_rules.specs.Graft.{claim_of_both}
-use Rattle.part_laws.specs.Laws.{OpenLeavesStand, GraftIsTree, GraftIsPartial}
-use Rattle.part_laws.specs.Splices.{Splice, spliced, AreRising, IsPut, ArePut, settled, cheapest}
-use Rattle.part_laws.proofs.SpliceLemmas.{IsIn, put_in, rising_more, put_more, first_claims}
-use Rattle.part_laws.proofs.SpliceLemmas.{next_claims}
-use Rattle.part_rules.specs.Part as parts
-use Rattle.part_rules.specs.Part.{start_of}
-use Rattle.part_rules.specs.Merge.{IsMerged, IsLeafOf, MergeFails}
-use Rattle.part_rules.specs.declared.merge_fault.MergeFault.{MergeFault}
-use Rattle.part_rules.specs.declared.merge_fault.MergeFault.TheVariants.{NoLeaf, Memory}
-use Rattle.part_rules.specs.Several.{AreMerged, StopsAt}
+use Rattle.tree_text_rules.specs.OpenLeaves.{open_leaves, IsAmong, StandsOpen}
+use Rattle.tree_text_rules.specs.Graft.{claim_of_both}
+use Rattle.tree_parts.specs.Laws.{OpenLeavesStand, GraftIsTree, GraftIsPartial}
+use Rattle.tree_parts.specs.Splices.{Splice, spliced, AreRising, IsPut, ArePut, settled, cheapest}
+use Rattle.tree_parts.proofs.SpliceLemmas.{IsIn, put_in, rising_more, put_more, first_claims}
+use Rattle.tree_parts.proofs.SpliceLemmas.{next_claims}
+use Rattle.tree_text_rules.specs.Part as parts
+use Rattle.tree_text_rules.specs.Part.{start_of}
+use Rattle.tree_text_rules.specs.Merge.{IsMerged, IsLeafOf, MergeFails}
+use Rattle.tree_text_rules.specs.declared.merge_fault.MergeFault.{MergeFault}
+use Rattle.tree_text_rules.specs.declared.merge_fault.MergeFault.TheVariants.{NoLeaf, Memory}
+use Rattle.tree_text_rules.specs.Several.{AreMerged, StopsAt}
 use Rattle.branch_tree.specs.View.{claim_of}
 use Rattle.tree_parts.specs.declared.several.Merged.{Merged}
 use Rattle.tree_parts.specs.declared.several.PartFault.{PartFault}

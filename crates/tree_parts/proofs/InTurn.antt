@@ -8,10 +8,10 @@ use Rattle.problem_rules.specs.Each.{Each}
 use Rattle.problem_rules.specs.Problem.{Problem}
 use Rattle.tree_rules.specs.Claim.{Claim}
 use Rattle.tree_rules.specs.Accepted.{Tree}
-use Rattle.part_rules.specs.Part.{Part}
-use Rattle.part_rules.specs.Merge.{IsMerged}
-use Rattle.part_rules.specs.Several.{AreMerged, StopsAt}
-use Rattle.part_rules.specs.declared.merge_fault.MergeFault.{MergeFault}
+use Rattle.tree_text_rules.specs.Part.{Part}
+use Rattle.tree_text_rules.specs.Merge.{IsMerged}
+use Rattle.tree_text_rules.specs.Several.{AreMerged, StopsAt}
+use Rattle.tree_text_rules.specs.declared.merge_fault.MergeFault.{MergeFault}
 
 -- ---- the parts from a place on
 

@@ -6,14 +6,14 @@ use Rattle.std.proofs.lemmas.List.{append-nil, reverse-append, map-append}
 use Rattle.tree_rules.specs.Tree.{TreeNode}
 use Rattle.tree_rules.specs.Leaf.{Leaf}
 use Rattle.tree_rules.specs.Accepted.{Tree}
-use Rattle.part_rules.specs.Graft.{grafted, graft_at}
-use Rattle.part_laws.specs.Splices.{Splice, spliced, AllBelow, AllAbove, AreRising, ArePut}
+use Rattle.tree_text_rules.specs.Graft.{grafted, graft_at}
+use Rattle.tree_parts.specs.Splices.{Splice, spliced, AllBelow, AllAbove, AreRising, ArePut}
 use Rattle.problem_rules.specs.Problem.{Problem}
 use Rattle.pns_rules.specs.Shape.{shape_of}
 use Rattle.pns_rules.specs.Nodes.{Node}
-use Rattle.part_rules.specs.OpenLeaves.{OpenAt, IsAmong}
-use Rattle.part_rules.specs.Part as parts
-use Rattle.part_rules.specs.Part.{start_of}
+use Rattle.tree_text_rules.specs.OpenLeaves.{OpenAt, IsAmong}
+use Rattle.tree_text_rules.specs.Part as parts
+use Rattle.tree_text_rules.specs.Part.{start_of}
 use Rattle.tree_parts.specs.Waiting.{AreWithin, splice_of, splices_of, IsOneMore}
 use Rattle.tree_parts.proofs.GraftLists.{stands_below, some_nodes}
 use Rattle.tree_parts.specs.declared.waiting.Waiting.{Waiting}

@@ -14,8 +14,8 @@ use Rattle.tree_rules.specs.Tree.{TreeNode}
 use Rattle.tree_rules.specs.Leaf.{Leaf}
 use Rattle.tree_rules.specs.Claim.{Network}
 use Rattle.tree_rules.specs.Accepted.{Tree}
-use Rattle.part_rules.specs.OpenLeaves.{OpenAt, IsAmong}
-use Rattle.part_rules.specs.Graft.{is_open, has_open, cheaper}
+use Rattle.tree_text_rules.specs.OpenLeaves.{OpenAt, IsAmong}
+use Rattle.tree_text_rules.specs.Graft.{is_open, has_open, cheaper}
 use Rattle.cert_check.specs.declared.open_leaf.OpenLeaf.{OpenLeaf}
 use Rattle.cert_check.specs.OpenLeaves.{leaf_at, leaves_at}
 

@@ -1,1 +1,7 @@
+pub mod Laws
+pub mod Lines
+pub mod Order
+pub mod PartLaws
+pub mod Splices
+pub mod Tells
 pub mod Waiting

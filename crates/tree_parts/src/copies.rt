@@ -1,10 +1,10 @@
 //! Copies of nodes and networks.
 ghost use Rattle.std.specs.Prelude.{◌≡◌, ◌++◌, IfOk, OnOk};
 ghost use Rattle.branch_tree.specs.View.{end_of};
-ghost use Rattle.part_rules.specs.Graft.{grafted};
+ghost use Rattle.tree_text_rules.specs.Graft.{grafted};
 
 use branch_tree::{End, Multipliers, Network, Scaled, Steps, TreeNode};
-use covers::Covers;
+use pgraph::Covers;
 use std::alloc::{AllocError, Global};
 
 /// A copy of a network.

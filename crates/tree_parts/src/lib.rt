@@ -9,12 +9,39 @@
 //! Modules: `sound`, `open`; `part`, what a run found; `copies` of nodes and networks; `merging`;
 //! `waiting`, parts that wait for their places; `splicing`, which puts them there in one pass; and
 //! `several`.
+//!
+//! A part in its leaf's place proves the cheaper claim; parts of different nodes have any order.
+//!
+//! The list of the open leaves has each of them with its node. A part in the place of an open leaf
+//! makes one whole tree, which proves the claim of both, and leaves the other leaves open.
+//!
+//! The laws are in `specs/Laws` and `specs/Order`, over the definitions of `tree_rules` and
+//! `part_rules`. Each is the contract of a function without a body. A proof elsewhere calls the
+//! function to use the law.
+//!
+//! The text PNS_part_v1 of a part.
+//!
+//! It has the node at which the part's run began, by the tokens of the units taken in and of those
+//! left out. After these it has what a tree text has after its first line.
+//!
+//! [`print_part`] writes the one text of a part. [`read_part`] gives the part that a text stands
+//! for, or its first fault. The text of a part reads back as the part, and what a text stands for
+//! has no other text. No text stands for two parts or has two first faults. [`laws`] has these laws
+//! (`specs/Laws`) as contracts of functions that do nothing.
+//!
+//! In `part_rules`, `Spelling` has the text, and `Read` what a text stands for. Modules: `print`;
+//! `set`, the sets of units that tokens and lines stand for; `read`.
 #![tactic(auto)]
 
 mod copies;
+mod laws;
 mod merging;
 mod open;
 mod part;
+pub mod part_laws;
+mod print;
+mod read;
+mod set;
 mod several;
 mod sound;
 mod splicing;
@@ -22,8 +49,13 @@ mod waiting;
 
 pub use cert_check::OpenLeaf;
 pub use copies::{copied_end, copied_network, copied_scaled};
+pub use laws::{grafts_are_partial, open_leaves_stand, order_is_free, others_stay_open};
 pub use merging::merge;
 pub use open::{check_part, open_leaves};
 pub use part::Part;
+pub use part_laws::{parts_are_read_once, read_parts_are_spelled, spelled_parts_read};
+pub use print::print_part;
+pub use read::read_part;
+pub use set::units_named;
 pub use several::{PartFault, merge_all};
 pub use sound::is_sound;

@@ -3,12 +3,12 @@ ghost use Rattle.std.specs.Prelude.{◌≡◌, ◌<◌, ◌^◌, ◌∷◌, [], 
 ghost use Rattle.pns_rules.specs.Shape.{shape_of};
 ghost use Rattle.tree_rules.specs.Accepted.{first_node, IsPartial};
 ghost use Rattle.branch_tree.specs.View.{claim_of};
-ghost use Rattle.cert_parts.specs.Known.{KnowsInside};
-ghost use Rattle.part_rules.specs.OpenLeaves.{open_leaves};
+ghost use Rattle.cert_check.specs.Known.{KnowsInside};
+ghost use Rattle.tree_text_rules.specs.OpenLeaves.{open_leaves};
 ghost use Rattle.cert_check.specs.OpenLeaves.{leaves_at};
 ghost use Rattle.tree_rules.specs.Refusals.{Refuses};
 ghost use Rattle.cert_check.specs.Refusals.{IsOkOrMemory, NamesClaim, NamesNode};
-ghost use Rattle.part_rules.specs.Part.{start_of};
+ghost use Rattle.tree_text_rules.specs.Part.{start_of};
 
 use crate::part::Part;
 use branch_tree::{Claim, Tree};

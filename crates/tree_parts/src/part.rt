@@ -1,7 +1,7 @@
 //! Parts.
 ghost use Rattle.std.specs.Prelude.{◌≡◌};
 ghost use Rattle.branch_tree.specs.View.{claim_of, tail_of};
-ghost use Rattle.part_rules.specs.Part.{IsApart};
+ghost use Rattle.tree_text_rules.specs.Part.{IsApart};
 
 use branch_tree::{Claim, Tail, Tree};
 use std::marker::Model;
@@ -19,8 +19,8 @@ pub struct Part {
 
 impl Model for Part {
     ghost use Rattle.branch_tree.specs.View.{claim_of, tail_of};
-    ghost use Rattle.part_rules.specs.Part as rules;
-    ghost use Rattle.part_rules.specs.Part.{IsApart};
+    ghost use Rattle.tree_text_rules.specs.Part as rules;
+    ghost use Rattle.tree_text_rules.specs.Part.{IsApart};
 
     ghost Value = { rules.Part };
 

@@ -1,7 +1,7 @@
 //! Parts that are put in the places of their leaves, all in one pass.
 ghost use Rattle.std.specs.Prelude.{◌≡◌, ◌≤◌, ◌<◌, ◌+◌, ◌++◌, length, reverse, IfOk, OnOk};
-ghost use Rattle.part_rules.specs.Graft as grafts;
-ghost use Rattle.part_laws.specs.Splices.{AreRising, spliced};
+ghost use Rattle.tree_text_rules.specs.Graft as grafts;
+ghost use Rattle.tree_parts.specs.Splices.{AreRising, spliced};
 ghost use Rattle.tree_parts.specs.Waiting.{splices_of, AreWithin};
 
 use crate::copies::grafted;

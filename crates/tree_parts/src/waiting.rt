@@ -1,10 +1,10 @@
 //! Parts that wait for the places of their leaves in one tree.
 ghost use Rattle.std.specs.Prelude.{◌≡◌, ◌≤◌, ◌<◌, ℕ, true, false, [], length, take, drop, IfOk};
 ghost use Rattle.std.specs.Prelude.{IfSome, IfNone};
-ghost use Rattle.part_rules.specs.OpenLeaves.{IsAmong};
+ghost use Rattle.tree_text_rules.specs.OpenLeaves.{IsAmong};
 ghost use Rattle.cert_check.specs.OpenLeaves.{leaves_at};
-ghost use Rattle.part_laws.specs.Splices.{AllBelow, AllAbove, AreRising};
-ghost use Rattle.part_rules.specs.Part.{start_of};
+ghost use Rattle.tree_parts.specs.Splices.{AllBelow, AllAbove, AreRising};
+ghost use Rattle.tree_text_rules.specs.Part.{start_of};
 ghost use Rattle.tree_parts.specs.Waiting.{splices_of, IsOneMore};
 
 use crate::copies::push_copies;

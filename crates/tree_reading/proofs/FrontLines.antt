@@ -6,8 +6,8 @@ use Rattle.charge_rules.specs.Cover.{Cover}
 use Rattle.charge_rules.specs.Facts.{Demand}
 use Rattle.head_rules.specs.Head.{HeadLine, step, cap, out, trim, uses}
 use Rattle.head_rules.specs.Known.{KnowsLine}
-use Rattle.head_lines.specs.View.{line_of, lines_of}
-use Rattle.head_lines.specs.declared.line.HeadLine as values
+use Rattle.branch_tree.specs.HeadView.{line_of, lines_of}
+use Rattle.branch_tree.specs.declared.line.HeadLine as values
 use Rattle.tree_text_rules.specs.Line.{Token, Line, word_of, fields_of, is_formed}
 use Rattle.tree_text_rules.specs.LineRead.{cap_of, out_of, use_of, one_and_more, next_cover}
 use Rattle.tree_text_rules.specs.LineRead.{sets_of, head_by, head_read, formed_head}

@@ -6,9 +6,9 @@ use Rattle.std.proofs.lemmas.List.{length-map}
 use Rattle.problem_rules.specs.Each.{Each}
 use Rattle.problem_rules.specs.Problem.{Problem}
 use Rattle.charge_rules.specs.Cover as rules
-use Rattle.covers.specs.Kept.{IsKept, AreKept}
-use Rattle.covers.specs.View.{cover_of, covers_of}
-use Rattle.covers.specs.declared.cover.Cover.{Cover}
+use Rattle.pgraph.specs.Kept.{IsKept, AreKept}
+use Rattle.pgraph.specs.CoversView.{cover_of, covers_of}
+use Rattle.pgraph.specs.declared.cover.Cover.{Cover}
 use Rattle.tree_rules.specs.Known.{KnowsCover}
 use Rattle.tree_text_rules.specs.Line.{Token}
 use Rattle.tree_text_rules.specs.LineRead.{some_units}

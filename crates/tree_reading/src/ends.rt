@@ -19,7 +19,7 @@ use crate::list::numbers_of;
 use crate::name::{exclusion_of, material_of, one_material, one_unit};
 use crate::number::children_of;
 use branch_tree::{End, Multipliers, Scaled};
-use covers::Covers;
+use pgraph::Covers;
 use pns_problem::Problem;
 use std::alloc::Global;
 use tree_text_rules::{TreeKind, Word};

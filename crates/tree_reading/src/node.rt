@@ -1,7 +1,7 @@
 //! One node with its end.
 ghost use Rattle.std.specs.Prelude.{◌≡◌, ◌<◌, ◌≤◌, ◌-◌, ◌^◌, [], Ok, IfOk, IfErr, IfSome, length};
 ghost use Rattle.problem_rules.specs.Each.{Each};
-ghost use Rattle.covers.specs.View.{covers_of};
+ghost use Rattle.pgraph.specs.CoversView.{covers_of};
 ghost use Rattle.branch_tree.specs.View.{end_of};
 ghost use Rattle.tree_rules.specs.Known.{AreUnits, KnowsCover, KnowsEnd};
 ghost use Rattle.tree_rules.specs.Tree.{HasChildren};
@@ -18,7 +18,7 @@ use crate::fault::{TreeFault, at_line};
 use crate::head::read_steps;
 use crate::sets::set_line;
 use branch_tree::{End, Steps, TreeNode};
-use covers::{Cover, Covers};
+use pgraph::{Cover, Covers};
 use pns_problem::Problem;
 use std::alloc::Global;
 use unit_sets::UnitSet;

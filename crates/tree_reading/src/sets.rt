@@ -1,6 +1,6 @@
 //! The lines of the sets of a charge.
 ghost use Rattle.std.specs.Prelude.{◌≡◌, [], Some, IfOk, IfSome, option_map};
-ghost use Rattle.covers.specs.View.{cover_of};
+ghost use Rattle.pgraph.specs.CoversView.{cover_of};
 ghost use Rattle.tree_rules.specs.Known.{IsUnit, AreUnits, KnowsCover};
 ghost use Rattle.tree_text_rules.specs.LineRead as reads;
 ghost use Rattle.tree_text_rules.specs.Token as rules;
@@ -12,7 +12,7 @@ use crate::fault_order::both;
 use crate::name::unit_of;
 use crate::number::weight_of;
 use crate::unit_list::units_of;
-use covers::Cover;
+use pgraph::Cover;
 use pns_problem::Problem;
 use tree_text_rules::{TreeKind, Word};
 use unit_sets::UnitSet;

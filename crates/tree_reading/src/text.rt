@@ -17,7 +17,7 @@ use crate::front::read_front;
 use crate::nodes::read_whole;
 use crate::tail::read_tail;
 use branch_tree::{Claim, Tail, Tree};
-use head_lines::Head;
+use branch_tree::Head;
 use pns_problem::Problem;
 use std::alloc::Global;
 use tree_text_rules::TreeKind;

@@ -7,7 +7,7 @@ use Rattle.flow_rules.specs.Net.{net_of}
 use Rattle.flow_rules.specs.declared.place.Column.{Column}
 use Rattle.flow_rules.specs.declared.place.Place.{Place}
 use Rattle.tree_rules.specs.Known.{KnowsColumn, KnowsPlace}
-use Rattle.path_rules.specs.PastPlace.{IsPastNamed}
+use Rattle.flow_rules.specs.PastPlace.{IsPastNamed}
 
 -- the number at the place overflows at the last basis of the path of the node's program, these are
 -- the columns outside that basis, and all their numbers are those of units and materials of the

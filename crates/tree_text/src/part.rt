@@ -6,7 +6,7 @@ ghost use Rattle.tree_rules.specs.Known.{AreUnits, KnowsStep, KnowsCover, KnowsE
 ghost use Rattle.tree_rules.specs.Known.{KnowsTree, KnowsClaim, KnowsColumn, KnowsPlace, KnowsTail};
 ghost use Rattle.tree_rules.specs.Tree as trees;
 ghost use Rattle.tree_rules.specs.Leaf as leaves;
-ghost use Rattle.covers.specs.View.{cover_of, covers_of};
+ghost use Rattle.pgraph.specs.CoversView.{cover_of, covers_of};
 ghost use Rattle.branch_tree.specs.View.{end_of, claim_of, tail_of};
 ghost use Rattle.tree_text_rules.specs.Spelling.{step_line, cover_line, end_with_sets, head_lines};
 ghost use Rattle.tree_text_rules.specs.Spelling.{node_lines, tree_lines, network_lines};
@@ -16,7 +16,7 @@ ghost use Rattle.tree_text.specs.Prints.{Puts};
 use crate::fault::PrintFault;
 use crate::line::{Field, put};
 use branch_tree::{Claim, End, Network, Scaled, Tail, Tree, TreeNode};
-use covers::{Cover, Covers};
+use pgraph::{Cover, Covers};
 use flow_rules::{Column, Place};
 use pns_io::Sink;
 use pns_problem::Problem;

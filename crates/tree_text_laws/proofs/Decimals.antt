@@ -14,7 +14,7 @@ use Rattle.integer_laws.specs.Range.{InRange}
 use Rattle.text_rules.specs.Amount.{number_from, number_of}
 use Rattle.text_laws.proofs.Cuts.{not_mark, none_from_all}
 use Rattle.text_laws.proofs.Digits.{decimal_printed, decimal_whole}
-use Rattle.script_rules.specs.Fault.{is_whole, whole_within}
+use Rattle.edit_rules.specs.ScriptFault.{is_whole, whole_within}
 use Rattle.tree_text_rules.specs.Line.{Token}
 use Rattle.tree_text_rules.specs.Token.{told, greatest, negative_of, whole_number}
 use Rattle.tree_text_rules.specs.Token.{number_of as whole_of, is_not_negative, weight_of}

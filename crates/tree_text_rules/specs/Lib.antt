@@ -1,5 +1,12 @@
+pub mod Graft
 pub mod Line
 pub mod LineRead
+pub mod Merge
+pub mod OpenLeaves
+pub mod Part
+pub mod PartRead
+pub mod PartSpelling
 pub mod Read
+pub mod Several
 pub mod Spelling
 pub mod Token

@@ -6,7 +6,7 @@ use Rattle.std.specs.Prelude.{option_map, position, Result, Ok, Err, ifâ—Œthenâ—
 use Rattle.std.specs.List.{starts_with}
 use Rattle.std.specs.Str.{bytes_eq}
 use Rattle.problem_rules.specs.Problem.{Problem, material_names, unit_names, exclusion_names}
-use Rattle.script_rules.specs.Fault.{whole_within}
+use Rattle.edit_rules.specs.ScriptFault.{whole_within}
 use Rattle.integer_laws.specs.declared.which.Which.{Which}
 use Rattle.integer_laws.specs.declared.which.Which.TheVariants as whiches
 use Rattle.flow_rules.specs.declared.place.Column.{Column}

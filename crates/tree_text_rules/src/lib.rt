@@ -7,7 +7,20 @@
 //! line, and other definitions do the same for parts of a text. `read_headed_text` reads a text in
 //! which the lines of a head may come before the first node; it is not used yet. `proofs/` reads
 //! and spells small texts by computation.
+//!
+//! What the parts of a branch tree are.
+//!
+//! A part is a tree for the node of an open leaf, which is put in the leaf's place. The definitions
+//! are in `specs/`, over those of `tree_rules`. `OpenLeaves` has the open leaves of a tree in
+//! preorder, `Graft` the tree and the claim when a part is put back, and `Part` what a run from a
+//! node found. `Merge` and `Several` say what is answered if one part, or several, are put back.
+//! Over `tree_text_rules`, `Spelling` has the one text PNS_part_v1 of a part, and `Read` what a
+//! text stands for. Their laws are those of `part_laws`.
 #![tactic(auto)]
+
+mod merge_fault;
+
+pub use merge_fault::MergeFault;
 
 /// A fault of a tree's text. The variants are in the order of their numbers, 1 to 9. The least line
 /// that has a fault is reported, and of its faults the one with the least number. But `MoreNodes`

@@ -1,3 +1,4 @@
 pub mod HeadedLemmas
 pub mod LowLemmas
 pub mod LowerLemmas
+pub mod PlainLemmas

@@ -26,8 +26,8 @@ use Rattle.tree_rules.specs.Leaf.{Scaled, LeafPasses, IsLow, multiplier}
 use Rattle.tree_rules.specs.Accepted.{Tree, first_node, IsPartial}
 use Rattle.tree_rules.specs.Lower.{Low, both_low, bound_over, end_low, open_low, least}
 use Rattle.tree_rules.specs.Lower.{lower_bound}
-use Rattle.part_rules.specs.OpenLeaves.{OpenAt, open_here, open_leaves}
-use Rattle.cert_parts.specs.Known.{KnowsInside}
+use Rattle.tree_text_rules.specs.OpenLeaves.{OpenAt, open_here, open_leaves}
+use Rattle.cert_check.specs.Known.{KnowsInside}
 use Rattle.cert_check.specs.declared.open_leaf.OpenLeaf.{OpenLeaf}
 use Rattle.cert_check.specs.OpenLeaves.{leaf_at, leaves_at}
 use Rattle.cert_check.specs.Subtrees.{AllKnown}

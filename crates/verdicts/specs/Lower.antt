@@ -8,8 +8,8 @@ use Rattle.tree_rules.specs.Tree.{End, TreeNode, leaf}
 use Rattle.tree_rules.specs.Leaf.{Leaf, untried, IsLow}
 use Rattle.tree_rules.specs.Accepted.{Tree}
 use Rattle.tree_rules.specs.Lower.{Low, both_low, leaf_low}
-use Rattle.cert_parts.specs.Known.{KnowsInside}
-use Rattle.part_rules.specs.OpenLeaves.{OpenAt}
+use Rattle.cert_check.specs.Known.{KnowsInside}
+use Rattle.tree_text_rules.specs.OpenLeaves.{OpenAt}
 use Rattle.report_rules.specs.declared.lower_bound.LowerBound.{LowerBound}
 use Rattle.report_rules.specs.Verdict.{cost_of}
 

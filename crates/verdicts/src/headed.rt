@@ -8,7 +8,7 @@ ghost use Rattle.verdicts.specs.Unjudged.{IsUnjudgedIf};
 use crate::verdict::Unjudged;
 use branch_tree::{Claim, Tree};
 use cert_check::check_headed;
-use head_lines::Head;
+use branch_tree::Head;
 use head_rules::Refusal;
 use pgraph::Site;
 use report_rules::HeadedVerdict;

@@ -3,7 +3,7 @@ ghost use Rattle.std.specs.Prelude.{◌≡◌, ◌<◌, ◌^◌, ◌∷◌, [], 
 ghost use Rattle.pns_rules.specs.Shape.{shape_of};
 ghost use Rattle.branch_tree.specs.View.{claim_of};
 ghost use Rattle.tree_rules.specs.Accepted.{first_node, IsPartial};
-ghost use Rattle.part_rules.specs.OpenLeaves.{open_leaves};
+ghost use Rattle.tree_text_rules.specs.OpenLeaves.{open_leaves};
 ghost use Rattle.cert_check.specs.OpenLeaves.{leaves_at};
 ghost use Rattle.cert_check.specs.Refusals.{IsOkOrMemory};
 ghost use Rattle.report_rules.specs.RankLow.{IsLowerBound, AllCostEnough};

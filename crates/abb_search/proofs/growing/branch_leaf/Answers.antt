@@ -18,7 +18,7 @@ use Rattle.abb_search.proofs.HandLemmas.{as_many_children, freed_from}
 use Rattle.abb_search.proofs.GrowingLemmas.{count_seen, stops_within, room_within, branching}
 use Rattle.abb_search.proofs.GrowingLemmas.{solved_behind}
 use Rattle.node_evaluation.proofs.ChoiceLemmas.{option_count_is, width_is}
-use Rattle.branch_choice.specs.Choices.{way_of}
+use Rattle.node_evaluation.specs.Choices.{way_of}
 use Rattle.tree_rules.specs.Ways.{width}
 use Rattle.pns_rules.specs.Shape.{shape_of}
 use Rattle.abb_search.proofs.growing.branch_leaf.Goals as goal

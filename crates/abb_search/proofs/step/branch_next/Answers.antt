@@ -3,8 +3,8 @@ use Rattle.pns_rules.specs.Shape.{shape_of}
 use Rattle.pns_rules.specs.Ends.{IsSound, IsReduced}
 use Rattle.pgraph.specs.View.{node_of}
 use Rattle.unit_sets.specs.declared.node.Node.{Node}
-use Rattle.branch_choice.specs.declared.choice.Choice.{Choice}
-use Rattle.branch_choice.specs.Choices.{IsChoice, way_of, option_count}
+use Rattle.node_evaluation.specs.declared.choice.Choice.{Choice}
+use Rattle.node_evaluation.specs.Choices.{IsChoice, way_of, option_count}
 use Rattle.search_tree.specs.Cells.{cell_at}
 use Rattle.node_evaluation.proofs.ChoiceLemmas.{option_count_is}
 use Rattle.abb_search.specs.Growing.{IsBranching}

@@ -10,7 +10,7 @@ use Rattle.tree_rules.specs.Leaf.{LeafPasses, LeafFails}
 use Rattle.tree_rules.specs.Accepted.{Tree, Proves}
 use Rattle.tree_rules.specs.Refusals.{Refuses}
 use Rattle.branch_tree.specs.View.{claim_of}
-use Rattle.cert_parts.specs.Shown.{cost_over}
+use Rattle.cert_check.specs.Shown.{cost_over}
 use Rattle.cert_check.specs.Refusals.{NamesFault}
 use Rattle.cert_check.proofs.OwnLemmas.{own_passes, own_fails}
 use Rattle.cert_check.proofs.RefusalLemmas.{walk_proves, walk_refuses, accepts, names_node}

@@ -7,7 +7,7 @@ use Rattle.charge_rules.specs.Facts.{own_facts}
 use Rattle.charges.specs.Known.{facts_of}
 use Rattle.tree_rules.specs.Tree.{Pass}
 use Rattle.tree_rules.specs.Accepted.{Tree}
-use Rattle.cert_parts.specs.Shown.{cost_over}
+use Rattle.cert_check.specs.Shown.{cost_over}
 use Rattle.cert_check.specs.Bare.{bare, BarePasses, BareFails}
 use Rattle.cert_check.specs.Refusals.{NamesFault}
 use Rattle.cert_check.proofs.OwnLemmas.{own_passes, own_stops}

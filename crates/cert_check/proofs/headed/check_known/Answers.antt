@@ -6,7 +6,7 @@ use Rattle.tree_rules.specs.Tree.{Pass}
 use Rattle.tree_rules.specs.Accepted.{Tree}
 use Rattle.head_rules.specs.declared.refusal.Refusal.{Refusal}
 use Rattle.head_rules.specs.Headed.{LeafPassesBy, LeafFailsBy}
-use Rattle.cert_parts.specs.Shown.{cost_over}
+use Rattle.cert_check.specs.Shown.{cost_over}
 use Rattle.cert_check.specs.Refusals.{NamesFault}
 use Rattle.cert_check.specs.Headed.{NamesFaultBy}
 use Rattle.cert_check.proofs.HeadedLemmas.{names_by}

@@ -5,10 +5,10 @@ use Rattle.pgraph.specs.View.{node_of}
 use Rattle.charge_rules.specs.Cover.{Cover}
 use Rattle.charge_rules.specs.Leaf.{Handed, ChargePasses, ChargeFails}
 use Rattle.charges.specs.Known.{facts_of}
-use Rattle.covers.specs.Kept.{AreKept}
+use Rattle.pgraph.specs.Kept.{AreKept}
 use Rattle.tree_rules.specs.Claim.{IsAtLeast}
 use Rattle.tree_rules.specs.Leaf.{IsClaimed}
-use Rattle.cert_parts.specs.Shown.{cost_over}
+use Rattle.cert_check.specs.Shown.{cost_over}
 use Rattle.cert_check.proofs.LeafLemmas.{handed_is}
 use Rattle.cert_check.proofs.leaf.judge_charged.Goals as goal
 

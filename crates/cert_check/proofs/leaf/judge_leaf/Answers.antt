@@ -11,7 +11,7 @@ use Rattle.tree_rules.specs.Leaf.{LeafFails}
 use Rattle.branch_tree.specs.View.{end_of}
 use Rattle.charges.specs.Known.{facts_of}
 use Rattle.head_rules.specs.Headed.{LeafPassesBy, LeafFailsBy}
-use Rattle.cert_parts.specs.Shown.{cost_over}
+use Rattle.cert_check.specs.Shown.{cost_over}
 use Rattle.cert_check.proofs.LeafLemmas.{passes_at, fails_at}
 use Rattle.cert_check.proofs.leaf.judge_leaf.Goals as goal
 

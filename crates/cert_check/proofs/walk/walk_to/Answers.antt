@@ -2,7 +2,7 @@ use Rattle.std.proofs.Common.{◌∷◌, ◌++◌, [], ℕ, List, ap, ap₂, ◌
 use Rattle.pns_rules.specs.Nodes as nodes
 use Rattle.tree_rules.specs.Tree.{End, TreeNode}
 use Rattle.tree_rules.specs.Leaf.{Leaf}
-use Rattle.part_rules.specs.OpenLeaves.{open_here}
+use Rattle.tree_text_rules.specs.OpenLeaves.{open_here}
 use Rattle.pns_rules.specs.Shape.{shape_of}
 use Rattle.pgraph.specs.View.{node_of}
 use Rattle.cert_check.specs.declared.walk.Stop.{Stop}

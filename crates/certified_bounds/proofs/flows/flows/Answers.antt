@@ -2,7 +2,7 @@ use Rattle.std.proofs.Common.{◌≡◌, Some, ◌*ℤ◌, refl, sym, ap}
 use Rattle.number_sets.specs.Sets.{has}
 use Rattle.pgraph.specs.View.{node_of}
 use Rattle.tree_rules.specs.Leaf.{IsBounded}
-use Rattle.mixed_numbers.specs.Number.{numerator, denominator}
+use Rattle.exact_numbers.specs.Number.{numerator, denominator}
 use Rattle.certified_bounds.specs.Certified.{cost_over, IsNetworkAt}
 use Rattle.certified_bounds.proofs.FractionLemmas.{no_more_of_same}
 use Rattle.certified_bounds.proofs.flows.flows.Goals as goal

@@ -3,7 +3,7 @@ use Rattle.std.specs.Int.{w128}
 use Rattle.std.proofs.lemmas.Int.{to_z-of_z}
 use Rattle.number_sets.specs.Sets.{has}
 use Rattle.integer_laws.specs.Range.{InRange}
-use Rattle.int_rows.proofs.RangeLemmas.{fits_from_range}
+use Rattle.exact_numbers.proofs.RangeLemmas.{fits_from_range}
 use Rattle.flow_rules.specs.Net.{net_of, beside}
 use Rattle.flow_rules.specs.Flows.{cost}
 use Rattle.flow_rules.specs.Steps.{AreInRange}

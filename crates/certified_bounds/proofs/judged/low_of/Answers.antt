@@ -1,10 +1,10 @@
 use Rattle.std.proofs.Common.{◌≡◌, length, arith, sym, ◌∙◌, subst, pos, ◌≤ℤ◌, rules, SFits}
 use Rattle.std.specs.Int.{w128}
 use Rattle.std.proofs.lemmas.Int.{ints, to_z-of_z}
-use Rattle.mixed_numbers.specs.Number.{numerator, denominator}
+use Rattle.exact_numbers.specs.Number.{numerator, denominator}
 use Rattle.integer_laws.specs.Range.{InRange}
 use Rattle.problem_rules.specs.Problem.{Problem}
-use Rattle.int_rows.proofs.RangeLemmas.{fits_from_range}
+use Rattle.exact_numbers.proofs.RangeLemmas.{fits_from_range}
 use Rattle.pgraph.specs.View.{node_of}
 use Rattle.flow_rules.specs.Net.{net_of}
 use Rattle.flow_rules.specs.Relaxed.{rows, bound}

@@ -3,7 +3,7 @@ use Rattle.std.specs.Ordering.{int_cmp}
 use Rattle.std.proofs.lemmas.Int.{to_z-of_z}
 use Rattle.pgraph.specs.View.{node_of}
 use Rattle.tree_rules.specs.Leaf.{IsBounded}
-use Rattle.mixed_numbers.specs.Number.{numerator, denominator}
+use Rattle.exact_numbers.specs.Number.{numerator, denominator}
 use Rattle.certified_bounds.specs.Certified.{cost_over}
 use Rattle.certified_bounds.proofs.FractionLemmas.{over_one, le_from}
 use Rattle.certified_bounds.proofs.BoundLemmas.{reaches_less}

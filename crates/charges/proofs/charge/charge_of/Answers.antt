@@ -16,7 +16,7 @@ use Rattle.flow_program.specs.Entry.{entry}
 use Rattle.flow_program.specs.NodeSets.{AreNeeded, AreSetsOf}
 use Rattle.flow_program.proofs.NodeSetLemmas.{listed_had}
 use Rattle.charges.specs.Known.{asked_of, facts_of}
-use Rattle.covers.specs.View.{covers_of}
+use Rattle.pgraph.specs.CoversView.{covers_of}
 use Rattle.charges.proofs.SumLemmas.{past_in_rows, past_in_worth, past_in_weights, past_in_paid}
 use Rattle.charges.proofs.SumLemmas.{past_in_units, all_fit, charge_is}
 use Rattle.charges.proofs.charge.charge_of.Goals as goal

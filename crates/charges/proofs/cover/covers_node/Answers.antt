@@ -3,7 +3,7 @@ use Rattle.number_sets.specs.Sets.{has}
 use Rattle.number_sets.proofs.SetLemmas.{has-union}
 use Rattle.pgraph.specs.Tables.{shape}
 use Rattle.pgraph.specs.View.{node_of}
-use Rattle.covers.specs.View.{cover_of}
+use Rattle.pgraph.specs.CoversView.{cover_of}
 use Rattle.charges.proofs.CoverLemmas.{covers_then, covers_none}
 use Rattle.charges.proofs.cover.covers_node.Goals as goal
 

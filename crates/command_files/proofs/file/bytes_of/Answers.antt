@@ -4,7 +4,7 @@ use Rattle.studio_rules.specs.Reading.{LongFile}
 use Rattle.studio_rules.specs.Ending.{Says}
 use Rattle.studio_rules.specs.declared.status.Status.{Status}
 use Rattle.studio_rules.specs.declared.status.Status.TheVariants.{ReadFault, Memory, TooLong}
-use Rattle.endings.proofs.Ending.{Ends-map, only_in, only_or_memory_in, one_line}
+use Rattle.command_files.proofs.Ending.{Ends-map, only_in, only_or_memory_in, one_line}
 use Rattle.command_files.proofs.Files.{long_file}
 use Rattle.command_files.proofs.file.bytes_of.Goals as goal
 

@@ -5,7 +5,7 @@ use Rattle.studio_rules.specs.Plan.{PlanFileFault, PlanFaults, plan_fault_line}
 use Rattle.studio_rules.specs.Ending.{Says}
 use Rattle.studio_rules.specs.declared.status.Status.{Status}
 use Rattle.studio_rules.specs.declared.status.Status.TheVariants.{BadPlan, Memory}
-use Rattle.endings.proofs.Ending.{Ends-map, Ends-from, only_in, only_or_memory_in, one_line}
+use Rattle.command_files.proofs.Ending.{Ends-map, Ends-from, only_in, only_or_memory_in, one_line}
 use Rattle.command_files.proofs.Seconds.{long-faults}
 use Rattle.command_files.proofs.plan_file.plan_of.Goals as goal
 

@@ -7,7 +7,7 @@ use Rattle.studio_rules.specs.HeadedFile.{HeadedFault, HeadedFaults}
 use Rattle.studio_rules.specs.Ending.{Says}
 use Rattle.studio_rules.specs.declared.status.Status.{Status}
 use Rattle.studio_rules.specs.declared.status.Status.TheVariants.{BadTree, Memory}
-use Rattle.endings.proofs.Ending.{Ends-map, Ends-from, only_in, only_or_memory_in, one_line}
+use Rattle.command_files.proofs.Ending.{Ends-map, Ends-from, only_in, only_or_memory_in, one_line}
 use Rattle.command_files.proofs.Seconds.{long-faults}
 use Rattle.command_files.proofs.tree_file.headed_of.Goals as goal
 

@@ -3,7 +3,7 @@ use Rattle.std.specs.Int.{w128}
 use Rattle.std.specs.Prelude.{int_div}
 use Rattle.std.specs.Option.{SomeIff}
 use Rattle.std.proofs.lemmas.Int.{to_z-of_z}
-use Rattle.int_rows.proofs.RangeLemmas.{fits_from_range}
+use Rattle.exact_numbers.proofs.RangeLemmas.{fits_from_range}
 use Rattle.integer_laws.specs.Lowest.{IsLowest}
 use Rattle.integer_laws.specs.Range.{InRange}
 use Rattle.dual_simplex.specs.Rows.{table, basis}

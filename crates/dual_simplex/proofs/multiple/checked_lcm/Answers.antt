@@ -4,7 +4,7 @@ use Rattle.std.specs.Option.{SomeIff}
 use Rattle.std.proofs.lemmas.Int.{to_z-of_z}
 use Rattle.integer_laws.specs.Lowest.{IsLowest}
 use Rattle.integer_laws.specs.Range.{InRange}
-use Rattle.int_rows.proofs.RangeLemmas.{fits_from_range}
+use Rattle.exact_numbers.proofs.RangeLemmas.{fits_from_range}
 use Rattle.dual_simplex.proofs.LcmLemmas.{lcm_found, found_positive, lcm_missed}
 use Rattle.dual_simplex.proofs.multiple.checked_lcm.Goals as goal
 

@@ -2,7 +2,7 @@ use Rattle.std.proofs.Common.{◌≡◌, drop}
 use Rattle.std.specs.List.{list_any}
 use Rattle.problem_rules.specs.Names.{is_among}
 use Rattle.text_lines.specs.Terms.{terms_view}
-use Rattle.script_rules.specs.Term.{materials_of}
+use Rattle.edit_rules.specs.Term.{materials_of}
 use Rattle.edit_scripts.proofs.sides.some_among.Given as goal
 
 abbrev pub invariant-looking : goal.invariant-looking

@@ -6,7 +6,7 @@ use Rattle.pns_rules.specs.Shape.{Shape}
 use Rattle.pgraph.specs.Tables.{shape}
 use Rattle.pgraph.specs.View.{node_of}
 use Rattle.charge_rules.specs.Cover.{IsCover, Covers}
-use Rattle.covers.specs.View.{cover_of}
+use Rattle.pgraph.specs.CoversView.{cover_of}
 use Rattle.flow_evaluator.proofs.ChargingLemmas.{small_beside, fit_is}
 use Rattle.flow_evaluator.proofs.charging.is_fit.Goals as goal
 

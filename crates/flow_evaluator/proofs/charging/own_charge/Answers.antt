@@ -10,7 +10,7 @@ use Rattle.charge_rules.specs.Facts.{Facts, own_facts}
 use Rattle.charge_rules.specs.Charge.{charge}
 use Rattle.charge_rules.specs.ChargeSteps.{charge_steps}
 use Rattle.charges.specs.Known.{facts_of}
-use Rattle.covers.specs.View.{covers_of}
+use Rattle.pgraph.specs.CoversView.{covers_of}
 use Rattle.flow_evaluator.proofs.ChargingLemmas.{small_all}
 use Rattle.flow_evaluator.proofs.charging.own_charge.Goals as goal
 

@@ -5,7 +5,7 @@ use Rattle.std.proofs.lemmas.Int.{ints, to_z-of_z}
 use Rattle.pgraph.specs.View.{node_of}
 use Rattle.flow_rules.specs.Net.{net_of}
 use Rattle.flow_rules.specs.Relaxed.{rows}
-use Rattle.covers.specs.View.{covers_of}
+use Rattle.pgraph.specs.CoversView.{covers_of}
 use Rattle.node_evaluation.specs.Evaluated.{cost_in}
 use Rattle.flow_evaluator.specs.Charging.{IsOwnCharge}
 use Rattle.flow_evaluator.proofs.ChargingLemmas.{few_covers, reaches_with}

@@ -4,7 +4,7 @@ use Rattle.std.proofs.lemmas.Int.{to_z-of_z}
 use Rattle.number_sets.specs.Sets.{has}
 use Rattle.integer_laws.specs.Range.{InRange}
 use Rattle.problem_rules.specs.Problem.{Problem}
-use Rattle.int_rows.proofs.RangeLemmas.{fits_from_range}
+use Rattle.exact_numbers.proofs.RangeLemmas.{fits_from_range}
 use Rattle.pgraph.specs.View.{node_of}
 use Rattle.flow_rules.specs.Net.{net_of, beside}
 use Rattle.flow_rules.specs.Flows.{cost}

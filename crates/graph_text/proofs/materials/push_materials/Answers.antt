@@ -1,6 +1,6 @@
 use Rattle.std.proofs.Common.{◌∙◌, ◌++◌, ap, ℕ, List, string_bytes, map, arith}
 use Rattle.number_sets.specs.Sets.{has}
-use Rattle.pns_tables.proofs.Walk.{next_within, rest_within}
+use Rattle.report_amounts.proofs.Walk.{next_within, rest_within}
 use Rattle.pns_problem.specs.Printing.{printed}
 use Rattle.report_rules.specs.Graph.{material_line}
 use Rattle.graph_text.specs.Kept.{picture_of}

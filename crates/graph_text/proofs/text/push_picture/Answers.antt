@@ -7,7 +7,7 @@ use Rattle.pns_problem.specs.Printing.{printed}
 use Rattle.pns_rules.specs.Shape.{Shape, shape_of}
 use Rattle.pns_rules.specs.Structure.{mats}
 use Rattle.flow_rules.specs.Net.{net_of, materials_of}
-use Rattle.pns_tables.proofs.FlowLemmas.{materials_are, mats_known}
+use Rattle.report_amounts.proofs.FlowLemmas.{materials_are, mats_known}
 use Rattle.problem_rules.specs.Problem.{Problem}
 use Rattle.report_rules.specs.Graph.{head_lines, total_lines, list_lines, material_line, unit_lines}
 use Rattle.report_rules.specs.Graph.{last_lines}

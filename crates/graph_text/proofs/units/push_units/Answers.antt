@@ -1,6 +1,6 @@
 use Rattle.std.proofs.Common.{◌++◌, string_bytes}
 use Rattle.number_sets.specs.Sets.{has}
-use Rattle.pns_tables.proofs.Walk.{next_within, rest_within}
+use Rattle.report_amounts.proofs.Walk.{next_within, rest_within}
 use Rattle.std.specs.Prelude.{flat_map}
 use Rattle.pns_problem.specs.Printing.{printed}
 use Rattle.report_rules.specs.Graph.{unit_lines}

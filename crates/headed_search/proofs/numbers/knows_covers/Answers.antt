@@ -1,9 +1,9 @@
 use Rattle.std.proofs.Common.{ℕ, List, drop, sym, subst, add-one}
 use Rattle.problem_rules.specs.Each.{Each}
 use Rattle.tree_rules.specs.Known.{KnowsCover}
-use Rattle.covers.specs.View.{cover_of, covers_of}
+use Rattle.pgraph.specs.CoversView.{cover_of, covers_of}
 use Rattle.charge_rules.specs.Cover.{Cover}
-use Rattle.cert_parts.proofs.NodeLemmas.{step_ahead, none_ahead}
+use Rattle.cert_check.proofs.NodeLemmas.{step_ahead, none_ahead}
 use Rattle.headed_search.proofs.numbers.knows_covers.Goals as goal
 
 pub covers-init : goal.covers-init

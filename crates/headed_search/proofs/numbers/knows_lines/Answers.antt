@@ -1,9 +1,9 @@
 use Rattle.std.proofs.Common.{ℕ, List, drop, sym, subst, add-one}
 use Rattle.problem_rules.specs.Each.{Each}
 use Rattle.head_rules.specs.Known.{KnowsLine}
-use Rattle.head_lines.specs.View.{line_of, lines_of}
+use Rattle.branch_tree.specs.HeadView.{line_of, lines_of}
 use Rattle.head_rules.specs.Head.{HeadLine}
-use Rattle.cert_parts.proofs.NodeLemmas.{step_ahead, none_ahead}
+use Rattle.cert_check.proofs.NodeLemmas.{step_ahead, none_ahead}
 use Rattle.headed_search.proofs.numbers.knows_lines.Goals as goal
 
 pub lines-init : goal.lines-init

@@ -6,8 +6,8 @@ use Rattle.report_rules.specs.declared.amount.UnitAmount.TheVariants.{Investment
 use Rattle.report_rules.specs.Amounts.{size, amount}
 use Rattle.report_rules.specs.Marginal.{unit_marginal}
 use Rattle.report_rules.specs.Report.{unit_limit}
-use Rattle.json_rules.specs.Json.{object}
-use Rattle.json_rules.specs.Facts.{text_member, number_member, limit_member}
+use Rattle.report_rules.specs.Json.{object}
+use Rattle.report_rules.specs.Facts.{text_member, number_member, limit_member}
 use Rattle.json_text.proofs.units.unit_json.Goals as goal
 
 pub returns : goal.returns

@@ -7,7 +7,7 @@ use Rattle.studio_rules.specs.Lines.{line}
 use Rattle.studio_rules.specs.Ending.{Tells, Only, OrMemory}
 use Rattle.studio_rules.specs.declared.status.Status.{Status}
 use Rattle.studio_rules.specs.declared.status.Status.TheVariants.{BadClaim}
-use Rattle.endings.proofs.Ending.{Ends-map}
+use Rattle.command_files.proofs.Ending.{Ends-map}
 use Rattle.studio_rules.specs.Network.{IsRefusedFor, ClaimRefusal}
 use Rattle.network_commands.proofs.Refusals.{refused_for, refusal_told}
 use Rattle.network_commands.proofs.claim.network_of.Goals as goal

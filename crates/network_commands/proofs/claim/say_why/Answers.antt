@@ -4,7 +4,7 @@ use Rattle.studio_rules.specs.Lines.{line}
 use Rattle.studio_rules.specs.Ending.{Only, OrMemory}
 use Rattle.studio_rules.specs.declared.status.Status.{Status}
 use Rattle.studio_rules.specs.declared.status.Status.TheVariants.{BadClaim}
-use Rattle.endings.proofs.Ending.{Ends-map}
+use Rattle.command_files.proofs.Ending.{Ends-map}
 use Rattle.network_commands.proofs.claim.say_why.Goals as goal
 
 pub returns : goal.returns

@@ -3,7 +3,7 @@ use Rattle.studio_rules.specs.Graph.{PlantGraphWork}
 use Rattle.studio_rules.specs.Reading.{FileSays}
 use Rattle.studio_rules.specs.Ending.{Tells}
 use Rattle.studio_rules.specs.declared.status.Status.{Status}
-use Rattle.endings.proofs.Ending.{Ends-map, Ends-from}
+use Rattle.command_files.proofs.Ending.{Ends-map, Ends-from}
 use Rattle.command_files.proofs.Files.{on_file-faults, on_file-work}
 use Rattle.network_commands.proofs.graph.plant_graph.Goals as goal
 

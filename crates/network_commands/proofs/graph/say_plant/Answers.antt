@@ -5,7 +5,7 @@ use Rattle.studio_rules.specs.Graph.{AreGraphLines, PlantGraphWork}
 use Rattle.studio_rules.specs.Ending.{Tells}
 use Rattle.studio_rules.specs.declared.status.Status.{Status}
 use Rattle.studio_rules.specs.declared.status.Status.TheVariants.{Done, Memory}
-use Rattle.endings.proofs.Ending.{Ends-map, only_in}
+use Rattle.command_files.proofs.Ending.{Ends-map, only_in}
 use Rattle.network_commands.proofs.graph.say_plant.Goals as goal
 
 pub returns-in_default : goal.returns-in_default

@@ -5,7 +5,7 @@ use Rattle.studio_rules.specs.Network.{OnNetwork, ClaimRefusal}
 use Rattle.network_commands.specs.Texts.{TextWork}
 use Rattle.studio_rules.specs.Ending.{Ends, Tells}
 use Rattle.studio_rules.specs.declared.status.Status.{Status}
-use Rattle.endings.proofs.Ending.{Ends-map, Ends-from, Tells-map}
+use Rattle.command_files.proofs.Ending.{Ends-map, Ends-from, Tells-map}
 use Rattle.network_commands.proofs.network.say_claimed.Goals as goal
 
 pub returns-in-Ok-network_of : goal.returns-in-Ok-network_of

@@ -4,7 +4,7 @@ use Rattle.network_commands.specs.Texts.{TextWork}
 use Rattle.studio_rules.specs.Ending.{Tells}
 use Rattle.studio_rules.specs.declared.status.Status.{Status}
 use Rattle.studio_rules.specs.declared.status.Status.TheVariants.{Done, Memory}
-use Rattle.endings.proofs.Ending.{Ends-map, only_in}
+use Rattle.command_files.proofs.Ending.{Ends-map, only_in}
 use Rattle.network_commands.proofs.network.say_network.Goals as goal
 
 pub returns-in-Ok : goal.returns-in-Ok

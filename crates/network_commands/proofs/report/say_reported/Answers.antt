@@ -9,7 +9,7 @@ use Rattle.studio_rules.specs.Report.{ReportWork}
 use Rattle.studio_rules.specs.Ending.{Tells}
 use Rattle.studio_rules.specs.declared.status.Status.{Status}
 use Rattle.studio_rules.specs.declared.status.Status.TheVariants.{Done, BadClaim, Memory}
-use Rattle.endings.proofs.Ending.{Ends-map, only_in, only_or_memory_in, one_line}
+use Rattle.command_files.proofs.Ending.{Ends-map, only_in, only_or_memory_in, one_line}
 use Rattle.network_commands.proofs.report.say_reported.Goals as goal
 
 pub returns-in-Ok : goal.returns-in-Ok

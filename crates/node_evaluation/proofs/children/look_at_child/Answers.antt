@@ -5,7 +5,7 @@ use Rattle.pns_rules.specs.Ends.{IsSound}
 use Rattle.pns_rules.proofs.ProperLemmas.{proper_if_valid}
 use Rattle.pgraph.specs.View.{node_of}
 use Rattle.tree_rules.specs.Ways.{child_at}
-use Rattle.branch_choice.specs.Choices.{way_of}
+use Rattle.node_evaluation.specs.Choices.{way_of}
 use Rattle.node_evaluation.specs.Children.{IsChild, IsKnown}
 use Rattle.node_evaluation.proofs.ChoiceLemmas.{may_branch, decides}
 use Rattle.node_evaluation.proofs.ChildLemmas.{sound_child}

@@ -5,7 +5,7 @@ use Rattle.pns_rules.specs.Shape.{Shape, shape_of}
 use Rattle.neutral_extension.specs.Candidates.{AreMakersOf}
 use Rattle.pgraph.specs.View.{node_of}
 use Rattle.tree_rules.specs.Ways.{options_at}
-use Rattle.branch_choice.specs.Choices.{way_of}
+use Rattle.node_evaluation.specs.Choices.{way_of}
 use Rattle.search_tree.specs.Cells.{Cell}
 use Rattle.search_tree.specs.declared.growth.Fresh.{Fresh}
 use Rattle.node_evaluation.specs.Children.{IsKnown, cells_of, options_in}

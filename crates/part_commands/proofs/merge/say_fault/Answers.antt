@@ -1,11 +1,11 @@
 use Rattle.std.proofs.Common.{◌≡◌, ◌∷◌, [], refl, subst, sym, inl, ℕ, List, codes}
-use Rattle.part_rules.specs.declared.merge_fault.MergeFault.{MergeFault}
+use Rattle.tree_text_rules.specs.declared.merge_fault.MergeFault.{MergeFault}
 use Rattle.studio_rules.specs.Merge.{TreeRefused, PartRefused, FaultSays, no_leaf_line}
 use Rattle.studio_rules.specs.Lines.{line}
 use Rattle.studio_rules.specs.Ending.{Tells}
 use Rattle.studio_rules.specs.declared.status.Status.{Status}
 use Rattle.studio_rules.specs.declared.status.Status.TheVariants.{NoLeaf, Memory}
-use Rattle.endings.proofs.Ending.{Ends-map, Tells-map, only_in, only_or_memory_in, one_line}
+use Rattle.command_files.proofs.Ending.{Ends-map, Tells-map, only_in, only_or_memory_in, one_line}
 use Rattle.part_commands.proofs.merge.say_fault.Goals as goal
 
 pub returns-in-Tree : goal.returns-in-Tree

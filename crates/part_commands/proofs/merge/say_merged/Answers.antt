@@ -4,7 +4,7 @@ use Rattle.branch_tree.specs.View.{claim_of}
 use Rattle.studio_rules.specs.Merge.{MergeSays}
 use Rattle.studio_rules.specs.Ending.{Ends, Tells}
 use Rattle.studio_rules.specs.declared.status.Status.TheVariants.{Memory}
-use Rattle.endings.proofs.Ending.{Ends-map, Tells-memory, only_in}
+use Rattle.command_files.proofs.Ending.{Ends-map, Tells-memory, only_in}
 use Rattle.part_commands.proofs.merge.say_merged.Goals as goal
 
 pub returns-in_default : goal.returns-in_default

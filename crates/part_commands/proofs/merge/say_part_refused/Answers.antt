@@ -4,7 +4,7 @@ use Rattle.studio_rules.specs.Lines.{line}
 use Rattle.studio_rules.specs.Ending.{Tells}
 use Rattle.studio_rules.specs.declared.status.Status.{Status}
 use Rattle.studio_rules.specs.declared.status.Status.TheVariants.{BadClaim, NoLeaf, Memory}
-use Rattle.endings.proofs.Ending.{Ends-map, only_in, only_or_memory_in, one_line}
+use Rattle.command_files.proofs.Ending.{Ends-map, only_in, only_or_memory_in, one_line}
 use Rattle.part_commands.proofs.merge.say_part_refused.Goals as goal
 
 pub returns-in-Claim : goal.returns-in-Claim

@@ -3,15 +3,15 @@ use Rattle.std.proofs.Common.{length}
 use Rattle.std.specs.List.{Contains}
 use Rattle.std.proofs.lemmas.List.{length-map}
 use Rattle.problem_rules.specs.Each.{Each}
-use Rattle.part_rules.specs.Part.{Part}
+use Rattle.tree_text_rules.specs.Part.{Part}
 use Rattle.branch_tree.specs.View.{claim_of}
-use Rattle.part_rules.specs.Spelling.{KnowsPart}
+use Rattle.tree_text_rules.specs.PartSpelling.{KnowsPart}
 use Rattle.studio_rules.specs.Merge.{MergeSays, MergeWork}
 use Rattle.studio_rules.specs.PartFile.{FirstFault, GiveParts}
 use Rattle.part_commands.proofs.PartFiles.{as_many}
 use Rattle.studio_rules.specs.Ending.{Says}
 use Rattle.studio_rules.specs.declared.status.Status.{Status}
-use Rattle.endings.proofs.Ending.{Ends-map, Ends-from, Says-map, Says-told}
+use Rattle.command_files.proofs.Ending.{Ends-map, Ends-from, Says-map, Says-told}
 use Rattle.part_commands.proofs.merge.say_parts.Goals as goal
 
 pub returns-in-Ok-clause-ends : goal.returns-in-Ok-clause-ends

@@ -14,7 +14,7 @@ use Rattle.studio_rules.specs.Printed.{OneAnswer}
 use Rattle.studio_rules.specs.Ending.{Ends, Tells}
 use Rattle.studio_rules.specs.declared.status.Status.{Status}
 use Rattle.studio_rules.specs.declared.status.Status.TheVariants.{Done, Memory}
-use Rattle.endings.proofs.Ending.{Ends-map, Tells-map, Tells-memory, only_in}
+use Rattle.command_files.proofs.Ending.{Ends-map, Tells-map, Tells-memory, only_in}
 use Rattle.part_commands.proofs.merge.say_put_back.Goals as goal
 
 pub merge_all-requires : goal.merge_all-requires

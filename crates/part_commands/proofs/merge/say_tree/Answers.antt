@@ -6,8 +6,8 @@ use Rattle.studio_rules.specs.Merge.{MergeWork}
 use Rattle.part_commands.proofs.PartFiles.{tree_told}
 use Rattle.studio_rules.specs.Ending.{Says}
 use Rattle.studio_rules.specs.declared.status.Status.{Status}
-use Rattle.endings.proofs.Ending.{Ends-map, Ends-from, Says-map}
-use Rattle.endings.proofs.Keeping.{keeps_through}
+use Rattle.command_files.proofs.Ending.{Ends-map, Ends-from, Says-map}
+use Rattle.command_files.proofs.Keeping.{keeps_through}
 use Rattle.part_commands.proofs.merge.say_tree.Goals as goal
 
 pub returns-in-Ok-clause-ends : goal.returns-in-Ok-clause-ends

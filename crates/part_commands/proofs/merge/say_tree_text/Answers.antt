@@ -5,7 +5,7 @@ use Rattle.tree_text_rules.specs.Spelling.{tree_text_lines}
 use Rattle.studio_rules.specs.Printed.{OneAnswer}
 use Rattle.studio_rules.specs.Ending.{Tells}
 use Rattle.studio_rules.specs.declared.status.Status.TheVariants.{Done}
-use Rattle.endings.proofs.Ending.{Ends-from}
+use Rattle.command_files.proofs.Ending.{Ends-from}
 use Rattle.part_commands.proofs.merge.say_tree_text.Goals as goal
 
 pub returns : goal.returns

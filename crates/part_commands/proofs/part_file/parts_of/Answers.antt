@@ -5,16 +5,16 @@ use Rattle.std.proofs.lemmas.List.{length-map, get_or-map}
 use Rattle.text_rules.specs.Outside.{Told}
 use Rattle.problem_rules.specs.Each.{Each}
 use Rattle.text_laws.proofs.Each.{each-append}
-use Rattle.part_rules.specs.Part.{Part}
-use Rattle.part_rules.specs.Spelling.{KnowsPart}
+use Rattle.tree_text_rules.specs.Part.{Part}
+use Rattle.tree_text_rules.specs.PartSpelling.{KnowsPart}
 use Rattle.studio_rules.specs.Reading.{AreHeld}
 use Rattle.studio_rules.specs.PartFile.{FirstFault, GivesPart}
 use Rattle.part_commands.proofs.PartFiles.{GiveBefore, one_given, fault_told}
 use Rattle.studio_rules.specs.Ending.{Says}
 use Rattle.studio_rules.specs.declared.status.Status.{Status}
 use Rattle.studio_rules.specs.declared.status.Status.TheVariants.{Memory}
-use Rattle.endings.proofs.Ending.{Ends-from, only_in}
-use Rattle.endings.proofs.Keeping.{keeps_through}
+use Rattle.command_files.proofs.Ending.{Ends-from, only_in}
+use Rattle.command_files.proofs.Keeping.{keeps_through}
 use Rattle.part_commands.proofs.part_file.parts_of.Goals as goal
 
 pub returns-in_default-clause-told : goal.returns-in_default-clause-told

@@ -1,6 +1,6 @@
 use Rattle.std.proofs.Common.{◌≡◌, map, string_bytes}
 use Rattle.problem_rules.specs.Each.{Each}
-use Rattle.part_rules.specs.Spelling.{KnowsPart}
+use Rattle.tree_text_rules.specs.PartSpelling.{KnowsPart}
 use Rattle.studio_rules.specs.Keeps.{Keeps}
 use Rattle.part_commands.proofs.PartFiles.{GiveBefore}
 use Rattle.part_commands.proofs.part_file.parts_of.Given as goal

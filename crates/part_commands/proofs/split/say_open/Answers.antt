@@ -4,7 +4,7 @@ use Rattle.branch_tree.specs.View.{claim_of}
 use Rattle.tree_rules.specs.Claim.{ClaimPasses, ClaimFails}
 use Rattle.tree_rules.specs.Accepted.{first_node, NodeIsFault}
 use Rattle.pns_rules.specs.Shape.{shape_of}
-use Rattle.part_rules.specs.OpenLeaves.{open_leaves}
+use Rattle.tree_text_rules.specs.OpenLeaves.{open_leaves}
 use Rattle.cert_check.specs.declared.open_leaf.OpenLeaf.{OpenLeaf}
 use Rattle.cert_check.specs.OpenLeaves.{leaves_at}
 use Rattle.studio_rules.specs.Lines.{line}
@@ -13,7 +13,7 @@ use Rattle.studio_rules.specs.RefusalWords.{claim_line, node_line}
 use Rattle.studio_rules.specs.Ending.{Tells}
 use Rattle.studio_rules.specs.declared.status.Status.{Status}
 use Rattle.studio_rules.specs.declared.status.Status.TheVariants.{BadClaim, Memory}
-use Rattle.endings.proofs.Ending.{Ends-map, Tells-map, only_in, only_or_memory_in, one_line}
+use Rattle.command_files.proofs.Ending.{Ends-map, Tells-map, only_in, only_or_memory_in, one_line}
 use Rattle.part_commands.proofs.split.say_open.Goals as goal
 
 pub returns-in-Err-Claim : goal.returns-in-Err-Claim

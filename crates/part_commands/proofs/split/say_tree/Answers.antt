@@ -4,7 +4,7 @@ use Rattle.studio_rules.specs.TreeFile.{OnTree, TreeFault, TreeSays}
 use Rattle.studio_rules.specs.Split.{SplitWork}
 use Rattle.studio_rules.specs.Ending.{Says}
 use Rattle.studio_rules.specs.declared.status.Status.{Status}
-use Rattle.endings.proofs.Ending.{Ends-map, Ends-from, Says-told}
+use Rattle.command_files.proofs.Ending.{Ends-map, Ends-from, Says-told}
 use Rattle.command_files.proofs.Seconds.{on_second-faults}
 use Rattle.part_commands.proofs.split.say_tree.Goals as goal
 

@@ -4,9 +4,9 @@ use Rattle.studio_rules.specs.TreeFile.{OnTree, TreeSays}
 use Rattle.studio_rules.specs.Split.{SplitWork}
 use Rattle.studio_rules.specs.Ending.{Says}
 use Rattle.studio_rules.specs.declared.status.Status.{Status}
-use Rattle.endings.proofs.Ending.{Ends-map, Ends-from}
+use Rattle.command_files.proofs.Ending.{Ends-map, Ends-from}
 use Rattle.command_files.proofs.Seconds.{on_both-faults, on_both-work}
-use Rattle.endings.proofs.Keeping.{keeps_through}
+use Rattle.command_files.proofs.Keeping.{keeps_through}
 use Rattle.part_commands.proofs.split.split.Goals as goal
 
 pub returns-in-Ok-clause-ends : goal.returns-in-Ok-clause-ends

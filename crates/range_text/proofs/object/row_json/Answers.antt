@@ -1,7 +1,7 @@
 use Rattle.std.proofs.Common.{◌≡◌, ◌∷◌, [], ◌∙◌, ap, ℕ, Bool, List, codes}
-use Rattle.json_rules.specs.Json.{member, truth, object}
-use Rattle.json_rules.specs.Facts.{text_member}
-use Rattle.range_rules.specs.Object.{kind_word, name_of, is_limit, is_finished}
+use Rattle.report_rules.specs.Json.{member, truth, object}
+use Rattle.report_rules.specs.Facts.{text_member}
+use Rattle.report_rules.specs.Object.{kind_word, name_of, is_limit, is_finished}
 use Rattle.range_text.proofs.object.row_json.Goals as goal
 
 pub returns : goal.returns

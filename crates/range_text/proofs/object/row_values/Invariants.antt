@@ -1,5 +1,5 @@
 use Rattle.std.proofs.Common.{◌≡◌, ◌++◌, drop, map}
-use Rattle.range_rules.specs.Object.{row_json}
+use Rattle.report_rules.specs.Object.{row_json}
 use Rattle.range_text.proofs.object.row_values.Given as goal
 
 -- the values so far and the rows that are left give the whole list

@@ -1,8 +1,8 @@
 use Rattle.std.proofs.Common.{◌≡◌, ◌++◌, ◌∷◌, [], ◌∙◌, ap, ℕ, List, codes}
 use Rattle.pns_problem.specs.Printing.{printed}
-use Rattle.json_rules.specs.Json.{quoted, with_comma, comma_lines}
-use Rattle.json_rules.specs.Facts.{text_member}
-use Rattle.json_pieces.proofs.Pieces.{two_blocks, three_blocks}
+use Rattle.report_rules.specs.Json.{quoted, with_comma, comma_lines}
+use Rattle.report_rules.specs.Facts.{text_member}
+use Rattle.json_text.proofs.Pieces.{two_blocks, three_blocks}
 use Rattle.range_text.proofs.object.table_json.Goals as goal
 
 pub returns : goal.returns

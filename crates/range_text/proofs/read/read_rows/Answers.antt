@@ -3,8 +3,8 @@ use Rattle.std.proofs.lemmas.Result.{err_from_is_err_and}
 use Rattle.tree_text_rules.specs.Read.{Fault}
 use Rattle.tree_reading.specs.Place.{lines_at}
 use Rattle.tree_reading.specs.View.{line_of}
-use Rattle.range_rules.specs.Table.{words_of, has_no_word, rows_taken}
-use Rattle.range_rules.specs.declared.row.Row.{Row}
+use Rattle.report_rules.specs.RangeTable.{words_of, has_no_word, rows_taken}
+use Rattle.report_rules.specs.declared.row.Row.{Row}
 use Rattle.range_text.proofs.Rows.{next_row, told_row, last_row, no_line}
 use Rattle.range_text.proofs.read.read_rows.Goals as goal
 

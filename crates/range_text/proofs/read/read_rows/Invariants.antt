@@ -1,6 +1,6 @@
 use Rattle.std.proofs.Common.{◌≡◌, [], ◌-◌, length}
 use Rattle.tree_reading.specs.Place.{IsCut, lines_at}
-use Rattle.range_rules.specs.Table.{rows_taken}
+use Rattle.report_rules.specs.RangeTable.{rows_taken}
 use Rattle.range_text.proofs.read.read_rows.Given as goal
 
 -- the rows so far and the lines that are left give all rows

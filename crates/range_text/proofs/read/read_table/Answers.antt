@@ -5,7 +5,7 @@ use Rattle.tree_text_rules.specs.Read.{Fault}
 use Rattle.tree_text_rules.specs.Line.{lines_of}
 use Rattle.tree_reading.specs.Place.{lines_at}
 use Rattle.tree_reading.specs.View.{line_of}
-use Rattle.range_rules.specs.declared.row.Row.{Row}
+use Rattle.report_rules.specs.declared.row.Row.{Row}
 use Rattle.range_text.proofs.Rows.{headed}
 use Rattle.range_text.proofs.read.read_table.Goals as goal
 

@@ -5,9 +5,9 @@ use Rattle.pns_rules.specs.Nodes.{Node}
 use Rattle.tree_rules.specs.Tree.{Pass}
 use Rattle.tree_rules.specs.Claim.{Network, CostOver}
 use Rattle.tree_rules.specs.Accepted.{Tree, first_node}
-use Rattle.part_rules.specs.OpenLeaves.{open_leaves}
+use Rattle.tree_text_rules.specs.OpenLeaves.{open_leaves}
 use Rattle.pgraph.specs.View.{node_of}
-use Rattle.cert_parts.specs.Shown.{cost_over}
+use Rattle.cert_check.specs.Shown.{cost_over}
 use Rattle.cert_check.specs.Bare.{BarePasses, BareFails}
 use Rattle.cert_check.specs.OpenLeaves.{leaves_at, AreBefore}
 use Rattle.cert_check.specs.Refusals.{NamesFault}

@@ -6,9 +6,9 @@ use Rattle.rank_rules.specs.declared.why.RankWhy.{RankWhy}
 use Rattle.rank_rules.specs.declared.why.RankWhy.TheVariants.{Plain}
 use Rattle.rank_rules.specs.Networks.{numbered}
 use Rattle.rank_rules.specs.Leaf.{LeafFails}
-use Rattle.ranked_tree.specs.declared.mark.Mark.{Mark}
-use Rattle.ranked_tree.specs.declared.mark.Mark.TheVariants.{Named}
-use Rattle.ranked_tree.specs.View.{mark_of, name_of}
+use Rattle.rank_check.specs.declared.mark.Mark.{Mark}
+use Rattle.rank_check.specs.declared.mark.Mark.TheVariants.{Named}
+use Rattle.rank_check.specs.View.{mark_of, name_of}
 use Rattle.rank_check.specs.Marks.{MarkFails, NamedFails}
 use Rattle.rank_check.proofs.LeafLemmas.{weaker}
 use Rattle.rank_check.proofs.TurnLemmas.{open_fails}

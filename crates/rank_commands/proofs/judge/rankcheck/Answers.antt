@@ -3,10 +3,10 @@ use Rattle.studio_rules.specs.Reading.{TwoFilesSay}
 use Rattle.studio_rules.specs.Rankcheck.{OnRank, RankcheckSays}
 use Rattle.studio_rules.specs.Ending.{Says}
 use Rattle.studio_rules.specs.declared.status.Status.{Status}
-use Rattle.endings.proofs.Ending.{Ends-map, Ends-from}
+use Rattle.command_files.proofs.Ending.{Ends-map, Ends-from}
 use Rattle.command_files.proofs.Seconds.{on_both-faults, on_both-work}
 use Rattle.rank_commands.proofs.Best.{done_ends}
-use Rattle.endings.proofs.Keeping.{keeps_through}
+use Rattle.command_files.proofs.Keeping.{keeps_through}
 use Rattle.rank_commands.proofs.judge.rankcheck.Goals as goal
 
 pub returns-in-Ok : goal.returns-in-Ok

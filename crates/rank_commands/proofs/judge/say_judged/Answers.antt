@@ -8,7 +8,7 @@ use Rattle.studio_rules.specs.Rankcheck.{RankcheckWork}
 use Rattle.studio_rules.specs.Ending.{Tells}
 use Rattle.studio_rules.specs.declared.status.Status.{Status}
 use Rattle.studio_rules.specs.declared.status.Status.TheVariants.{Done, Refused, Memory}
-use Rattle.endings.proofs.Ending.{Ends-map, only_in, only_or_memory_in, one_line}
+use Rattle.command_files.proofs.Ending.{Ends-map, only_in, only_or_memory_in, one_line}
 use Rattle.rank_commands.proofs.judge.say_judged.Goals as goal
 
 pub returns-in-Err-Network : goal.returns-in-Err-Network

@@ -4,7 +4,7 @@ use Rattle.studio_rules.specs.Lines.{line}
 use Rattle.studio_rules.specs.Ending.{Only, OrMemory}
 use Rattle.studio_rules.specs.declared.status.Status.{Status}
 use Rattle.studio_rules.specs.declared.status.Status.TheVariants.{Refused}
-use Rattle.endings.proofs.Ending.{Ends-map}
+use Rattle.command_files.proofs.Ending.{Ends-map}
 use Rattle.rank_commands.proofs.judge.say_network.Goals as goal
 
 pub returns-in-Ok : goal.returns-in-Ok

@@ -6,7 +6,7 @@ use Rattle.abb_search.specs.declared.rounds.Ending.{Ending}
 use Rattle.abb_search.specs.Rounds.{EndsWith}
 use Rattle.rank_search.specs.Found.{undercut_by}
 use Rattle.rank_rules.specs.Text.{Text}
-use Rattle.ranked_tree.specs.View.{mark_of}
+use Rattle.rank_check.specs.View.{mark_of}
 use Rattle.rank_search.specs.declared.outcome.Ranked.TheVariants as ranks
 use Rattle.rank_search.specs.Ranked.{IsRankedBy}
 use Rattle.rank_search.proofs.ToldLemmas.{spent_ranked, past_ranked}

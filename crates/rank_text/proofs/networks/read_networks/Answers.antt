@@ -4,7 +4,7 @@ use Rattle.std.proofs.lemmas.Result.{err_from_is_err_and}
 use Rattle.tree_rules.specs.Claim.{Network}
 use Rattle.tree_reading.specs.Place.{lines_at}
 use Rattle.tree_reading.specs.Taken.{taken}
-use Rattle.ranked_tree.specs.Known.{KnowsNetwork}
+use Rattle.rank_check.specs.Known.{KnowsNetwork}
 use Rattle.tree_reading.proofs.NodeByNode.{each_last}
 use Rattle.rank_text.proofs.Together.{network_on, network_bad, networks_whole}
 use Rattle.rank_text.proofs.networks.read_networks.Goals as goal

@@ -1,7 +1,7 @@
 use Rattle.std.proofs.Common.{◌∙◌, ap, arith, map, refl, List}
 use Rattle.std.proofs.lemmas.Result.{err_from_is_err_and}
 use Rattle.rank_rules.specs.Marked.{Mark, marks_behind}
-use Rattle.ranked_tree.specs.View.{mark_of}
+use Rattle.rank_check.specs.View.{mark_of}
 use Rattle.tree_rules.specs.Leaf.{Leaf}
 use Rattle.tree_rules.specs.Tree.{TreeNode}
 use Rattle.tree_text.proofs.Printed.{then_printed, then_failed, item_ahead}

@@ -1,7 +1,7 @@
 use Rattle.std.proofs.Common.{◌≤◌, drop, map}
 use Rattle.tree_rules.specs.Known.{KnowsTree}
 use Rattle.rank_rules.specs.Marked.{marked}
-use Rattle.ranked_tree.specs.View.{mark_of}
+use Rattle.rank_check.specs.View.{mark_of}
 use Rattle.tree_text.proofs.Printed.{ArePrinted}
 use Rattle.rank_rules.specs.Spelling.{tree_lines}
 use Rattle.rank_text.proofs.print.put_nodes.Given as goal

@@ -9,10 +9,10 @@ use Rattle.studio_rules.specs.TextFile.{OnEither, EitherSays}
 use Rattle.studio_rules.specs.Ending.{Ends, Says}
 use Rattle.studio_rules.specs.declared.status.Status.{Status}
 use Rattle.studio_rules.specs.declared.status.Status.TheVariants.{Memory}
-use Rattle.endings.proofs.Ending.{Ends-map, Ends-from, only_in}
+use Rattle.command_files.proofs.Ending.{Ends-map, Ends-from, only_in}
 use Rattle.command_files.proofs.Files.{has_type}
 use Rattle.command_files.proofs.Seconds.{on_texts-faults, on_texts-work}
-use Rattle.endings.proofs.Keeping.{keeps_through}
+use Rattle.command_files.proofs.Keeping.{keeps_through}
 use Rattle.report_commands.proofs.call.report.Goals as goal
 
 -- what is said of the second file, by the bytes of the first

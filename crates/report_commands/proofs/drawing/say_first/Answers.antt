@@ -10,7 +10,7 @@ use Rattle.studio_rules.specs.Lines.{line}
 use Rattle.studio_rules.specs.Ending.{Tells}
 use Rattle.studio_rules.specs.declared.status.Status.{Status}
 use Rattle.studio_rules.specs.declared.status.Status.TheVariants.{BadClaim}
-use Rattle.endings.proofs.Ending.{Ends-map, Ends-told, only_or_memory_in, one_line}
+use Rattle.command_files.proofs.Ending.{Ends-map, Ends-told, only_or_memory_in, one_line}
 use Rattle.report_commands.proofs.Works.{first_feasible, draws_first, none_of}
 use Rattle.report_commands.proofs.drawing.say_first.Goals as goal
 

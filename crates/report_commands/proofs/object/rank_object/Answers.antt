@@ -6,10 +6,10 @@ use Rattle.report_rules.specs.Marginal.{AreFirstMarginals}
 use Rattle.report_rules.specs.RankLow.{best_claim}
 use Rattle.report_rules.specs.RankVerdict.{low_of}
 use Rattle.report_tables.specs.First.{IsFirstFeasible}
-use Rattle.json_rules.specs.Json.{member}
-use Rattle.json_rules.specs.Facts.{text_member}
-use Rattle.json_rules.specs.Lower.{bound_json, gap_between}
-use Rattle.json_rules.specs.Ranked.{lines_behind}
+use Rattle.report_rules.specs.Json.{member}
+use Rattle.report_rules.specs.Facts.{text_member}
+use Rattle.report_rules.specs.JsonLower.{bound_json, gap_between}
+use Rattle.report_rules.specs.JsonRanked.{lines_behind}
 use Rattle.studio_rules.specs.Lines.{text_of}
 use Rattle.studio_rules.specs.RankJson.{rank_verdict_word, claim_word, rank_json_lines}
 use Rattle.report_commands.proofs.Works.{first_feasible}

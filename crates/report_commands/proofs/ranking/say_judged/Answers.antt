@@ -6,7 +6,7 @@ use Rattle.studio_rules.specs.RankWords.{network_line}
 use Rattle.studio_rules.specs.Ending.{Ends, Tells, Only, OrMemory}
 use Rattle.studio_rules.specs.declared.status.Status.{Status}
 use Rattle.studio_rules.specs.declared.status.Status.TheVariants.{BadClaim, Memory}
-use Rattle.endings.proofs.Ending.{Ends-map, Ends-told, only_in, only_or_memory_in, one_line}
+use Rattle.command_files.proofs.Ending.{Ends-map, Ends-told, only_in, only_or_memory_in, one_line}
 use Rattle.report_commands.specs.Works.{VerdictWork, RankLines}
 use Rattle.report_commands.proofs.Works.{done, refused}
 use Rattle.report_commands.proofs.ranking.say_judged.Goals as goal

@@ -6,7 +6,7 @@ use Rattle.studio_rules.specs.TextFile.{RankSays}
 use Rattle.studio_rules.specs.Ending.{Ends, Tells, Only, OrMemory}
 use Rattle.studio_rules.specs.declared.status.Status.{Status}
 use Rattle.studio_rules.specs.declared.status.Status.TheVariants.{BadTree, Memory}
-use Rattle.endings.proofs.Ending.{Ends-map, Tells-map, only_in, only_or_memory_in, one_line}
+use Rattle.command_files.proofs.Ending.{Ends-map, Tells-map, only_in, only_or_memory_in, one_line}
 use Rattle.report_commands.specs.Works.{RankWork}
 use Rattle.report_commands.proofs.ranking.say_ranking.Goals as goal
 

@@ -1,15 +1,15 @@
 use Rattle.std.proofs.Common.{◌≡◌, ◌∷◌, [], Ok, Err, refl, inl, subst, ℕ, List, codes}
 use Rattle.std.specs.Prelude.{IfOk}
-use Rattle.range_rules.specs.declared.row.Row.{Row}
-use Rattle.range_rules.specs.Object.{table_lines}
-use Rattle.range_rules.specs.Table.{read_table}
+use Rattle.report_rules.specs.declared.row.Row.{Row}
+use Rattle.report_rules.specs.Object.{table_lines}
+use Rattle.report_rules.specs.RangeTable.{read_table}
 use Rattle.studio_rules.specs.Lines.{line, text_of}
 use Rattle.studio_rules.specs.RangesJson.{TableSays}
 use Rattle.studio_rules.specs.TreeFile.{tree_fault_line}
 use Rattle.studio_rules.specs.Ending.{Ends, Tells, Only, OrMemory}
 use Rattle.studio_rules.specs.declared.status.Status.{Status}
 use Rattle.studio_rules.specs.declared.status.Status.TheVariants.{Done, BadTree, Memory}
-use Rattle.endings.proofs.Ending.{Ends-map, only_in, only_or_memory_in, one_line}
+use Rattle.command_files.proofs.Ending.{Ends-map, only_in, only_or_memory_in, one_line}
 use Rattle.report_commands.proofs.table.say_table.Goals as goal
 
 pub returns-in-Ok : goal.returns-in-Ok

@@ -4,7 +4,7 @@ use Rattle.studio_rules.specs.RankJson.{RankJsonWork}
 use Rattle.studio_rules.specs.RangesJson.{TableSays, AnySays}
 use Rattle.studio_rules.specs.TextFile.{EitherSays}
 use Rattle.studio_rules.specs.Ending.{Tells}
-use Rattle.endings.proofs.Ending.{Ends-map, Tells-map}
+use Rattle.command_files.proofs.Ending.{Ends-map, Tells-map}
 use Rattle.report_commands.proofs.Works.{of_table, of_other}
 use Rattle.report_commands.proofs.text.say_object.Goals as goal
 

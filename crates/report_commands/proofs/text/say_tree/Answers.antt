@@ -13,7 +13,7 @@ use Rattle.studio_rules.specs.Graph.{NetworkGraphWork}
 use Rattle.studio_rules.specs.Ending.{Ends, Tells, Only, OrMemory}
 use Rattle.studio_rules.specs.declared.status.Status.{Status}
 use Rattle.studio_rules.specs.declared.status.Status.TheVariants.{BadTree, Memory}
-use Rattle.endings.proofs.Ending.{Ends-map, Tells-map, only_in, only_or_memory_in, one_line}
+use Rattle.command_files.proofs.Ending.{Ends-map, Tells-map, only_in, only_or_memory_in, one_line}
 use Rattle.report_commands.specs.Works.{TreeWork}
 use Rattle.report_commands.proofs.Works.{as_report, as_json, as_graph}
 use Rattle.report_commands.proofs.text.say_tree.Goals as goal

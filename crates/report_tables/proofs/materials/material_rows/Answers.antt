@@ -4,7 +4,7 @@ use Rattle.problem_rules.specs.Problem.{Problem}
 use Rattle.flow_rules.specs.Net.{net_of, materials_of}
 use Rattle.tree_rules.specs.Claim.{IsFeasible}
 use Rattle.report_rules.specs.Report.{material_row}
-use Rattle.pns_tables.proofs.Walk.{all_within, next_within, rest_within}
+use Rattle.report_amounts.proofs.Walk.{all_within, next_within, rest_within}
 use Rattle.report_amounts.proofs.Known.{material_known}
 use Rattle.report_tables.proofs.Pieces.{next_row, last_row}
 use Rattle.report_tables.proofs.materials.material_rows.Goals as goal

@@ -11,7 +11,7 @@ use Rattle.flow_rules.specs.Net.{net_of, trillion}
 use Rattle.flow_rules.specs.Relaxed.{stays, units, rows, fixed_cost}
 use Rattle.flow_program.specs.Entry.{entry}
 use Rattle.flow_program.proofs.NodeSetLemmas.{set_listed}
-use Rattle.mixed_numbers.specs.Number.{numerator, denominator}
+use Rattle.exact_numbers.specs.Number.{numerator, denominator}
 use Rattle.scaled_flows.proofs.ProgramLemmas.{some_weaker, both_some, least_from}
 use Rattle.scaled_flows.proofs.optimum.least_value.Goals as goal
 

@@ -3,7 +3,7 @@ use Rattle.number_sets.specs.Sets.{has}
 use Rattle.studio_rules.specs.Lines.{text_of}
 use Rattle.studio_rules.specs.Ending.{Tells}
 use Rattle.studio_rules.specs.declared.status.Status.TheVariants.{Done}
-use Rattle.endings.proofs.Ending.{Ends-map, only_or_memory_in, Tells-memory}
+use Rattle.command_files.proofs.Ending.{Ends-map, only_or_memory_in, Tells-memory}
 use Rattle.studio_rules.specs.Summary.{CountsMaximal, SummarySays, summary_lines}
 use Rattle.searches.proofs.summary.say_summary.Goals as goal
 

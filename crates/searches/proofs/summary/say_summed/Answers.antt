@@ -5,7 +5,7 @@ use Rattle.tree_rules.specs.Accepted.{first_node}
 use Rattle.studio_rules.specs.Ending.{Tells}
 use Rattle.studio_rules.specs.declared.status.Status.{Status}
 use Rattle.studio_rules.specs.declared.status.Status.TheVariants.{Memory}
-use Rattle.endings.proofs.Ending.{Ends-map, Tells-map, Tells-memory, only_in}
+use Rattle.command_files.proofs.Ending.{Ends-map, Tells-map, Tells-memory, only_in}
 use Rattle.abb_search.specs.declared.outcome.Found.{Found}
 use Rattle.abb_search.specs.Found.{IsFound}
 use Rattle.tree_rules.specs.Proved.{IsProved}

@@ -4,7 +4,7 @@ use Rattle.studio_rules.specs.Summary.{SummaryWork}
 use Rattle.studio_rules.specs.Trial.{TrialWork}
 use Rattle.studio_rules.specs.Ending.{Tells}
 use Rattle.studio_rules.specs.declared.status.Status.TheVariants.{Memory}
-use Rattle.endings.proofs.Ending.{Ends-map, Tells-map, Tells-memory, only_in}
+use Rattle.command_files.proofs.Ending.{Ends-map, Tells-map, Tells-memory, only_in}
 use Rattle.searches.proofs.trial.trial.Goals as goal
 
 pub returns-in-Ok : goal.returns-in-Ok

@@ -11,7 +11,7 @@ use Rattle.studio_rules.specs.Printed.{OneAnswer}
 use Rattle.studio_rules.specs.Ending.{Ends, Tells}
 use Rattle.studio_rules.specs.declared.status.Status.{Status}
 use Rattle.studio_rules.specs.declared.status.Status.TheVariants.{Done, NotBest, Memory}
-use Rattle.endings.proofs.Ending.{Ends-map, Tells-map, only_in}
+use Rattle.command_files.proofs.Ending.{Ends-map, Tells-map, only_in}
 use Rattle.stability_commands.proofs.RangeRows.{ranges_not_best}
 use Rattle.stability_commands.proofs.ranges.say_table.Goals as goal
 

@@ -6,7 +6,7 @@ use Rattle.studio_rules.specs.Network.{OnNetwork}
 use Rattle.studio_rules.specs.StableTable.{RangesWork}
 use Rattle.studio_rules.specs.Ending.{Says}
 use Rattle.studio_rules.specs.declared.status.Status.{Status}
-use Rattle.endings.proofs.Ending.{Ends-map, Ends-from, Says-told}
+use Rattle.command_files.proofs.Ending.{Ends-map, Ends-from, Says-told}
 use Rattle.command_files.proofs.Seconds.{on_second-faults}
 use Rattle.stability_commands.proofs.ranges.say_tree.Goals as goal
 

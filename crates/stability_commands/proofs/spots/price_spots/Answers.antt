@@ -1,7 +1,7 @@
 use Rattle.std.proofs.Common.{◌≡◌, ◌∙◌, ◌++◌, map}
 use Rattle.number_sets.specs.Sets.{has}
 use Rattle.flow_rules.specs.Net.{net_of, materials_of}
-use Rattle.stability_rules.specs.declared.spot.Spot.TheVariants.{Price}
+use Rattle.report_rules.specs.declared.spot.Spot.TheVariants.{Price}
 use Rattle.report_tables.proofs.Pieces.{next_row, last_row}
 use Rattle.stability_commands.proofs.spots.price_spots.Goals as goal
 

@@ -5,7 +5,7 @@ use Rattle.studio_rules.specs.Network.{OnNetwork, ClaimRefusal, ClaimsNetwork}
 use Rattle.studio_rules.specs.Stable.{SpotWork}
 use Rattle.studio_rules.specs.Ending.{Ends, Tells}
 use Rattle.studio_rules.specs.declared.status.Status.{Status}
-use Rattle.endings.proofs.Ending.{Ends-map, Ends-from, Tells-map}
+use Rattle.command_files.proofs.Ending.{Ends-map, Ends-from, Tells-map}
 use Rattle.stability_commands.proofs.stable.say_claimed.Goals as goal
 
 pub returns-in-Ok-network_of : goal.returns-in-Ok-network_of

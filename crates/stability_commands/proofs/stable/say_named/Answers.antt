@@ -1,12 +1,12 @@
 use Rattle.std.proofs.Common.{◌∷◌, [], refl, sym, subst, codes, ℕ, List, Option}
 use Rattle.branch_tree.specs.View.{claim_of}
-use Rattle.stability_rules.specs.declared.spot.Spot.{Spot}
+use Rattle.report_rules.specs.declared.spot.Spot.{Spot}
 use Rattle.studio_rules.specs.Network.{OnNetwork}
 use Rattle.studio_rules.specs.Stable.{SpotWork, NamedWork}
 use Rattle.studio_rules.specs.Lines.{text_of}
 use Rattle.studio_rules.specs.Ending.{Tells}
 use Rattle.studio_rules.specs.declared.status.Status.TheVariants.{UnknownName}
-use Rattle.endings.proofs.Ending.{Ends-map, Tells-map, only_in}
+use Rattle.command_files.proofs.Ending.{Ends-map, Tells-map, only_in}
 use Rattle.stability_commands.proofs.stable.say_named.Goals as goal
 
 pub returns-in-Some : goal.returns-in-Some

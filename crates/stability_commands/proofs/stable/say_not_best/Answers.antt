@@ -1,10 +1,10 @@
 use Rattle.std.proofs.Common.{refl}
-use Rattle.io_rules.specs.State.{OutputsState}
+use Rattle.text_rules.specs.State.{OutputsState}
 use Rattle.studio_rules.specs.declared.status.Status.TheVariants.{NotBest, WriteFault}
 use Rattle.studio_rules.specs.Printed.{OneAnswer}
 use Rattle.studio_rules.specs.Ending.{Tells}
-use Rattle.endings.proofs.Ending.{Ends-from}
-use Rattle.endings.proofs.Printing.{printed_first}
+use Rattle.command_files.proofs.Ending.{Ends-from}
+use Rattle.command_files.proofs.Printing.{printed_first}
 use Rattle.studio_rules.specs.Stable.{not_best_lines}
 use Rattle.stability_commands.proofs.Printed.{not_best_whole, not_best_front}
 use Rattle.stability_commands.proofs.stable.say_not_best.Goals as goal

@@ -5,7 +5,7 @@ use Rattle.studio_rules.specs.Stable.{past_cost_lines}
 use Rattle.studio_rules.specs.Printed.{OneAnswer}
 use Rattle.studio_rules.specs.Ending.{Tells}
 use Rattle.studio_rules.specs.declared.status.Status.TheVariants.{Past}
-use Rattle.endings.proofs.Ending.{Ends-from}
+use Rattle.command_files.proofs.Ending.{Ends-from}
 use Rattle.stability_commands.proofs.stable.say_past_cost.Goals as goal
 
 pub returns : goal.returns

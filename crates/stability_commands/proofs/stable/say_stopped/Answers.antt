@@ -8,9 +8,9 @@ use Rattle.tree_text_rules.specs.Spelling.{tree_text_lines}
 use Rattle.studio_rules.specs.Ending.{Tells}
 use Rattle.studio_rules.specs.Printed.{OneAnswer}
 use Rattle.studio_rules.specs.declared.status.Status.TheVariants.{Memory}
-use Rattle.endings.proofs.Ending.{Ends-map, Tells-map, Tells-memory, only_in, Ends-from}
+use Rattle.command_files.proofs.Ending.{Ends-map, Tells-map, Tells-memory, only_in, Ends-from}
 use Rattle.searches.proofs.FoundTexts.{CanPrint, is_printing}
-use Rattle.stability_rules.specs.Spot.{valued}
+use Rattle.report_rules.specs.Spot.{valued}
 use Rattle.studio_rules.specs.Stable.{at_line}
 use Rattle.stability_commands.specs.Beyond.{StopSays}
 use Rattle.stability_commands.proofs.Told.{can_print_there, stop_says}

@@ -2,12 +2,12 @@ use Rattle.std.proofs.Common.{◌≡◌, ap, sym, subst, IfSome, inl, inr, ℕ, 
 use Rattle.branch_tree.specs.View.{claim_of}
 use Rattle.tree_reading.specs.Said.{said_by}
 use Rattle.studio_rules.specs.HeadedFile.{AnyHead, OnHeaded, HeadedFault, HeadedSays}
-use Rattle.stability_rules.specs.declared.spot.Spot.{Spot}
-use Rattle.stability_rules.specs.Spot.{KnowsSpot}
+use Rattle.report_rules.specs.declared.spot.Spot.{Spot}
+use Rattle.report_rules.specs.Spot.{KnowsSpot}
 use Rattle.studio_rules.specs.Stable.{NamedWork, StableWork}
 use Rattle.studio_rules.specs.Ending.{Says, Tells}
 use Rattle.studio_rules.specs.declared.status.Status.{Status}
-use Rattle.endings.proofs.Ending.{Ends-map, Ends-from, Says-told}
+use Rattle.command_files.proofs.Ending.{Ends-map, Ends-from, Says-told}
 use Rattle.command_files.proofs.Seconds.{on_second-faults}
 use Rattle.stability_commands.proofs.Named.{spot_known}
 use Rattle.stability_commands.proofs.stable.say_tree.Goals as goal

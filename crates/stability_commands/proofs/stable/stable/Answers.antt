@@ -4,9 +4,9 @@ use Rattle.studio_rules.specs.HeadedFile.{AnyHead, OnHeaded, HeadedSays}
 use Rattle.studio_rules.specs.Stable.{StableWork}
 use Rattle.studio_rules.specs.Ending.{Says}
 use Rattle.studio_rules.specs.declared.status.Status.{Status}
-use Rattle.endings.proofs.Ending.{Ends-map, Ends-from}
+use Rattle.command_files.proofs.Ending.{Ends-map, Ends-from}
 use Rattle.command_files.proofs.Seconds.{on_both-faults, on_both-work}
-use Rattle.endings.proofs.Keeping.{keeps_through}
+use Rattle.command_files.proofs.Keeping.{keeps_through}
 use Rattle.stability_commands.proofs.stable.stable.Goals as goal
 
 pub returns-in-Ok-clause-ends : goal.returns-in-Ok-clause-ends

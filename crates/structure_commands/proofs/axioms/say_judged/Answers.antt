@@ -5,7 +5,7 @@ use Rattle.studio_rules.specs.Axioms.{AxiomsWork, NamesSay, breaks_line}
 use Rattle.studio_rules.specs.Ending.{Tells}
 use Rattle.studio_rules.specs.declared.status.Status.{Status}
 use Rattle.studio_rules.specs.declared.status.Status.TheVariants.{Refused}
-use Rattle.endings.proofs.Ending.{Ends-map, only_or_memory_in, one_line, Tells-map}
+use Rattle.command_files.proofs.Ending.{Ends-map, only_or_memory_in, one_line, Tells-map}
 use Rattle.structure_commands.proofs.axioms.say_judged.Goals as goal
 
 pub returns-in-Some : goal.returns-in-Some

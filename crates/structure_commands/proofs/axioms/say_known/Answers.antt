@@ -5,7 +5,7 @@ use Rattle.pns_rules.specs.Verdict.{Judges}
 use Rattle.studio_rules.specs.Axioms.{NamesSay, VerdictSays, units_named}
 use Rattle.studio_rules.specs.Ending.{Tells}
 use Rattle.studio_rules.specs.declared.status.Status.{Status}
-use Rattle.endings.proofs.Ending.{Ends-map, Tells-map}
+use Rattle.command_files.proofs.Ending.{Ends-map, Tells-map}
 use Rattle.structure_commands.proofs.axioms.say_known.Goals as goal
 
 pub returns : goal.returns

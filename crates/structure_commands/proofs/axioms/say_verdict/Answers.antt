@@ -5,7 +5,7 @@ use Rattle.studio_rules.specs.Axioms.{VerdictSays, breaks_line, place_name}
 use Rattle.studio_rules.specs.Ending.{Tells}
 use Rattle.studio_rules.specs.declared.status.Status.{Status}
 use Rattle.studio_rules.specs.declared.status.Status.TheVariants.{Done, Refused}
-use Rattle.endings.proofs.Ending.{Ends-map, only_in, only_or_memory_in, one_line}
+use Rattle.command_files.proofs.Ending.{Ends-map, only_in, only_or_memory_in, one_line}
 use Rattle.structure_commands.proofs.axioms.say_verdict.Goals as goal
 
 pub returns-in-Meets : goal.returns-in-Meets

@@ -8,7 +8,7 @@ use Rattle.structure_commands.specs.Listing.{RestSays}
 use Rattle.studio_rules.specs.Ending.{Tells}
 use Rattle.studio_rules.specs.declared.status.Status.{Status}
 use Rattle.studio_rules.specs.declared.status.Status.TheVariants.{BadToken, Memory}
-use Rattle.endings.proofs.Ending.{Ends-map, only_in, Tells-map, one_line}
+use Rattle.command_files.proofs.Ending.{Ends-map, only_in, Tells-map, one_line}
 use Rattle.structure_commands.proofs.ListingStart.{no_after, bad_after, is_after, work_of}
 use Rattle.structure_commands.proofs.list.say_listing.Goals as goal
 

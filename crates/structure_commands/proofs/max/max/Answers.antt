@@ -3,7 +3,7 @@ use Rattle.studio_rules.specs.Max.{MaxWork}
 use Rattle.studio_rules.specs.Reading.{FileSays}
 use Rattle.studio_rules.specs.Ending.{Tells}
 use Rattle.studio_rules.specs.declared.status.Status.{Status}
-use Rattle.endings.proofs.Ending.{Ends-map, Ends-from}
+use Rattle.command_files.proofs.Ending.{Ends-map, Ends-from}
 use Rattle.command_files.proofs.Files.{on_file-faults, on_file-work}
 use Rattle.structure_commands.proofs.max.max.Goals as goal
 

@@ -8,7 +8,7 @@ use Rattle.studio_rules.specs.Max.{MaxWork, units_line, materials_line}
 use Rattle.studio_rules.specs.Ending.{Tells}
 use Rattle.studio_rules.specs.declared.status.Status.{Status}
 use Rattle.studio_rules.specs.declared.status.Status.TheVariants.{Done}
-use Rattle.endings.proofs.Ending.{Ends-map, only_in, only_or_memory_in, two_lines}
+use Rattle.command_files.proofs.Ending.{Ends-map, only_in, only_or_memory_in, two_lines}
 use Rattle.structure_commands.proofs.Maximal.{maximal_from, none_from}
 use Rattle.structure_commands.proofs.max.say_maximal.Goals as goal
 

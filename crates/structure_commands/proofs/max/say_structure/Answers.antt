@@ -7,7 +7,7 @@ use Rattle.studio_rules.specs.Max.{units_line, materials_line}
 use Rattle.studio_rules.specs.Ending.{Only, OrMemory}
 use Rattle.studio_rules.specs.declared.status.Status.{Status}
 use Rattle.studio_rules.specs.declared.status.Status.TheVariants.{Done}
-use Rattle.endings.proofs.Ending.{Ends-map}
+use Rattle.command_files.proofs.Ending.{Ends-map}
 use Rattle.structure_commands.proofs.max.say_structure.Goals as goal
 
 pub returns-in_default-materials_line : goal.returns-in_default-materials_line

@@ -4,7 +4,7 @@ use Rattle.number_sets.specs.Sets.{has}
 use Rattle.pns_rules.specs.Structure.{IsAllowed}
 use Rattle.pgraph.specs.Tables.{shape}
 use Rattle.unit_sets.specs.declared.node.Node.{Node}
-use Rattle.decisions.specs.declared.position.Position.{Position}
+use Rattle.structure_list.specs.declared.position.Position.{Position}
 use Rattle.structure_list.specs.Stack.{IsStack, HaveSame, weight}
 use Rattle.structure_list.proofs.TightLemmas.{tight_here}
 use Rattle.structure_list.proofs.StackLemmas.{top_position, top_tight, front_stack, front_less}

@@ -11,8 +11,8 @@ use Rattle.studio_rules.specs.Trial.{TrialWork}
 use Rattle.studio_rules.specs.declared.status.Status.{Status}
 use Rattle.studio_rules.specs.PageLines.{IsOfLines}
 use Rattle.studio_rules.specs.declared.status.Status.TheVariants.{Done}
-use Rattle.endings.proofs.Ending.{Ends-map, Says-told, only_in}
-use Rattle.endings.proofs.Keeping.{keeps_same}
+use Rattle.command_files.proofs.Ending.{Ends-map, Says-told, only_in}
+use Rattle.command_files.proofs.Keeping.{keeps_same}
 use Rattle.studio.proofs.call.perform.Goals as goal
 
 pub returns-in-Max-clause-ends : goal.returns-in-Max-clause-ends

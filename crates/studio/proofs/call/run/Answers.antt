@@ -6,9 +6,9 @@ use Rattle.studio_words.specs.View.{command_view}
 use Rattle.studio_rules.specs.Answers.{Answers, AnswersTo, CommandAnswers, CommandSays, WordsSay}
 use Rattle.studio_rules.specs.declared.status.Status.{Status}
 use Rattle.studio_rules.specs.declared.status.Status.TheVariants.{Usage, Memory}
-use Rattle.endings.proofs.Ending.{Ends-map, Says-map, only_in}
+use Rattle.command_files.proofs.Ending.{Ends-map, Says-map, only_in}
 use Rattle.studio_words.proofs.Within.{words_within}
-use Rattle.endings.proofs.Keeping.{keeps_same}
+use Rattle.command_files.proofs.Keeping.{keeps_same}
 use Rattle.studio.proofs.call.run.Goals as goal
 
 pub perform-requires : goal.perform-requires

@@ -8,11 +8,11 @@ use Rattle.tree_rules.specs.Tree.{IsTree}
 use Rattle.tree_rules.specs.Claim.{Claim}
 use Rattle.tree_rules.specs.Accepted.{Tree, first_node, IsPartial}
 use Rattle.branch_tree.specs.View.{claim_of}
-use Rattle.part_rules.specs.OpenLeaves.{OpenAt, open_leaves, IsAmong}
-use Rattle.part_rules.specs.Graft.{claim_of_both}
+use Rattle.tree_text_rules.specs.OpenLeaves.{OpenAt, open_leaves, IsAmong}
+use Rattle.tree_text_rules.specs.Graft.{claim_of_both}
 use Rattle.cert_check.specs.declared.open_leaf.OpenLeaf.{OpenLeaf}
 use Rattle.cert_check.specs.OpenLeaves.{leaves_at}
-use Rattle.part_rules.specs.Part.{start_of}
+use Rattle.tree_text_rules.specs.Part.{start_of}
 use Rattle.tree_parts.proofs.merging.merge.Goals as goal
 
 pub returns-in_err-leaves-clause-fault : goal.returns-in_err-leaves-clause-fault

@@ -2,8 +2,8 @@ use Rattle.std.proofs.Common.{◌∙◌, ◌∷◌, [], ◌<◌, ap₂, length, 
 use Rattle.pns_rules.specs.Shape.{shape_of}
 use Rattle.tree_rules.specs.Tree.{IsTree}
 use Rattle.tree_rules.specs.Accepted.{Tree, first_node}
-use Rattle.part_rules.specs.Graft.{graft_at}
-use Rattle.part_rules.specs.Part.{start_of}
+use Rattle.tree_text_rules.specs.Graft.{graft_at}
+use Rattle.tree_text_rules.specs.Part.{start_of}
 use Rattle.tree_parts.proofs.GraftLists.{stands_below}
 use Rattle.tree_parts.proofs.merging.put_back.Goals as goal
 

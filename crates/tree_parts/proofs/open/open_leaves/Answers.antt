@@ -5,7 +5,7 @@ use Rattle.pns_rules.specs.Nodes.{Node}
 use Rattle.pgraph.specs.View.{node_of}
 use Rattle.tree_rules.specs.Accepted.{first_node, Proves, NodeIsFault}
 use Rattle.branch_tree.specs.View.{claim_of}
-use Rattle.part_rules.specs.OpenLeaves.{open_leaves}
+use Rattle.tree_text_rules.specs.OpenLeaves.{open_leaves}
 use Rattle.cert_check.specs.OpenLeaves.{leaves_at}
 use Rattle.tree_rules.specs.Refusals.{Refuses}
 use Rattle.tree_parts.proofs.open.open_leaves.Goals as goal

@@ -3,10 +3,10 @@ use Rattle.number_sets.specs.Sets.{has}
 use Rattle.pns_rules.specs.Nodes.{Node}
 use Rattle.pgraph.specs.View.{node_of}
 use Rattle.tree_rules.specs.Accepted.{Tree}
-use Rattle.part_rules.specs.OpenLeaves.{IsAmong}
+use Rattle.tree_text_rules.specs.OpenLeaves.{IsAmong}
 use Rattle.cert_check.specs.OpenLeaves.{leaves_at}
-use Rattle.part_laws.specs.Splices.{AllBelow, AllAbove}
-use Rattle.part_rules.specs.Part.{start_of}
+use Rattle.tree_parts.specs.Splices.{AllBelow, AllAbove}
+use Rattle.tree_text_rules.specs.Part.{start_of}
 use Rattle.tree_parts.specs.declared.waiting.Waiting.{Waiting}
 use Rattle.tree_parts.specs.Waiting.{splices_of}
 use Rattle.tree_parts.proofs.LaidNodes.{one_more}

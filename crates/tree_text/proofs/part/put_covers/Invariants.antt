@@ -1,6 +1,6 @@
 use Rattle.std.proofs.Common.{map, drop}
 use Rattle.problem_rules.specs.Each.{Each}
-use Rattle.covers.specs.View.{covers_of}
+use Rattle.pgraph.specs.CoversView.{covers_of}
 use Rattle.tree_rules.specs.Known.{KnowsCover}
 use Rattle.tree_text_rules.specs.Spelling.{cover_line}
 use Rattle.tree_text.proofs.Printed.{Finishes}

@@ -2,7 +2,7 @@ use Rattle.std.proofs.Common.{◌≡◌, ◌∷◌, [], true, sym, subst}
 use Rattle.std.specs.Prelude.{IfOk, OnOk}
 use Rattle.pns_rules.specs.Shape.{shape_of}
 use Rattle.pns_rules.specs.Nodes.{Node}
-use Rattle.part_rules.specs.OpenLeaves.{open_leaves}
+use Rattle.tree_text_rules.specs.OpenLeaves.{open_leaves}
 use Rattle.cert_check.specs.OpenLeaves.{leaves_at}
 use Rattle.tree_rules.specs.Accepted.{Proves}
 use Rattle.branch_tree.specs.View.{claim_of}

@@ -1,7 +1,7 @@
 use Rattle.std.proofs.Common.{◌≡◌, true, List, subst, ap, ◌∙◌, [], ◌∷◌}
 use Rattle.pns_rules.specs.Shape.{shape_of}
 use Rattle.pns_rules.specs.Nodes.{Node}
-use Rattle.part_rules.specs.OpenLeaves.{open_leaves}
+use Rattle.tree_text_rules.specs.OpenLeaves.{open_leaves}
 use Rattle.cert_check.specs.declared.open_leaf.OpenLeaf.{OpenLeaf}
 use Rattle.cert_check.specs.OpenLeaves.{leaves_at}
 use Rattle.tree_rules.specs.Claim.{ClaimPasses}

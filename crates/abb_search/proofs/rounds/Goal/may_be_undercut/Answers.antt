@@ -1,5 +1,5 @@
 use Rattle.std.proofs.Common.{Option, sym, subst}
-use Rattle.mixed_numbers.specs.Number.{numerator, denominator}
+use Rattle.exact_numbers.specs.Number.{numerator, denominator}
 use Rattle.tree_rules.specs.Claim.{CostOver, IsAtMost}
 use Rattle.abb_search.specs.Rounds.{undercut_of}
 use Rattle.abb_search.proofs.RoundLemmas.{undercuts_by, reaches}

@@ -2,7 +2,7 @@ use Rattle.std.proofs.Common.{◌≡◌, sym, ◌∙◌, ◌*ℤ◌, ◌≤ℤ�
 use Rattle.std.specs.Int.{w128}
 use Rattle.std.proofs.lemmas.Int.{to_z-of_z}
 use Rattle.pgraph.specs.View.{node_of}
-use Rattle.mixed_numbers.specs.Number.{numerator, denominator}
+use Rattle.exact_numbers.specs.Number.{numerator, denominator}
 use Rattle.certified_bounds.specs.Certified.{cost_over}
 use Rattle.certified_bounds.proofs.FractionLemmas.{over_one, no_more_of_same}
 use Rattle.certified_bounds.proofs.BoundLemmas.{found_weaker, reaches_less}

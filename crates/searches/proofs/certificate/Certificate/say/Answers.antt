@@ -4,7 +4,7 @@ use Rattle.tree_text_rules.specs.Line.{Token}
 use Rattle.tree_text_rules.specs.Spelling.{tree_text_lines}
 use Rattle.tree_text.specs.Prints.{Prints}
 use Rattle.studio_rules.specs.Printed.{OneAnswer}
-use Rattle.endings.proofs.Ending.{Tells-map, Ends-from}
+use Rattle.command_files.proofs.Ending.{Tells-map, Ends-from}
 use Rattle.studio_rules.specs.Solve.{status_of}
 use Rattle.searches.specs.Found.{CertificateSays}
 use Rattle.searches.proofs.FoundTexts.{says, is_printing}

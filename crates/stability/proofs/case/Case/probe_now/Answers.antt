@@ -4,7 +4,7 @@ use Rattle.std.specs.Int.{w64}
 use Rattle.std.proofs.lemmas.Int.{to_z-of_z}
 use Rattle.problem_rules.specs.Problem.{Problem}
 use Rattle.tree_rules.specs.Claim.{Network, IsFeasible}
-use Rattle.stability_rules.specs.Spot.{value_at, valued}
+use Rattle.report_rules.specs.Spot.{value_at, valued}
 use Rattle.stability.specs.Refusal.{IsProbed}
 use Rattle.stability.proofs.case.Case.probe_now.Goals as goal
 

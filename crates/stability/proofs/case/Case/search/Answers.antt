@@ -5,8 +5,8 @@ use Rattle.std.proofs.lemmas.Int.{to_z-of_z}
 use Rattle.problem_rules.specs.Problem.{Problem}
 use Rattle.problem_rules.specs.Validity.{IsValid}
 use Rattle.tree_rules.specs.Claim.{Network, CostOver}
-use Rattle.stability_rules.specs.Spot.{valued}
-use Rattle.stability_rules.specs.Range.{cost_at, IsLeast, IsCheaper}
+use Rattle.report_rules.specs.Spot.{valued}
+use Rattle.report_rules.specs.Range.{cost_at, IsLeast, IsCheaper}
 use Rattle.stability.proofs.ProbeLemmas.{cheaper_found, best_found}
 use Rattle.stability.proofs.case.Case.search.Goals as goal
 

@@ -3,7 +3,7 @@ use Rattle.problem_rules.specs.Problem.{Problem}
 use Rattle.pns_rules.specs.Shape.{Shape, shape_of}
 use Rattle.pgraph.specs.Tables.{shape}
 use Rattle.neutral_extension.specs.Candidates.{AreMakersOf}
-use Rattle.stability_rules.specs.Spot.{value_at}
+use Rattle.report_rules.specs.Spot.{value_at}
 use Rattle.stability.specs.Case.{Case}
 use Rattle.stability.proofs.desk.Desk.of.Goals as goal
 

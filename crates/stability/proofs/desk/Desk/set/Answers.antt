@@ -4,8 +4,8 @@ use Rattle.std.proofs.lemmas.Int.{to_z-of_z}
 use Rattle.problem_rules.specs.Validity.{IsValid}
 use Rattle.pns_rules.specs.Shape.{shape_of}
 use Rattle.neutral_extension.specs.Candidates.{AreMakersOf}
-use Rattle.stability_rules.specs.declared.spot.Spot.{Spot}
-use Rattle.stability_rules.specs.Spot.{KnowsSpot, valued}
+use Rattle.report_rules.specs.declared.spot.Spot.{Spot}
+use Rattle.report_rules.specs.Spot.{KnowsSpot, valued}
 use Rattle.stability.specs.Case.{Case}
 use Rattle.stability.specs.Desk.{Desk}
 use Rattle.stability.proofs.DeskLemmas.{set_again, set_knows, set_valid}

@@ -1,0 +1,27 @@
+//! The call.
+ghost use Rattle.std.specs.Prelude.{◌∷◌, [], IfOk};
+ghost use Rattle.studio_rules.specs.Ending.{IsOneOf};
+ghost use Rattle.studio_rules.specs.declared.status.Status.TheVariants.{Done, ReadFault};
+ghost use Rattle.studio_rules.specs.declared.status.Status.TheVariants.{WriteFault, Memory};
+
+use crate::one_unit::{plant_shelf, solve_words};
+use pns_io::{Outputs, Sink};
+use pns_io::NoWatch;
+use std::alloc::{AllocError, Global};
+use studio::{Status, studio};
+use crate::{one_unit_is_sure, sure_call_is_done};
+
+/// A worked `solve` ends with 0, unless a read, an output or memory fails. It is of the plant of
+/// one unit, within a budget of 4. If it ends with 0, its whole answer is written.
+pub fn solve_one_unit<K: Sink, E: Sink>(
+    alloc: Global,
+    out: &mut Outputs<K, E>,
+) -> Result<Status, AllocError>
+    ensures { IfOk result (λ status. IsOneOf (Done ∷ ReadFault ∷ WriteFault ∷ Memory ∷ []) status) }
+{
+    one_unit_is_sure();
+    sure_call_is_done();
+    let mut shelf = plant_shelf(alloc)?;
+    let words = solve_words(alloc)?;
+    Ok(studio(alloc, &words, &mut shelf, out, NoWatch))
+}

@@ -1,0 +1,14 @@
+-- What contracts see of a claimed cost, and of what a charge hands in.
+use Rattle.std.specs.Prelude.{ℤ, List, Option, Some, None}
+use Rattle.charge_rules.specs.Leaf.{Handed}
+use Rattle.tree_rules.specs.Claim as rules
+use Rattle.exact_numbers.specs.declared.cost.CostOver.{CostOver}
+use Rattle.pgraph.specs.declared.cover.Cover.{Cover}
+use Rattle.pgraph.specs.CoversView.{covers_of}
+
+abbrev pub cost_over : Option CostOver → Option rules.CostOver
+cost_over None = None
+cost_over (Some claimed) = Some (record { cost = claimed.cost; d = claimed.d })
+
+abbrev pub handed : ℤ → List ℤ → List Cover → Handed
+handed d ys covers = record { d = d; ys = ys; covers = covers_of covers }

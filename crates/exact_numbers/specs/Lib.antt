@@ -1,0 +1,7 @@
+pub mod MixedOrder
+pub mod MixedOrderLaws
+pub mod Number
+pub mod Order
+pub mod OrderLaws
+pub mod Product
+pub mod Sum

@@ -1,0 +1,5 @@
+use Rattle.number_sets.specs.Sets.{IsSet}
+use Rattle.node_evaluation.proofs.dues.Dues.owed.Given as goal
+
+abbrev pub invariant-loop-u : goal.invariant-loop-u
+invariant-loop-u l = IsSet 128 l.u-iterator

@@ -1,0 +1,34 @@
+use Rattle.std.proofs.Common.{◌≡◌, ◌∷◌, [], ◌∙◌, ap, refl, ℕ, List, codes}
+use Rattle.problem_rules.specs.Problem.{Problem}
+use Rattle.branch_tree.specs.View.{claim_of}
+use Rattle.report_rules.specs.Json.{member}
+use Rattle.report_rules.specs.Facts.{text_member}
+use Rattle.report_rules.specs.JsonLower.{low_json}
+use Rattle.studio_rules.specs.Lines.{text_of}
+use Rattle.studio_rules.specs.Json.{verdict_word, claim_word, lines_behind, json_lines}
+use Rattle.report_commands.proofs.json_text.json_text.Goals as goal
+
+pub returns : goal.returns
+returns c =
+    let claim = claim_of c.args.claim.now in
+    let stated : c.in_ok-stated.stated
+    ≡ text_member (codes "verdict") (verdict_word c.args.verdict) =
+    c.in_ok-stated.ensures
+    ∙ ap (λ (words : List ℕ). text_member (codes "verdict") words) c.verdict_word.ensures in
+    let claimed : c.in_ok-claimed.claimed ≡ text_member (codes "claim") (claim_word claim) =
+    c.in_ok-claimed.ensures
+    ∙ ap (λ (words : List ℕ). text_member (codes "claim") words) c.claim_word.ensures in
+    let low : c.in_ok-low.low ≡ member (codes "low") (low_json c.args.site.now c.args.verdict) =
+    c.in_ok-low.ensures
+    ∙ ap (λ (p : Problem). member (codes "low") (low_json p c.args.verdict))
+    c.problem.ensures.same in
+    let told = c.in_ok-bytes.ensures in (
+      json_lines c.args.site.now told.0 claim c.args.verdict,
+      (told.0, told.1, refl),
+      told.2
+          ∙ (λ i. text_of
+          (lines_behind
+          (stated i ∷ c.in_ok-node.ensures i ∷ c.in_ok-why.ensures i ∷ claimed i ∷ low i
+          ∷ c.in_ok-gap.ensures i ∷ [])
+          c.args.site.now told.0 claim)),
+    )
