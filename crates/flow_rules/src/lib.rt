@@ -1,25 +1,25 @@
-//! No flows in a node's family cost less than its bound; a refuted node has none.
+//! Flows, bounds that none of them undercuts, refutations, and the path of the simplex method.
 //!
-//! This crate defines flows of a set of operating units and their cost, the relaxed flow program of
-//! a node, its bounds and its refutations. Its laws tie them, weak duality above all.
+//! The first definitions are of flows of a set of operating units and their cost, of the relaxed
+//! flow program of a node, its bounds and its refutations. Laws tie them, weak duality above all:
+//! no flows in a node's family cost less than its bound, and a refuted node has none. Each law is
+//! the contract of a function without a body. A proof elsewhere calls the function to use the law.
 //!
-//! In `specs/`: `Net`, a problem as functions of numbers; `Flows`, `Relaxed` and `Program`;
-//! `Steps`, `BoundSteps`, `CostSteps` and `FeasibleSteps`, the numbers that each sum forms on its
-//! way, and which is the first out of range. [`Column`] and [`Place`] name the place of a number of
-//! a simplex method. Each law is the contract of a function without a body. A proof elsewhere calls
-//! the function to use the law.
-//!
-//! The path of the dual simplex method, and which number overflows at its end.
-//!
-//! A basis fixes its tableau. Each row is the one combination of the equations in lowest terms with
-//! a positive entry at its column and 0 at the other columns of the basis. The path is a list of
+//! The other definitions are of the path on which the dual simplex method solves such a program. A
+//! basis fixes its tableau. Each row is the one combination of the equations in lowest terms with a
+//! positive entry at its column and 0 at the other columns of the basis. The path is a list of
 //! bases, each fixed by the one before. So these definitions need only bases and equations, and
-//! code that changes rows in place is proved to agree with them.
+//! code that changes rows in place is proved to agree with them. [`Column`] and [`Place`] name the
+//! place of a number of a simplex method, and so which number overflows at the end of a path.
 //!
-//! In `specs/`: `LinearProgram`, `Columns`, `Equations`, `Tableau`; `Vectors` with the order
-//! `Lexicographic`; `Pivots` and `Path`; `Start`, the first tableau; `Rank`, a number that rises
-//! along the path; `Multipliers` and `ReadFlows`, what is read off at the end; `Places`, when a
-//! number overflows; `Named` and `PastPlace`, the same by the numbers of the problem.
+//! In `specs/`, of flows: `Net`, a problem as functions of numbers; `Flows`, `Relaxed` and
+//! `Program`; `Steps`, `BoundSteps`, `CostSteps` and `FeasibleSteps`, the numbers that each sum
+//! forms on its way, and which is the first out of range; `Laws`.
+//!
+//! In `specs/`, of the path: `LinearProgram`, `Columns`, `Equations`, `Tableau`; `Vectors` with the
+//! order `Lexicographic`; `Pivots` and `Path`; `Start`, the first tableau; `Rank`, a number that
+//! rises along the path; `Multipliers` and `ReadFlows`, what is read off at the end; `Places`, when
+//! a number overflows; `Named` and `PastPlace`, the same by the numbers of the problem.
 #![tactic(auto)]
 
 ghost use Rattle.flow_rules.specs.Laws.{RelaxedDuality, FlowsAreRelaxed, RelaxedCostsLess};

@@ -3,17 +3,17 @@
 //! The head of a branch tree is lines with facts that are found before the first branch. A line
 //! takes units in or leaves them out, or bounds the size of a unit or the use of a material. It
 //! passes by what is known at its place, and by the cost that is claimed: what it rules out has no
-//! flows that cost less.
+//! flows that cost less. [`LineWhy`] is why a line fails, and [`Refusal`] why a claim with a head
+//! and a tree is refused.
 //!
-//! The definitions are in `specs/`: `Charged` (nodes whose charge reaches the claim), `Trim` (units
-//! of which no more than so much can be of use), `Head` (the lines), `Keeps` (what is not lost),
-//! `Faults` (the first line that fails, and its cause), `Headed` (trees with a head, when one is
-//! accepted, and what a refusal says of it), `Known` (when the numbers of a line are below the
-//! counts of a problem) and `Laws`. Each law is the contract of a function without a body.
+//! Each law is the contract of a function without a body. A proof elsewhere calls the function to
+//! use the law.
 //!
-//! When a head and a tree prove a claim as a search promises it.
-//!
-//! The definition is in `specs/Proved`, over those of `head_rules` and `tree_rules`.
+//! In `specs/`: `Charged` (nodes whose charge reaches the claim), `Trim` (units of which no more
+//! than so much can be of use), `Head` (the lines), `Keeps` (what is not lost), `Faults` (the first
+//! line that fails, and its cause), `Headed` (trees with a head, when one is accepted, and what a
+//! refusal says of it), `Known` (when the numbers of a line are below the counts of a problem),
+//! `Proved` (when a head and a tree prove a claim as a search promises it) and `Laws`.
 #![tactic(auto)]
 
 ghost use Rattle.head_rules.specs.Laws.{ChargedIsEmpty, CheaperIsCharged, CheaperPasses, HeadKeeps};

@@ -1,19 +1,17 @@
-//! The exact facts of a network as one JSON object. They are those of one year.
+//! The exact facts of a network as one JSON object, and the pieces of JSON text.
 //!
-//! `Facts` of `json_rules` has its lines: those of the report, in its order, with the numbers of
-//! `report_amounts`. [`facts_of`] gives their bytes, and [`bare_of`] those of a claim without a
-//! network.
+//! The facts are those of one year. `Facts` of `report_rules` has the lines: those of the report,
+//! in its order, with the numbers of `report_amounts`. [`facts_of`] gives their bytes, and
+//! [`bare_of`] those of a claim without a network.
 //!
-//! Modules: `members`, values under their keys; `head`, `units`, `materials` and `foot`, the parts;
-//! `text`, the whole; `lower`, the lower bound and the gap; `ranking`, the networks of a ranking.
+//! The pieces are strings, numbers, arrays and objects, each a [`Json`]. `Json` and `Value` of
+//! `report_rules` have their bytes. A number is printed twice: in decimal with 17 digits, and
+//! exactly.
 //!
-//! Pieces of JSON text: strings, numbers, arrays and objects.
-//!
-//! `Json` and `Value` of `json_rules` have their bytes. A number is printed twice: in decimal with
-//! 17 digits, and exactly.
-//!
-//! Modules: `piece`, pieces and what they are made of; `digits`, a fraction rounded to 17 digits;
-//! `value`, its text; `lines`, pieces in lines of their own.
+//! Modules of facts: `members`, values under their keys; `head`, `units`, `materials` and `foot`,
+//! the parts; `text`, the whole; `lower`, the lower bound and the gap; `ranking`, the networks of a
+//! ranking. Modules of pieces: `piece`, pieces and what they are made of; `digits`, a fraction
+//! rounded to 17 digits; `value`, its text; `lines`, pieces in lines of their own.
 #![tactic(auto)]
 
 mod digits;

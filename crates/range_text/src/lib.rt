@@ -1,6 +1,6 @@
 //! Reads tables.
 //!
-//! They are tables of ranges. `Table` of `range_rules` has the grammar of the text that
+//! They are tables of ranges. `RangeTable` of `report_rules` has the grammar of the text that
 //! `stable FILE TREE` prints, and `Object` the lines of the JSON object. [`read_table`] gives the
 //! rows of a text, or exactly its first fault, and [`table_json`] prints rows as JSON.
 //!
