@@ -1,9 +1,8 @@
 //! Progress reports of a search.
 
 use crate::growing::Growing;
-use branch_tree::Network;
-use pgraph::Site;
-use progress::{Progress, Watch};
+use node_evaluation::{Network, Site};
+use pns_io::{Progress, Watch};
 
 /// How many leaves are open.
 fn open_leaves(growing: &Growing) -> u32 {

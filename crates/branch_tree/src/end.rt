@@ -5,7 +5,7 @@ ghost use Rattle.branch_tree.specs.View.{end_of};
 
 use crate::multipliers::Multipliers;
 use crate::scaled::Scaled;
-use covers::Covers;
+use pgraph::Covers;
 
 /// How a node ends.
 #[derive(Drop)]

@@ -1,18 +1,24 @@
-//! Branch trees, claims and tails as values.
+//! Branch trees, their heads, claims and tails as values.
 //!
-//! A [`Tree`] is a list of nodes in preorder and, by its type, one whole tree. A [`Network`] has,
-//! by its type, one size for each unit. A [`Tail`] says at which node a search stopped. Contracts
-//! see them in the words of `tree_rules`: a tree as its list of nodes, a network as its record, and
-//! ends, claims and tails through `View`. Only [`Scaled::of`] takes memory. What is built is read
-//! by reference, or given back in its parts.
+//! A [`Tree`] is a list of nodes in preorder and, by its type, one whole tree. A [`Head`] is the
+//! lines that come before the first node: steps, sizes that a unit may have at most, units that are
+//! left out, and amounts of a material that are used at most. A [`Network`] has, by its type, one
+//! size for each unit. A [`Tail`] says at which node a search stopped.
+//!
+//! Contracts see them in the words of `tree_rules` and `tree_rules`: a tree as its list of nodes, a
+//! network as its record, ends, claims and tails through `View`, and each [`HeadLine`] through
+//! `HeadView`. Only [`Scaled::of`] takes memory. What is built is read by reference, or given back
+//! in its parts.
 //!
 //! Modules: `multipliers`, `scaled`, `steps` and `columns` are lists with a model; `network`,
-//! `claim`, `end`, `node`, `tree` and `tail` have a type each.
+//! `claim`, `end`, `node`, `tree`, `head`, `line` (of a head) and `tail` have a type each.
 #![tactic(auto)]
 
 mod claim;
 mod columns;
 mod end;
+mod head;
+mod line;
 mod multipliers;
 mod network;
 mod node;
@@ -24,9 +30,15 @@ mod tree;
 pub use claim::Claim;
 pub use columns::Columns;
 pub use end::End;
+pub use head::Head;
+pub use line::HeadLine;
 pub use multipliers::Multipliers;
 pub use network::Network;
 pub use node::TreeNode;
+pub use pgraph::{
+    Cover, Covers, Graph, MatSet, Node, OperatingUnit, Parts, Problem, Site, Step, UnitSet,
+    generate,
+};
 pub use scaled::Scaled;
 pub use steps::Steps;
 pub use tail::Tail;

@@ -1,23 +1,31 @@
+mod CallLemmas
+pub mod CalledAgree
+pub mod CalledBack
 pub mod CostLemmas
-pub mod SpotLemmas
-mod ScriptLengths
-mod RangeLemmas
-mod PlanLemmas
-mod PeriodLemmas
-pub mod Given
 pub mod EditedBack
-pub mod UnitNames
-pub mod ListedLines
-pub mod OptimalCosts
-pub mod ToldOnce
-pub mod TextSizes
+pub mod FirstBasis
+pub mod Given
 mod LeafCalls
 mod Lines
+pub mod ListedLines
 mod Merges
+pub mod NoDemandsLemmas
 mod Nodes
+pub mod OneUnitLemmas
+pub mod OptimalCosts
 mod PartCalls
-mod Starts
-pub mod CalledBack
-pub mod CalledAgree
-mod CallLemmas
 mod PartOrderLemmas
+mod PeriodLemmas
+mod PlanLemmas
+mod RangeLemmas
+mod ScriptLengths
+pub mod Solved
+pub mod SpotLemmas
+mod Starts
+pub mod SureCallLemmas
+pub mod TextSizes
+pub mod ToldOnce
+pub mod UnionLemmas
+pub mod UnitNames
+pub mod ZeroSizes
+pub mod ZeroSteps

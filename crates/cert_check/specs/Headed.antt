@@ -1,24 +1,26 @@
 -- Answers of a check of a tree that may have a head.
 use Rattle.std.specs.Prelude.{◌≡◌, List, Result, Ok, Err}
-use Rattle.pns_rules.specs.Shape.{Shape}
-use Rattle.pns_rules.specs.Nodes.{Node}
-use Rattle.tree_rules.specs.declared.why.Why.{Why}
-use Rattle.tree_rules.specs.declared.refusal.Refusal as trees
-use Rattle.tree_rules.specs.declared.refusal.Refusal.TheVariants as causes
-use Rattle.tree_rules.specs.Fault.{IsFirstFault}
-use Rattle.tree_rules.specs.Leaf.{Leaf}
-use Rattle.tree_rules.specs.Accepted.{Tree}
-use Rattle.head_rules.specs.declared.refusal.Refusal.{Refusal}
-use Rattle.head_rules.specs.declared.refusal.Refusal.TheVariants.{Memory, Claim, Line}
-use Rattle.head_rules.specs.declared.refusal.Refusal.TheVariants as refusals
+use Rattle.tree_text_rules.specs.pns_rules.Shape.{Shape}
+use Rattle.tree_text_rules.specs.pns_rules.Nodes.{Node}
+use Rattle.tree_text_rules.specs.tree_rules.declared.why.Why.{Why}
+use Rattle.tree_text_rules.specs.tree_rules.declared.refusal.Refusal as trees
+use Rattle.tree_text_rules.specs.tree_rules.declared.refusal.Refusal.TheVariants as causes
+use Rattle.tree_text_rules.specs.tree_rules.Fault.{IsFirstFault}
+use Rattle.tree_text_rules.specs.tree_rules.Leaf.{Leaf}
+use Rattle.tree_text_rules.specs.tree_rules.Accepted.{Tree}
+use Rattle.tree_text_rules.specs.tree_rules.declared.head_refusal.HeadRefusal.{HeadRefusal}
+use Rattle.tree_text_rules.specs.tree_rules.declared.head_refusal.HeadRefusal.TheVariants.{Memory}
+use Rattle.tree_text_rules.specs.tree_rules.declared.head_refusal.HeadRefusal.TheVariants.{Claim}
+use Rattle.tree_text_rules.specs.tree_rules.declared.head_refusal.HeadRefusal.TheVariants.{Line}
+use Rattle.tree_text_rules.specs.tree_rules.declared.head_refusal.HeadRefusal.TheVariants as refusals
 
 -- the answer is Ok or `Memory`
-abbrev pub IsOkOrMemoryBy : {A : Type 0} → Result A Refusal → Type 0
+abbrev pub IsOkOrMemoryBy : {A : Type 0} → Result A HeadRefusal → Type 0
 IsOkOrMemoryBy (Ok x) = Unit {0}
 IsOkOrMemoryBy (Err e) = e ≡ Memory
 
 -- a refusal of nodes, in the words of a tree with a head
-abbrev pub refusal_by : trees.Refusal → Refusal
+abbrev pub refusal_by : trees.Refusal → HeadRefusal
 refusal_by causes.Memory = Memory
 refusal_by (causes.Claim why) = Claim why
 refusal_by (causes.Node k why) = refusals.Node k why
@@ -26,7 +28,7 @@ refusal_by (causes.Node k why) = refusals.Node k why
 -- of the subtrees of the nodes, the first that fails is the one that the refusal names, for its
 -- cause
 abbrev pub NamesFaultBy : Shape → (Node → Leaf → Type 0) → (Node → Leaf → Why → Type 0) → List Node
-    → Tree → Refusal → Type 0
+    → Tree → HeadRefusal → Type 0
 NamesFaultBy g P F starts tree Memory = Unit {0}
 NamesFaultBy g P F starts tree (Claim why) = ⊥
 NamesFaultBy g P F starts tree (Line i why) = ⊥

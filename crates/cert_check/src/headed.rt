@@ -1,42 +1,38 @@
 //! Claims with trees that may have a head.
 ghost use Rattle.std.specs.Prelude.{◌≡◌, ◌<◌, ◌^◌, ◌∷◌, [], ℕ, Bool, true, false, length, OnOk};
 ghost use Rattle.std.specs.Prelude.{IfErr};
-ghost use Rattle.pns_rules.specs.Shape.{shape_of};
-ghost use Rattle.pns_rules.specs.Structure.{IsStructure, IsAllowed};
-ghost use Rattle.tree_rules.specs.Tree.{Pass};
-ghost use Rattle.tree_rules.specs.Claim as claims;
-ghost use Rattle.tree_rules.specs.Costs.{CostsEnough};
-ghost use Rattle.pgraph.specs.View.{node_of};
+ghost use Rattle.tree_text_rules.specs.pns_rules.Shape.{shape_of};
+ghost use Rattle.tree_text_rules.specs.pns_rules.Structure.{IsStructure, IsAllowed};
+ghost use Rattle.tree_text_rules.specs.tree_rules.Tree.{Pass};
+ghost use Rattle.tree_text_rules.specs.tree_rules.Claim as claims;
+ghost use Rattle.tree_text_rules.specs.tree_rules.Costs.{CostsEnough};
+ghost use Rattle.charges.specs.pgraph.View.{node_of};
 ghost use Rattle.branch_tree.specs.View.{claim_of};
 ghost use Rattle.charges.specs.Known.{facts_of};
-ghost use Rattle.cert_parts.specs.Known.{KnowsInside};
-ghost use Rattle.cert_parts.specs.Shown.{cost_over};
-ghost use Rattle.head_rules.specs.Headed as rules;
-ghost use Rattle.head_rules.specs.Headed.{head_node, IsAcceptedBy, RefusesBy};
+ghost use Rattle.cert_check.specs.Known.{KnowsInside};
+ghost use Rattle.cert_check.specs.Shown.{cost_over};
+ghost use Rattle.tree_text_rules.specs.tree_rules.Headed as rules;
+ghost use Rattle.tree_text_rules.specs.tree_rules.Headed.{head_node, IsAcceptedBy, RefusesBy};
 ghost use Rattle.cert_check.specs.Headed.{IsOkOrMemoryBy, NamesFaultBy, refusal_by};
 
 use crate::claim::{cost_of_claim, judge_claim};
 use crate::visit::Judge;
 use crate::walk::walk;
-use branch_tree::{Claim, Tree};
-use frac128::CostOver;
-use head_check::{Known, judge_head};
-use head_laws::{accepted_by_is_optimal, tree_has_one_fault_by};
-use head_lines::Head;
-use head_rules::{Refusal, one_fault};
-use pgraph::Site;
+use crate::{Known, judge_head};
+use branch_tree::{Claim, Head, Tree};
+use charges::{CostOver, Site};
 use std::alloc::Global;
-use tree_laws::claim_has_one_fault;
-use tree_rules::Refusal as NodeRefusal;
+use tree_laws::{accepted_by_is_optimal, claim_has_one_fault, tree_has_one_fault_by};
+use tree_text_rules::{HeadRefusal, Refusal as NodeRefusal, one_fault};
 
 /// Why the nodes of a tree with a head are refused.
-fn refusal_by(refusal: NodeRefusal) -> Refusal
+fn refusal_by(refusal: NodeRefusal) -> HeadRefusal
     ensures { result ≡ refusal_by refusal }
 {
     match refusal {
-        NodeRefusal::Memory => Refusal::Memory,
-        NodeRefusal::Claim(why) => Refusal::Claim(why),
-        NodeRefusal::Node { node, why } => Refusal::Node { node, why },
+        NodeRefusal::Memory => HeadRefusal::Memory,
+        NodeRefusal::Claim(why) => HeadRefusal::Claim(why),
+        NodeRefusal::Node { node, why } => HeadRefusal::Node { node, why },
     }
 }
 
@@ -47,7 +43,7 @@ fn check_known(
     known: &Known,
     claimed: Option<CostOver>,
     tree: &Tree,
-) -> Result<(), Refusal>
+) -> Result<(), HeadRefusal>
     requires inside { KnowsInside (shape_of site.now) (node_of known.now.node) }
     requires few { length tree.now < 2 ^ 32 }
     ensures passes { OnOk result
@@ -81,7 +77,7 @@ fn check_lines(
     claim: &Claim,
     head: &Head,
     tree: &Tree,
-) -> Result<(), Refusal>
+) -> Result<(), HeadRefusal>
     requires claimed { claims.ClaimPasses false site.now (claim_of claim.now) }
     requires few { length tree.now < 2 ^ 32 }
     ensures accepted { OnOk result
@@ -93,7 +89,7 @@ fn check_lines(
     let claimed = cost_of_claim(claim);
     match judge_head(site, claimed, head.lines()) {
         Ok(known) => check_known(alloc, site, &known, claimed, tree),
-        Err(fault) => Err(Refusal::Line {
+        Err(fault) => Err(HeadRefusal::Line {
             line: fault.line,
             why: fault.why,
         }),
@@ -108,7 +104,7 @@ pub fn check_headed(
     claim: &Claim,
     head: &Head,
     tree: &Tree,
-) -> Result<(), Refusal>
+) -> Result<(), HeadRefusal>
     requires few { length tree.now < 2 ^ 32 }
     // `Ok` comes only if the head and the tree prove the claim. If they do, the only other answer
     // is that there is no memory.
@@ -133,6 +129,6 @@ pub fn check_headed(
     accepted_by_is_optimal();
     match judge_claim(site, claim, false) {
         Ok(()) => check_lines(alloc, site, claim, head, tree),
-        Err(why) => Err(Refusal::Claim(why)),
+        Err(why) => Err(HeadRefusal::Claim(why)),
     }
 }

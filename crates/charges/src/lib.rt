@@ -1,7 +1,7 @@
 //! A charge is exact, or names the first overflow; covers are exact.
 //!
 //! A charge is a bound of a node that lets a free unit owe its whole fixed cost or nothing. Its
-//! definition, and the laws that make it a bound, are in `charge_rules`. [`charge_of`] gives the
+//! definition, and the laws that make it a bound, are in `flow_rules`. [`charge_of`] gives the
 //! charge for a [`Charge`]: multipliers, and covers. If a number on the way overflows, it returns
 //! the place of the first, as a `PastSum`. [`Facts`] are what is known of sizes and uses, and they
 //! may ask what follows if so much of a material is used, a [`Demand`]. A [`Cover`] is a set of
@@ -35,9 +35,17 @@ mod useful;
 
 pub use charge::{Charge, charge_of};
 pub use cover::{covers_node, is_cover, is_free};
-pub use covers::Cover;
 pub use facts::{Demand, Facts};
+pub use flow_program::{
+    CostOver, Frac, Mixed, NodeSets, bound_of, by_material, checked_product, cost_of, feasible,
+    full_range, gcd, put_rates, refutes, sets_of, unit_numbers,
+};
 pub use knees::rounded_up;
 pub use made::makers_most;
+pub use structure_list::{
+    Cover, Covers, Exclusion, Graph, Kind, MatSet, Material, Node, OpenFault, OperatingUnit,
+    Problem, Site, Step, Steps, StructureList, Term, UnitSet, generate, maximal, print_token,
+    read_token,
+};
 pub use unit::{Costs, costs_of};
 pub use useful::{most_used, rate_of};

@@ -1,9 +1,9 @@
 //! Products of numbers that are mostly short.
 ghost use Rattle.std.specs.Prelude.{◌≡◌, ◌*ℤ◌};
 ghost use Rattle.std.specs.Option.{SomeIff};
-ghost use Rattle.integer_laws.specs.Range.{InRange};
+ghost use Rattle.exact_numbers.specs.integer_laws.Range.{InRange};
 
-use int_rows::checked_product;
+use exact_numbers::checked_product;
 
 /// The product of two short numbers, which is in range.
 fn short_product(a: i64, b: i64) -> i128

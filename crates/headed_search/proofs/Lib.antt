@@ -1,2 +1,3 @@
-pub mod SetLemmas
+pub mod CapLemmas
 pub mod LeanLemmas
+pub mod SetLemmas

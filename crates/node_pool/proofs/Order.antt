@@ -9,11 +9,11 @@ use Rattle.std.specs.List.{slice_get, find}
 use Rattle.std.specs.Ordering.{is_le, ordering_reverse}
 use Rattle.std.specs.declared.cmp.Ordering.{Ordering}
 use Rattle.std.specs.declared.cmp.Ordering.TheVariants.{Less, Equal, Greater}
-use Rattle.mixed_numbers.specs.declared.number.Mixed.{Mixed}
-use Rattle.mixed_numbers.specs.Order.{mixed_cmp}
-use Rattle.mixed_numbers.specs.OrderLaws.{mixed_cmp_total}
+use Rattle.exact_numbers.specs.declared.number.Mixed.{Mixed}
+use Rattle.exact_numbers.specs.MixedOrder.{mixed_cmp}
+use Rattle.exact_numbers.specs.MixedOrderLaws.{mixed_cmp_total}
 use Rattle.link_lists.specs.Lists.{has, without, inserted}
-use Rattle.link_lists.proofs.Cells.{has-here, has-later, has-without}
+use Rattle.link_lists.proofs.Cited.{has-here, has-later, has-without}
 use Rattle.node_pool.specs.Order.{at_most, is_at_least, placed, IsAtMost, IsRising, put_before}
 use Rattle.node_pool.proofs.Places.{StaysTrue}
 

@@ -4,7 +4,7 @@ use Rattle.std.proofs.Common.{Option, slice_set, refl, sym, ap, ◌∙◌, subst
 use Rattle.std.proofs.Common.{length-append, arith}
 use Rattle.std.proofs.lemmas.List.{length-set}
 use Rattle.std.specs.List.{find}
-use Rattle.mixed_numbers.specs.declared.number.Mixed.{Mixed}
+use Rattle.exact_numbers.specs.declared.number.Mixed.{Mixed}
 use Rattle.link_lists.specs.Lists.{has, without}
 use Rattle.node_pool.specs.Tree.{Branches, with_node}
 use Rattle.node_pool.specs.Order.{OpenLeaves, is_at_least, placed, put_before, IsRising}

@@ -1,7 +1,7 @@
 -- A pool of nodes: what contracts see.
 use Rattle.std.specs.Prelude.{◌≡◌, ℕ, ◌<◌, false, List, [], ◌∷◌, ◌++◌, length, slice_set, Option}
 use Rattle.std.specs.Prelude.{Some, None}
-use Rattle.mixed_numbers.specs.declared.number.Mixed.{Mixed}
+use Rattle.exact_numbers.specs.declared.number.Mixed.{Mixed}
 use Rattle.link_lists.specs.Lists.{has, without}
 use Rattle.node_pool.specs.Order.{placed}
 

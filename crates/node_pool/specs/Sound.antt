@@ -1,6 +1,6 @@
 -- How the parts of a pool fit together.
 use Rattle.std.specs.Prelude.{◌≡◌, ℕ, ◌<◌, ◌≤◌, true, List, length, ◌^◌}
-use Rattle.mixed_numbers.specs.declared.number.Mixed.{Mixed}
+use Rattle.exact_numbers.specs.declared.number.Mixed.{Mixed}
 use Rattle.link_lists.specs.Lists.{has}
 use Rattle.node_pool.specs.Tree.{Branches}
 use Rattle.node_pool.specs.Order.{OpenLeaves, IsRising}

@@ -9,7 +9,7 @@
 //! Of leaves of one value the one that was put last comes first; the numbers of puts differ up to
 //! the 2^32nd.
 
-use mixed_numbers::Mixed;
+use exact_numbers::Mixed;
 use std::alloc::{AllocError, Global};
 use std::cmp::Ordering;
 

@@ -3,13 +3,13 @@
 ghost use Rattle.std.specs.Prelude.{◌≡◌, [], ℕ, true, false, Some, ◌<◌, ◌+◌, ◌^◌, length};
 ghost use Rattle.std.specs.Prelude.{slice_set, IfOk, OnErr};
 ghost use Rattle.std.specs.List.{find};
-ghost use Rattle.mixed_numbers.specs.Order.{mixed_cmp};
+ghost use Rattle.exact_numbers.specs.MixedOrder.{mixed_cmp};
 ghost use Rattle.link_lists.specs.Lists.{first, following, has, row, without, IsListed};
 ghost use Rattle.node_pool.specs.Order.{OpenLeaves, is_at_least, put_before, second, IsRising};
 
 use crate::index::Index;
+use exact_numbers::Mixed;
 use link_lists::Lists;
-use mixed_numbers::Mixed;
 use std::alloc::{AllocError, Global};
 use std::marker::Model;
 

@@ -12,7 +12,7 @@ ghost use Rattle.node_pool.specs.Pooled.{with_shut, with_value};
 
 use crate::leaves::Leaves;
 use crate::tree::Tree;
-use mixed_numbers::Mixed;
+use exact_numbers::Mixed;
 use std::alloc::{AllocError, Global};
 use std::marker::Model;
 

@@ -6,16 +6,16 @@ use Rattle.std.specs.Prelude.{ℤ, pos, ◌+ℤ◌, ◌-ℤ◌, ◌*ℤ◌, neg_
 use Rattle.std.specs.Int.{◌∣◌}
 use Rattle.std.proofs.Math.Path.{fun_ext}
 use Rattle.std.proofs.lemmas.Bool.Decides.{leb_tells}
-use Rattle.integer_laws.proofs.IndexTotals.{total_below-same}
-use Rattle.path_rules.specs.LinearProgram.{LinearProgram, low_flow}
-use Rattle.path_rules.specs.Columns.{Basis, Has, x_at, s_at, t_at, w_at, columns, right_at}
-use Rattle.path_rules.specs.Columns.{scale_at}
-use Rattle.path_rules.specs.Equations.{IsCombination}
-use Rattle.path_rules.specs.Tableau.{IsRowOf, IsTableau, IsComplete}
-use Rattle.path_rules.specs.Lexicographic.{IsBefore}
-use Rattle.path_rules.specs.Vectors.{gain}
-use Rattle.path_rules.specs.Pivots.{HasPivot, first_kind, second_kind, IsFirstKind, IsLeaving}
-use Rattle.path_rules.specs.Pivots.{IsEntering}
+use Rattle.flow_rules.proofs.integer_laws.Cited.{total_below-same}
+use Rattle.flow_rules.specs.LinearProgram.{LinearProgram, low_flow}
+use Rattle.flow_rules.specs.Columns.{Basis, Has, x_at, s_at, t_at, w_at, columns, right_at}
+use Rattle.flow_rules.specs.Columns.{scale_at}
+use Rattle.flow_rules.specs.Equations.{IsCombination}
+use Rattle.flow_rules.specs.Tableau.{IsRowOf, IsTableau, IsComplete}
+use Rattle.flow_rules.specs.Lexicographic.{IsBefore}
+use Rattle.flow_rules.specs.Vectors.{gain}
+use Rattle.flow_rules.specs.Pivots.{HasPivot, first_kind, second_kind, IsFirstKind, IsLeaving}
+use Rattle.flow_rules.specs.Pivots.{IsEntering}
 use Rattle.path_laws.proofs.BoolLemmas.{bool_cases}
 use Rattle.path_laws.proofs.OnePathLemmas.{Agree, gain_same}
 use Rattle.path_laws.proofs.PathLemmas.{IsSound}

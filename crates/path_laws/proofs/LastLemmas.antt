@@ -4,13 +4,13 @@ use Rattle.std.specs.Prelude.{ℤ, pos, ◌≤ℤ◌, ◌<ℤ◌}
 use Rattle.std.proofs.Math.Path.{fun_ext}
 use Rattle.std.proofs.lemmas.Bool.{cases_order}
 use Rattle.std.proofs.lemmas.Bool.Decides.{eqb_tells}
-use Rattle.integer_laws.specs.declared.which.Which.{Which}
-use Rattle.path_rules.specs.LinearProgram.{LinearProgram}
-use Rattle.path_rules.specs.Columns.{Basis, right_at, scale_at}
-use Rattle.path_rules.specs.Tableau.{IsTableau}
-use Rattle.path_rules.specs.Pivots.{HasPivot, IsFeasible, IsRefuting}
-use Rattle.path_rules.specs.Path.{Follows, Reaches, IsLast}
-use Rattle.path_rules.specs.Places.{IsPastPivot}
+use Rattle.flow_rules.specs.integer_laws.declared.which.Which.{Which}
+use Rattle.flow_rules.specs.LinearProgram.{LinearProgram}
+use Rattle.flow_rules.specs.Columns.{Basis, right_at, scale_at}
+use Rattle.flow_rules.specs.Tableau.{IsTableau}
+use Rattle.flow_rules.specs.Pivots.{HasPivot, IsFeasible, IsRefuting}
+use Rattle.flow_rules.specs.Path.{Follows, Reaches, IsLast}
+use Rattle.flow_rules.specs.Places.{IsPastPivot}
 use Rattle.path_laws.proofs.UniqueLemmas.{row_unique}
 use Rattle.path_laws.proofs.OnePathLemmas.{Agree, feasible_last, refuting_last, past_is_last}
 use Rattle.path_laws.proofs.PathLemmas.{IsSound, reaches_sound, reaches_same}

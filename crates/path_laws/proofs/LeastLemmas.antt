@@ -4,12 +4,13 @@ use Rattle.std.proofs.Common.{◌≡◌, ◌≢◌, ℕ, suc, ◌<◌, inl, inr,
 use Rattle.std.specs.Prelude.{ℤ, pos, ◌-ℤ◌, ◌*ℤ◌, ◌<ℤ◌}
 use Rattle.std.proofs.lemmas.Int.{ints}
 use Rattle.std.proofs.lemmas.Bool.{cases_order}
-use Rattle.integer_laws.proofs.Order.{mul_pos, cancel, pos_of-mul}
-use Rattle.integer_laws.proofs.Ring.{V, ◌⊖◌, ◌⊗◌, ring, ring_lt, read_equal, read_lt}
+use Rattle.flow_rules.proofs.integer_laws.Cited.{mul_pos, cancel, pos_of-mul, V, ◌⊖◌, ◌⊗◌, ring}
+use Rattle.flow_rules.proofs.integer_laws.Cited.{ring_lt}
+use Rattle.flow_rules.proofs.integer_laws.Cited.{read_equal, read_lt}
 use Rattle.path_laws.proofs.VectorLemmas.{gain-own, gain-other}
-use Rattle.path_rules.specs.Columns.{Basis}
-use Rattle.path_rules.specs.Lexicographic.{IsBefore}
-use Rattle.path_rules.specs.Vectors.{gain}
+use Rattle.flow_rules.specs.Columns.{Basis}
+use Rattle.flow_rules.specs.Lexicographic.{IsBefore}
+use Rattle.flow_rules.specs.Vectors.{gain}
 
 -- one place: a, b, c are the entries of three columns, x, y, z their gains
 pub level_level : (a b c x y z : ℤ) → pos 0 <ℤ b → b *ℤ x ≡ a *ℤ y → c *ℤ y ≡ b *ℤ z

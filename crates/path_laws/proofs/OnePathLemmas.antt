@@ -6,19 +6,19 @@ use Rattle.std.proofs.lemmas.Int.{ints}
 use Rattle.std.proofs.lemmas.Bool.{cases_order}
 use Rattle.std.proofs.lemmas.Bool.Decides.{eqb_tells}
 use Rattle.path_laws.proofs.RisingLemmas.{before_both}
-use Rattle.path_rules.specs.Columns.{Basis, Has, x_at, s_at, columns, right_at, scale_at, exchanged}
-use Rattle.path_rules.specs.LinearProgram.{LinearProgram}
-use Rattle.path_rules.specs.Path.{Follows, IsPastEntry}
-use Rattle.path_rules.specs.Pivots.{HasPivot, first_kind, second_kind, IsFirstKind, IsLeaving}
-use Rattle.path_rules.specs.Pivots.{IsEntering, IsFeasible, IsRefuting}
-use Rattle.path_rules.specs.Tableau.{IsTableau, IsIndependent}
-use Rattle.path_rules.specs.Vectors.{gain}
+use Rattle.flow_rules.specs.Columns.{Basis, Has, x_at, s_at, columns, right_at, scale_at, exchanged}
+use Rattle.flow_rules.specs.LinearProgram.{LinearProgram}
+use Rattle.flow_rules.specs.Path.{Follows, IsPastEntry}
+use Rattle.flow_rules.specs.Pivots.{HasPivot, first_kind, second_kind, IsFirstKind, IsLeaving}
+use Rattle.flow_rules.specs.Pivots.{IsEntering, IsFeasible, IsRefuting}
+use Rattle.flow_rules.specs.Tableau.{IsTableau, IsIndependent}
+use Rattle.flow_rules.specs.Vectors.{gain}
 use Rattle.path_laws.proofs.BoolLemmas.{bool_cases}
 use Rattle.path_laws.proofs.UniqueLemmas.{row_unique}
-use Rattle.path_rules.specs.Places.{IsPastPivot, at_first, at_second}
-use Rattle.integer_laws.specs.declared.which.Which.{Which}
-use Rattle.integer_laws.specs.Combined.{past_of}
-use Rattle.integer_laws.specs.Lowest.{IsLowest}
+use Rattle.flow_rules.specs.Places.{IsPastPivot, at_first, at_second}
+use Rattle.flow_rules.specs.integer_laws.declared.which.Which.{Which}
+use Rattle.flow_rules.specs.integer_laws.Combined.{past_of}
+use Rattle.flow_rules.specs.integer_laws.Lowest.{IsLowest}
 
 -- two tableaux of one basis
 abbrev pub Agree : LinearProgram → Basis → (ℕ → ℕ → ℤ) → (ℕ → ℕ → ℤ) → Type 0

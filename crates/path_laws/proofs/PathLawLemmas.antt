@@ -6,8 +6,8 @@ use Rattle.path_laws.specs.PathLaws.{FirstPhaseGoesOn, FirstPhaseEnds, ExchangeR
 use Rattle.path_laws.specs.PathLaws.{CostsAreNotNegative, VectorsKeepRising, ValuesRiseByPivots}
 use Rattle.path_laws.specs.PathLaws.{RankRises, ColumnsAreOrdered, ColumnsDiffer}
 use Rattle.std.specs.Prelude.{suc}
-use Rattle.path_rules.specs.Columns.{columns, right_at, scale_at}
-use Rattle.path_rules.specs.Vectors.{value_top, value_bottom}
+use Rattle.flow_rules.specs.Columns.{columns, right_at, scale_at}
+use Rattle.flow_rules.specs.Vectors.{value_top, value_bottom}
 use Rattle.path_laws.proofs.TableauLawLemmas.{pivot_keeps_tableau}
 use Rattle.path_laws.proofs.FirstKindLemmas.{start_first_phase, first_phase_skip, first_phase_kind}
 use Rattle.path_laws.proofs.FirstKindLemmas.{first_phase_exchange, first_phase_rising}

@@ -5,10 +5,10 @@ use Rattle.std.specs.Prelude.{nat_eq, nat_lt, nat_le}
 use Rattle.std.proofs.Math.Path.{fun_ext}
 use Rattle.std.proofs.lemmas.Bool.Decides.{eqb_tells, leb_tells}
 use Rattle.path_laws.proofs.OnePathLemmas.{follows_same}
-use Rattle.path_rules.specs.Columns.{Basis, Has, columns, right_at, scale_at, start, exchanged}
-use Rattle.path_rules.specs.LinearProgram.{LinearProgram}
-use Rattle.path_rules.specs.Path.{Follows, Reaches}
-use Rattle.path_rules.specs.Tableau.{IsIndependent}
+use Rattle.flow_rules.specs.Columns.{Basis, Has, columns, right_at, scale_at, start, exchanged}
+use Rattle.flow_rules.specs.LinearProgram.{LinearProgram}
+use Rattle.flow_rules.specs.Path.{Follows, Reaches}
+use Rattle.flow_rules.specs.Tableau.{IsIndependent}
 use Rattle.path_laws.proofs.CombinationLemmas.{exchange_independent}
 use Rattle.path_laws.proofs.PivotLemmas.{exchanged-out, exchanged-in, exchanged-other, turn_of}
 use Rattle.path_laws.proofs.StartBasisLemmas.{start-has, start_independent}

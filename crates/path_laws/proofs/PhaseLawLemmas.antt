@@ -3,9 +3,9 @@ use Rattle.std.proofs.Common.{◌≡◌, ℕ, ◌-◌, ◌<◌, ◌≤◌, inl, 
 use Rattle.std.specs.Prelude.{ℤ, pos, ◌<ℤ◌, ◌≤ℤ◌}
 use Rattle.std.proofs.lemmas.Int.{ints}
 use Rattle.std.proofs.lemmas.Bool.{cases_order}
-use Rattle.path_rules.specs.LinearProgram.{LinearProgram}
-use Rattle.path_rules.specs.Columns.{Basis, x_at, columns, scale_at}
-use Rattle.path_rules.specs.Pivots.{IsFirstKind}
+use Rattle.flow_rules.specs.LinearProgram.{LinearProgram}
+use Rattle.flow_rules.specs.Columns.{Basis, x_at, columns, scale_at}
+use Rattle.flow_rules.specs.Pivots.{IsFirstKind}
 use Rattle.path_laws.specs.Phases.{VectorsRise}
 use Rattle.path_laws.proofs.FirstKindLemmas.{first_phase_kind}
 use Rattle.path_laws.proofs.OnePathLemmas.{Agree}

@@ -6,11 +6,11 @@ use Rattle.std.specs.Prelude.{ℤ, pos, ◌<ℤ◌, ◌≤ℤ◌}
 use Rattle.std.proofs.lemmas.Int.{ints, by_lt_z}
 use Rattle.std.proofs.Math.Path.{fun_ext}
 use Rattle.std.proofs.lemmas.Bool.Decides.{eqb_tells}
-use Rattle.path_rules.specs.LinearProgram.{LinearProgram}
-use Rattle.path_rules.specs.Columns.{Basis, Has, x_at, s_at, columns, scale_at, start}
-use Rattle.path_rules.specs.Tableau.{IsTableau, IsComplete, IsPrimitive}
-use Rattle.path_rules.specs.Pivots.{HasPivot, first_kind, second_kind, IsPivoted}
-use Rattle.path_rules.specs.Path.{Follows, Reaches}
+use Rattle.flow_rules.specs.LinearProgram.{LinearProgram}
+use Rattle.flow_rules.specs.Columns.{Basis, Has, x_at, s_at, columns, scale_at, start}
+use Rattle.flow_rules.specs.Tableau.{IsTableau, IsComplete, IsPrimitive}
+use Rattle.flow_rules.specs.Pivots.{HasPivot, first_kind, second_kind, IsPivoted}
+use Rattle.flow_rules.specs.Path.{Follows, Reaches}
 use Rattle.path_laws.proofs.PivotLemmas.{IsTurn}
 use Rattle.path_laws.proofs.StartLemmas.{start_tableau, start_complete}
 use Rattle.path_laws.proofs.SolutionLemmas.{pivot_complete}

@@ -5,11 +5,11 @@ use Rattle.std.specs.Prelude.{ℤ, pos, neg_ℤ, ◌<ℤ◌, unsigned_abs}
 use Rattle.std.specs.Int.{◌∣◌}
 use Rattle.std.proofs.lemmas.Int.{ints}
 use Rattle.std.proofs.lemmas.Bool.Decides.{eqb_tells}
-use Rattle.path_rules.specs.LinearProgram.{LinearProgram}
-use Rattle.path_rules.specs.Columns.{Basis, Has, x_at, s_at, columns, scale_at, exchanged}
-use Rattle.path_rules.specs.Equations.{IsCombination}
-use Rattle.path_rules.specs.Tableau.{IsTableau, IsRowOf, IsPrimitive}
-use Rattle.path_rules.specs.Pivots.{HasPivot, first_kind, second_kind}
+use Rattle.flow_rules.specs.LinearProgram.{LinearProgram}
+use Rattle.flow_rules.specs.Columns.{Basis, Has, x_at, s_at, columns, scale_at, exchanged}
+use Rattle.flow_rules.specs.Equations.{IsCombination}
+use Rattle.flow_rules.specs.Tableau.{IsTableau, IsRowOf, IsPrimitive}
+use Rattle.flow_rules.specs.Pivots.{HasPivot, first_kind, second_kind}
 use Rattle.path_laws.proofs.BoolLemmas.{bool_cases}
 use Rattle.path_laws.proofs.CombinationLemmas.{negated}
 

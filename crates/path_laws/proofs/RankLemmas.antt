@@ -5,7 +5,7 @@ use Rattle.std.proofs.Math.Nat.{lt-mul-div-succ, mul-le-mul, mul-le-mul_left}
 use Rattle.std.proofs.Math.Nat.{mul-lt-mul_of_pos_left, div-mul-le_self, le_of_mul-le-mul_right}
 use Rattle.std.proofs.Math.Nat.{eq-or-lt_of_le}
 use Rattle.std.proofs.lemmas.Bool.{cases_order}
-use Rattle.path_rules.specs.Rank.{number, digit, power}
+use Rattle.flow_rules.specs.Rank.{number, digit, power}
 
 number_same : (w n : ℕ) (f g : ℕ → ℕ) → ((k : ℕ) → k < n → f k ≡ g k) → number w n f ≡ number w n g
 number_same w zero f g e = refl

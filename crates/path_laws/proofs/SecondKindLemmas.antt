@@ -6,14 +6,14 @@ use Rattle.path_laws.specs.Phases.{VectorsRise, ValuesRise, IsExchange}
 use Rattle.path_laws.proofs.PathLemmas.{reaches_sound, IsSound}
 use Rattle.path_laws.proofs.ValueLemmas.{values_rise}
 use Rattle.path_laws.proofs.VectorLemmas.{pivot_rising}
-use Rattle.path_rules.specs.Columns.{x_at, Basis, columns, right_at, scale_at}
-use Rattle.path_rules.specs.Lexicographic.{IsBefore, IsRising}
-use Rattle.path_rules.specs.LinearProgram.{LinearProgram}
-use Rattle.path_rules.specs.Path.{Reaches}
-use Rattle.path_rules.specs.Pivots.{IsPivoted, HasPivot, first_kind, second_kind, IsFirstKind}
-use Rattle.path_rules.specs.Pivots.{IsLeaving, IsEntering}
-use Rattle.path_rules.specs.Tableau.{IsTableau, IsRowOf}
-use Rattle.path_rules.specs.Vectors.{gain}
+use Rattle.flow_rules.specs.Columns.{x_at, Basis, columns, right_at, scale_at}
+use Rattle.flow_rules.specs.Lexicographic.{IsBefore, IsRising}
+use Rattle.flow_rules.specs.LinearProgram.{LinearProgram}
+use Rattle.flow_rules.specs.Path.{Reaches}
+use Rattle.flow_rules.specs.Pivots.{IsPivoted, HasPivot, first_kind, second_kind, IsFirstKind}
+use Rattle.flow_rules.specs.Pivots.{IsLeaving, IsEntering}
+use Rattle.flow_rules.specs.Tableau.{IsTableau, IsRowOf}
+use Rattle.flow_rules.specs.Vectors.{gain}
 use Rattle.path_laws.proofs.BoolLemmas.{bool_cases}
 
 module _ (p : LinearProgram) (n : ℕ) (b b' : Basis) (T T' : ℕ → ℕ → ℤ) (l e : ℕ)

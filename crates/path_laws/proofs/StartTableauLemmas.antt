@@ -3,9 +3,9 @@ use Rattle.std.proofs.Common.{◌≡◌, ◌≢◌, ℕ, suc, ◌+◌, ◌-◌, 
 use Rattle.std.proofs.Common.{cond, arith, refl, ap, ◌∙◌}
 use Rattle.std.specs.Prelude.{ℤ, pos, ◌-ℤ◌, neg_ℤ, nat_lt, nat_eq}
 use Rattle.std.proofs.lemmas.Bool.Decides.{eqb_tells, leb_tells}
-use Rattle.path_rules.specs.LinearProgram.{LinearProgram, low_flow}
-use Rattle.path_rules.specs.Columns.{Has, x_at, s_at, t_at, w_at, right_at, scale_at, start}
-use Rattle.path_rules.specs.Start.{one_at, IsStart}
+use Rattle.flow_rules.specs.LinearProgram.{LinearProgram, low_flow}
+use Rattle.flow_rules.specs.Columns.{Has, x_at, s_at, t_at, w_at, right_at, scale_at, start}
+use Rattle.flow_rules.specs.Start.{one_at, IsStart}
 use Rattle.path_laws.proofs.StartBasisLemmas.{start-has}
 use Rattle.path_laws.proofs.CanonicalLemmas.{canonical, canonical-at}
 

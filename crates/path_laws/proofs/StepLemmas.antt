@@ -7,14 +7,13 @@ use Rattle.std.specs.Int.{◌∣◌}
 use Rattle.std.proofs.lemmas.Int.{ints, unsigned_abs-mul}
 use Rattle.std.proofs.lemmas.Bool.Decides.{eqb_tells, leb_tells}
 use Rattle.std.proofs.Math.Nat.{dvd-mul_right}
-use Rattle.integer_laws.proofs.Ring.{V, ◌⊖◌, ◌⊗◌, ring}
-use Rattle.integer_laws.proofs.Order.{mul_pos, pos_of-mul, cancel}
-use Rattle.int_rows.proofs.Division.{quotient_exact}
-use Rattle.path_rules.specs.LinearProgram.{LinearProgram}
-use Rattle.path_rules.specs.Columns.{Basis, Has, scale_at, exchanged}
-use Rattle.path_rules.specs.Equations.{IsCombination}
-use Rattle.path_rules.specs.Tableau.{IsRowOf, IsTableau}
-use Rattle.path_rules.specs.Pivots.{HasPivot, IsCombined, IsPivoted}
+use Rattle.flow_rules.proofs.integer_laws.Cited.{V, ◌⊖◌, ◌⊗◌, ring, mul_pos, pos_of-mul, cancel}
+use Rattle.exact_numbers.proofs.Cited.{quotient_exact}
+use Rattle.flow_rules.specs.LinearProgram.{LinearProgram}
+use Rattle.flow_rules.specs.Columns.{Basis, Has, scale_at, exchanged}
+use Rattle.flow_rules.specs.Equations.{IsCombination}
+use Rattle.flow_rules.specs.Tableau.{IsRowOf, IsTableau}
+use Rattle.flow_rules.specs.Pivots.{HasPivot, IsCombined, IsPivoted}
 use Rattle.path_laws.proofs.CombinationLemmas.{Mixes, mixed}
 use Rattle.path_laws.proofs.PivotLemmas.{exchanged-in, exchanged-out, exchanged-other, IsTurn}
 use Rattle.path_laws.proofs.PivotLemmas.{turn_of}

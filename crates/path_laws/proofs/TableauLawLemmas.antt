@@ -1,7 +1,7 @@
 -- The laws, in the words of their statements.
 use Rattle.std.proofs.Common.{◌≡◌, ◌≢◌, ℕ, ◌<◌, ◌≤◌, true, false, arith, ap, sym, ◌∙◌}
-use Rattle.path_rules.specs.LinearProgram.{LinearProgram}
-use Rattle.path_rules.specs.Columns.{columns, scale_at}
+use Rattle.flow_rules.specs.LinearProgram.{LinearProgram}
+use Rattle.flow_rules.specs.Columns.{columns, scale_at}
 use Rattle.path_laws.specs.TableauLaws.{TableauIsOne, StartIsTableau, StartIsComplete}
 use Rattle.path_laws.specs.TableauLaws.{PivotKeepsIndependence, PivotKeepsTableau}
 use Rattle.path_laws.specs.TableauLaws.{PivotKeepsSolutions}

@@ -7,13 +7,13 @@ use Rattle.std.proofs.lemmas.Int.{ints}
 use Rattle.std.proofs.Math.Path.{fun_ext}
 use Rattle.std.proofs.lemmas.Bool.{cases_order}
 use Rattle.std.proofs.lemmas.Bool.Decides.{eqb_tells}
-use Rattle.integer_laws.proofs.Ring.{V, ◌⊖◌, ◌⊗◌, ring}
-use Rattle.path_rules.specs.LinearProgram.{LinearProgram}
-use Rattle.path_rules.specs.Columns.{Basis, Has, x_at, columns, right_at, scale_at}
-use Rattle.path_rules.specs.Tableau.{IsTableau}
-use Rattle.path_rules.specs.Lexicographic.{IsRising}
-use Rattle.path_rules.specs.Vectors.{value_top, value_bottom}
-use Rattle.path_rules.specs.Path.{Reaches}
+use Rattle.flow_rules.proofs.integer_laws.Cited.{V, ◌⊖◌, ◌⊗◌, ring}
+use Rattle.flow_rules.specs.LinearProgram.{LinearProgram}
+use Rattle.flow_rules.specs.Columns.{Basis, Has, x_at, columns, right_at, scale_at}
+use Rattle.flow_rules.specs.Tableau.{IsTableau}
+use Rattle.flow_rules.specs.Lexicographic.{IsRising}
+use Rattle.flow_rules.specs.Vectors.{value_top, value_bottom}
+use Rattle.flow_rules.specs.Path.{Reaches}
 use Rattle.path_laws.proofs.BoolLemmas.{bool_cases}
 use Rattle.path_laws.specs.Phases.{IsFirstPhase, VectorsRise, ValuesRise}
 use Rattle.path_laws.proofs.LastLemmas.{agree, passes, same_basis}

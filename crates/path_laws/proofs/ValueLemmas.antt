@@ -6,16 +6,17 @@ use Rattle.std.specs.Prelude.{unsigned_abs}
 use Rattle.std.proofs.lemmas.Int.{ints}
 use Rattle.std.proofs.lemmas.Bool.Decides.{eqb_tells}
 use Rattle.std.proofs.Math.Nat.{div-le_of_le-mul, mul-le-mul}
-use Rattle.integer_laws.proofs.Order.{mul_pos}
-use Rattle.integer_laws.proofs.Ring.{V, ◌⊕◌, ◌⊖◌, ◌⊗◌, Neg, ring, read_equal, read_lt, read_le}
+use Rattle.flow_rules.proofs.integer_laws.Cited.{mul_pos, V, ◌⊕◌, ◌⊖◌, ◌⊗◌, Neg, ring, read_equal}
+use Rattle.flow_rules.proofs.integer_laws.Cited.{read_lt}
+use Rattle.flow_rules.proofs.integer_laws.Cited.{read_le}
 use Rattle.path_laws.proofs.RankLemmas.{number_less, digit_same, digit_less}
 use Rattle.path_laws.proofs.RisingLemmas.{rising_scaled₂}
 use Rattle.path_laws.proofs.VectorLemmas.{gain-basic, gain-other, gain-own, IsNegated, one_pos}
-use Rattle.path_rules.specs.Columns.{Basis, Has}
-use Rattle.path_rules.specs.Lexicographic.{IsRising}
-use Rattle.path_rules.specs.Pivots.{IsPivoted}
-use Rattle.path_rules.specs.Rank.{digit, rank, IsWithin}
-use Rattle.path_rules.specs.Vectors.{gain, value_top, value_bottom}
+use Rattle.flow_rules.specs.Columns.{Basis, Has}
+use Rattle.flow_rules.specs.Lexicographic.{IsRising}
+use Rattle.flow_rules.specs.Pivots.{IsPivoted}
+use Rattle.flow_rules.specs.Rank.{digit, rank, IsWithin}
+use Rattle.flow_rules.specs.Vectors.{gain, value_top, value_bottom}
 use Rattle.path_laws.proofs.BoolLemmas.{bool_cases}
 
 pub top-basic : (b : Basis) (T : ℕ → ℕ → ℤ) (s r k : ℕ) → Has b k

@@ -2,8 +2,8 @@
 use Rattle.std.proofs.Common.{◌≡◌, ℕ, zero, suc, ◌<◌, ◌≤◌, inl, inr, arith, sym, subst}
 use Rattle.std.specs.Prelude.{ℤ, pos, negsuc, ◌+ℤ◌, neg_ℤ, ◌<ℤ◌, ◌≤ℤ◌, unsigned_abs}
 use Rattle.std.proofs.lemmas.Int.{ints}
-use Rattle.path_rules.specs.Columns.{columns, right_at, scale_at}
-use Rattle.path_rules.specs.Vectors.{value_top, value_bottom}
+use Rattle.flow_rules.specs.Columns.{columns, right_at, scale_at}
+use Rattle.flow_rules.specs.Vectors.{value_top, value_bottom}
 use Rattle.path_laws.proofs.BoolLemmas.{bool_cases}
 use Rattle.path_laws.proofs.PathLemmas.{IsSound, reaches_sound}
 use Rattle.path_laws.proofs.ValueLemmas.{top-basic, top-outside, bottom-basic, bottom-outside}

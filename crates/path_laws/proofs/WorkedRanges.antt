@@ -6,17 +6,17 @@ use Rattle.std.proofs.Common.{subst, [], ◌∷◌}
 use Rattle.std.specs.Prelude.{ℤ, pos, ◌-ℤ◌, ◌*ℤ◌, neg_ℤ, ◌<ℤ◌, ◌≤ℤ◌, None}
 use Rattle.std.proofs.lemmas.Int.{ints}
 use Rattle.std.proofs.Math.Nat.{eq-one_of_dvd-one}
-use Rattle.integer_laws.proofs.Ring.{one-mul_z}
-use Rattle.integer_laws.specs.Combined.{past_of}
-use Rattle.path_rules.specs.LinearProgram.{LinearProgram}
-use Rattle.path_rules.specs.Columns.{Basis, Has, start, exchanged}
-use Rattle.path_rules.specs.Tableau.{IsTableau, IsPrimitive}
-use Rattle.path_rules.specs.Lexicographic.{IsBefore}
-use Rattle.path_rules.specs.Vectors.{gain}
-use Rattle.path_rules.specs.Pivots.{second_kind, HasPivot, IsLeaving, IsEntering, IsFeasible}
-use Rattle.path_rules.specs.Pivots.{IsCombined, IsPivoted}
-use Rattle.path_rules.specs.Path.{Fits, Follows, IsLast}
-use Rattle.path_rules.specs.Multipliers.{multipliers}
+use Rattle.flow_rules.proofs.integer_laws.Cited.{one-mul_z}
+use Rattle.flow_rules.specs.integer_laws.Combined.{past_of}
+use Rattle.flow_rules.specs.LinearProgram.{LinearProgram}
+use Rattle.flow_rules.specs.Columns.{Basis, Has, start, exchanged}
+use Rattle.flow_rules.specs.Tableau.{IsTableau, IsPrimitive}
+use Rattle.flow_rules.specs.Lexicographic.{IsBefore}
+use Rattle.flow_rules.specs.Vectors.{gain}
+use Rattle.flow_rules.specs.Pivots.{second_kind, HasPivot, IsLeaving, IsEntering, IsFeasible}
+use Rattle.flow_rules.specs.Pivots.{IsCombined, IsPivoted}
+use Rattle.flow_rules.specs.Path.{Fits, Follows, IsLast}
+use Rattle.flow_rules.specs.Multipliers.{multipliers}
 use Rattle.path_laws.proofs.PivotLemmas.{exchanged-other}
 use Rattle.path_laws.proofs.StartLemmas.{start_tableau}
 use Rattle.path_laws.proofs.TableauLawLemmas.{pivot_keeps_tableau}

@@ -1,15 +1,15 @@
 -- Laws of what is read off at the end of a path, each the contract of a public function of this
 -- crate. Costs and bounds over different denominators are compared by cross products.
 use Rattle.std.specs.Prelude.{◌≡◌, ℕ, ℤ, pos, ◌*ℤ◌, ◌≤ℤ◌, List}
-use Rattle.problem_rules.specs.Problem.{Problem}
-use Rattle.problem_rules.specs.Validity.{IsValid}
-use Rattle.pns_rules.specs.Nodes.{Node}
+use Rattle.flow_rules.specs.problem_rules.Problem.{Problem}
+use Rattle.flow_rules.specs.problem_rules.Validity.{IsValid}
+use Rattle.flow_rules.specs.pns_rules.Nodes.{Node}
 use Rattle.flow_rules.specs.Net.{net_of, beside}
 use Rattle.flow_rules.specs.Flows.{IsFlows, cost}
 use Rattle.flow_rules.specs.Relaxed.{IsRelaxed, relaxed_cost, bound, Refutes, units, rows}
-use Rattle.path_rules.specs.LinearProgram.{linear}
-use Rattle.path_rules.specs.Columns.{Basis}
-use Rattle.path_rules.specs.ReadFlows.{AreRead}
+use Rattle.flow_rules.specs.LinearProgram.{linear}
+use Rattle.flow_rules.specs.Columns.{Basis}
+use Rattle.flow_rules.specs.ReadFlows.{AreRead}
 use Rattle.path_laws.specs.Ends.{EndsLeast, EndsNone, IsSplit}
 
 -- ---- least flows

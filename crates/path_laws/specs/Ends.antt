@@ -1,13 +1,13 @@
 -- The tableau of a basis of the path of a node's program, and what is read off it.
 use Rattle.std.specs.Prelude.{◌≡◌, ℕ, ◌<◌, not, ℤ, List}
-use Rattle.pns_rules.specs.Nodes.{Node}
+use Rattle.flow_rules.specs.pns_rules.Nodes.{Node}
 use Rattle.flow_rules.specs.Net.{Net}
-use Rattle.path_rules.specs.LinearProgram.{linear}
-use Rattle.path_rules.specs.Columns.{Basis, scale_at}
-use Rattle.path_rules.specs.Tableau.{IsTableau}
-use Rattle.path_rules.specs.Pivots.{IsFeasible, IsRefuting}
-use Rattle.path_rules.specs.Path.{Reaches}
-use Rattle.path_rules.specs.Multipliers.{AreMultipliers, AreRefuting}
+use Rattle.flow_rules.specs.LinearProgram.{linear}
+use Rattle.flow_rules.specs.Columns.{Basis, scale_at}
+use Rattle.flow_rules.specs.Tableau.{IsTableau}
+use Rattle.flow_rules.specs.Pivots.{IsFeasible, IsRefuting}
+use Rattle.flow_rules.specs.Path.{Reaches}
+use Rattle.flow_rules.specs.Multipliers.{AreMultipliers, AreRefuting}
 
 -- T is the tableau of a basis of the path
 pub record IsOnPath (net : Net) (n : Node) (b : Basis) (T : ℕ → ℕ → ℤ) : Type 0 where

@@ -1,17 +1,17 @@
 -- Laws of the path of a linear program with ranges, each the contract of a public function of this
 -- crate. T, T' and U are tableaux: rows, one for each column.
 use Rattle.std.specs.Prelude.{◌≡◌, ◌≢◌, ℕ, suc, ◌+◌, ◌<◌, ◌≤◌, false, ℤ, pos, ◌*ℤ◌, ◌≤ℤ◌, ◌<ℤ◌}
-use Rattle.integer_laws.specs.declared.which.Which.{Which}
-use Rattle.path_rules.specs.LinearProgram.{LinearProgram}
-use Rattle.path_rules.specs.Columns.{Basis, Has, x_at, s_at, columns, right_at, scale_at, start}
-use Rattle.path_rules.specs.Tableau.{IsPrimitive, IsTableau}
-use Rattle.path_rules.specs.Lexicographic.{IsBefore}
-use Rattle.path_rules.specs.Vectors.{gain, value_top, value_bottom}
-use Rattle.path_rules.specs.Pivots.{IsFirstKind, HasPivot, IsFeasible, IsRefuting, IsPivoted}
-use Rattle.path_rules.specs.Path.{Follows, Reaches, IsLast}
-use Rattle.path_rules.specs.Places.{IsPastPivot}
-use Rattle.path_rules.specs.Start.{IsStart}
-use Rattle.path_rules.specs.Rank.{rank, IsWithin}
+use Rattle.flow_rules.specs.integer_laws.declared.which.Which.{Which}
+use Rattle.flow_rules.specs.LinearProgram.{LinearProgram}
+use Rattle.flow_rules.specs.Columns.{Basis, Has, x_at, s_at, columns, right_at, scale_at, start}
+use Rattle.flow_rules.specs.Tableau.{IsPrimitive, IsTableau}
+use Rattle.flow_rules.specs.Lexicographic.{IsBefore}
+use Rattle.flow_rules.specs.Vectors.{gain, value_top, value_bottom}
+use Rattle.flow_rules.specs.Pivots.{IsFirstKind, HasPivot, IsFeasible, IsRefuting, IsPivoted}
+use Rattle.flow_rules.specs.Path.{Follows, Reaches, IsLast}
+use Rattle.flow_rules.specs.Places.{IsPastPivot}
+use Rattle.flow_rules.specs.Start.{IsStart}
+use Rattle.flow_rules.specs.Rank.{rank, IsWithin}
 use Rattle.path_laws.specs.Phases.{IsFirstPhase, VectorsRise, ValuesRise, IsExchange}
 
 -- ---- one path

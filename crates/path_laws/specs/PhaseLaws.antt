@@ -1,12 +1,12 @@
 -- Laws of the bases along the path, each the contract of a public function of this crate. T is a
 -- tableau.
 use Rattle.std.specs.Prelude.{◌≡◌, ℕ, ◌<◌, ℤ, pos, ◌≤ℤ◌, ◌<ℤ◌}
-use Rattle.path_rules.specs.LinearProgram.{LinearProgram}
-use Rattle.path_rules.specs.Columns.{Basis, x_at, scale_at}
-use Rattle.path_rules.specs.Tableau.{IsTableau, IsComplete}
-use Rattle.path_rules.specs.Pivots.{IsFirstKind}
-use Rattle.path_rules.specs.Path.{Reaches}
-use Rattle.path_rules.specs.Start.{IsStart}
+use Rattle.flow_rules.specs.LinearProgram.{LinearProgram}
+use Rattle.flow_rules.specs.Columns.{Basis, x_at, scale_at}
+use Rattle.flow_rules.specs.Tableau.{IsTableau, IsComplete}
+use Rattle.flow_rules.specs.Pivots.{IsFirstKind}
+use Rattle.flow_rules.specs.Path.{Reaches}
+use Rattle.flow_rules.specs.Start.{IsStart}
 
 -- the start has its rows
 abbrev pub StartHasRows : Type 0

@@ -2,15 +2,15 @@
 -- their rows are. After them: the vector of each column outside the basis rises.
 use Rattle.std.specs.Prelude.{◌≡◌, ◌≢◌, ℕ, suc, ◌<◌, ◌≤◌, ◌⊎◌, false, ℤ, pos, ◌-ℤ◌, ◌*ℤ◌, neg_ℤ}
 use Rattle.std.specs.Prelude.{◌<ℤ◌, ◌≤ℤ◌}
-use Rattle.path_rules.specs.LinearProgram.{LinearProgram}
-use Rattle.path_rules.specs.Columns.{Basis, Has, x_at, s_at, t_at, w_at, columns, right_at}
-use Rattle.path_rules.specs.Columns.{scale_at, exchanged}
-use Rattle.path_rules.specs.Tableau.{IsPrimitive}
-use Rattle.path_rules.specs.Lexicographic.{IsRising}
-use Rattle.path_rules.specs.Vectors.{gain, value_top, value_bottom}
-use Rattle.path_rules.specs.Pivots.{HasPivot, IsPivoted}
-use Rattle.path_rules.specs.Path.{Fits}
-use Rattle.path_rules.specs.Start.{one_at}
+use Rattle.flow_rules.specs.LinearProgram.{LinearProgram}
+use Rattle.flow_rules.specs.Columns.{Basis, Has, x_at, s_at, t_at, w_at, columns, right_at}
+use Rattle.flow_rules.specs.Columns.{scale_at, exchanged}
+use Rattle.flow_rules.specs.Tableau.{IsPrimitive}
+use Rattle.flow_rules.specs.Lexicographic.{IsRising}
+use Rattle.flow_rules.specs.Vectors.{gain, value_top, value_bottom}
+use Rattle.flow_rules.specs.Pivots.{HasPivot, IsPivoted}
+use Rattle.flow_rules.specs.Path.{Fits}
+use Rattle.flow_rules.specs.Start.{one_at}
 
 -- ---- the first phase
 

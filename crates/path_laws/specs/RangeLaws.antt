@@ -1,15 +1,15 @@
 -- Laws of rows as lists of numbers in range, each the contract of a public function of this crate.
 use Rattle.std.specs.Prelude.{◌≡◌, ◌≢◌, ℕ, suc, ◌+◌, ◌*◌, ◌^◌, ◌<◌, ◌≤◌, ℤ, pos, ◌-ℤ◌, ◌<ℤ◌}
 use Rattle.std.specs.Prelude.{unsigned_abs, List, length, slice_index_or}
-use Rattle.integer_laws.specs.Combined as rows
+use Rattle.flow_rules.specs.integer_laws.Combined as rows
 use Rattle.flow_rules.specs.Program.{Program, IsProgram}
-use Rattle.path_rules.specs.LinearProgram.{LinearProgram, linear_of, low_flow}
-use Rattle.path_rules.specs.Columns.{Basis, Has, x_at, s_at, columns, right_at, scale_at}
-use Rattle.path_rules.specs.Tableau.{IsPrimitive, IsTableau}
-use Rattle.path_rules.specs.Vectors.{value_top, value_bottom}
-use Rattle.path_rules.specs.Pivots.{IsFirstKind, IsCombined}
-use Rattle.path_rules.specs.Path.{Fits, Reaches}
-use Rattle.path_rules.specs.Rank.{IsWithin}
+use Rattle.flow_rules.specs.LinearProgram.{LinearProgram, linear_of, low_flow}
+use Rattle.flow_rules.specs.Columns.{Basis, Has, x_at, s_at, columns, right_at, scale_at}
+use Rattle.flow_rules.specs.Tableau.{IsPrimitive, IsTableau}
+use Rattle.flow_rules.specs.Vectors.{value_top, value_bottom}
+use Rattle.flow_rules.specs.Pivots.{IsFirstKind, IsCombined}
+use Rattle.flow_rules.specs.Path.{Fits, Reaches}
+use Rattle.flow_rules.specs.Rank.{IsWithin}
 
 -- an entry of a row; 0 after its end
 abbrev pub entry : List ℤ → ℕ → ℤ

@@ -1,11 +1,11 @@
 -- Laws of tableaux, each the contract of a public function of this crate. Each holds for every
 -- linear program with ranges. T and T' are rows, one for each column.
 use Rattle.std.specs.Prelude.{◌≡◌, ◌≢◌, ℕ, suc, ◌≤◌, ℤ}
-use Rattle.path_rules.specs.LinearProgram.{LinearProgram}
-use Rattle.path_rules.specs.Columns.{Basis, Has, scale_at, start, exchanged}
-use Rattle.path_rules.specs.Tableau.{IsIndependent, IsPrimitive, IsTableau, IsComplete}
-use Rattle.path_rules.specs.Pivots.{HasPivot, IsPivoted}
-use Rattle.path_rules.specs.Start.{IsStart}
+use Rattle.flow_rules.specs.LinearProgram.{LinearProgram}
+use Rattle.flow_rules.specs.Columns.{Basis, Has, scale_at, start, exchanged}
+use Rattle.flow_rules.specs.Tableau.{IsIndependent, IsPrimitive, IsTableau, IsComplete}
+use Rattle.flow_rules.specs.Pivots.{HasPivot, IsPivoted}
+use Rattle.flow_rules.specs.Start.{IsStart}
 
 -- a basis has at most one tableau
 abbrev pub TableauIsOne : Type 0

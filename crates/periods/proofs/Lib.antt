@@ -1,0 +1,6 @@
+mod DesignsTaken
+mod Places
+mod Resumed
+mod Taken
+mod Valid
+mod Whole

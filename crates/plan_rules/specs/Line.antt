@@ -5,10 +5,10 @@
 use Rattle.std.specs.Prelude.{ℕ, ℤ, List, [], ◌∷◌, codes, Option, Some, None, Result, Ok, Err}
 use Rattle.std.specs.Prelude.{if◌then◌else◌}
 use Rattle.std.specs.Str.{bytes_eq}
-use Rattle.script_rules.specs.declared.EditKind.{EditKind}
-use Rattle.script_rules.specs.declared.EditKind.TheVariants as script
-use Rattle.script_rules.specs.Line.{tokens_of}
-use Rattle.script_rules.specs.Read.{amount_read, bounds_read}
+use Rattle.edit_rules.specs.declared.EditKind.{EditKind}
+use Rattle.edit_rules.specs.declared.EditKind.TheVariants as script
+use Rattle.edit_rules.specs.Line.{tokens_of}
+use Rattle.edit_rules.specs.Read.{amount_read, bounds_read}
 use Rattle.plan_rules.specs.declared.PlanKind.{PlanKind}
 use Rattle.plan_rules.specs.declared.PlanKind.TheVariants.{BadLine, BadName, BadNumber, TooFine}
 use Rattle.plan_rules.specs.declared.PlanKind.TheVariants.{TooLarge, Sign}

@@ -3,9 +3,9 @@
 -- too many.
 use Rattle.std.specs.Prelude.{◌==◌, ◌+◌, ℕ, suc, List, [], ◌∷◌, length, map, Option, Some, None}
 use Rattle.std.specs.Prelude.{Result, Ok, Err, int_lt, slice_set, if◌then◌else◌}
-use Rattle.problem_rules.specs.Problem.{Problem, Material}
+use Rattle.edit_rules.specs.problem_rules.Problem.{Problem, Material}
 use Rattle.edit_rules.specs.Place.{has_material, material_place}
-use Rattle.script_rules.specs.Line.{script_lines}
+use Rattle.edit_rules.specs.Line.{script_lines}
 use Rattle.plan_rules.specs.declared.PlanKind.{PlanKind}
 use Rattle.plan_rules.specs.declared.PlanKind.TheVariants.{UnknownName, LowAboveHigh, NoPeriod}
 use Rattle.plan_rules.specs.declared.PlanKind.TheVariants.{TooWide}

@@ -5,8 +5,8 @@
 use Rattle.std.specs.Prelude.{◌+◌, ◌++◌, ℕ, Bool, true, false, List, [], ◌∷◌, Result, Ok, Err}
 use Rattle.std.specs.Prelude.{if◌then◌else◌}
 use Rattle.std.specs.Str.{bytes_eq}
-use Rattle.problem_rules.specs.Names.{is_among}
-use Rattle.script_rules.specs.Line.{script_lines}
+use Rattle.edit_rules.specs.problem_rules.Names.{is_among}
+use Rattle.edit_rules.specs.Line.{script_lines}
 use Rattle.plan_rules.specs.declared.PlanKind.{PlanKind}
 use Rattle.plan_rules.specs.declared.PlanKind.TheVariants.{FileType, BadLine, DoubleLine}
 use Rattle.plan_rules.specs.Line.{file_type, Entry, begins, price, bounds, line_read}

@@ -12,7 +12,7 @@ pub struct Outputs<K: Sink, E: Sink> {
 }
 
 impl<K: Sink, E: Sink> Model for Outputs<K, E> {
-    ghost use Rattle.io_rules.specs.State.{OutputsState};
+    ghost use Rattle.text_rules.specs.State.{OutputsState};
 
     ghost Value = { OutputsState };
 

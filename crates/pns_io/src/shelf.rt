@@ -1,7 +1,7 @@
 //! A shelf holds files by name.
 ghost use Rattle.std.specs.Prelude.{◌≡◌, ◌≤◌, ◌^◌, List, ℕ, length, IfOk, OnErr};
 ghost use Rattle.text_rules.specs.Outside.{HasRisen, ReadsAt, IfTold};
-ghost use Rattle.io_rules.specs.State.{ShelfState};
+ghost use Rattle.text_rules.specs.State.{ShelfState};
 
 use crate::Failed;
 

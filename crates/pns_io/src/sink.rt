@@ -2,7 +2,7 @@
 ghost use Rattle.std.specs.Prelude.{◌≤◌, OnOk, OnErr};
 ghost use Rattle.std.specs.Io.KnownBytes.{Appends};
 ghost use Rattle.text_rules.specs.Outside.{HasRisen, AppendsFront, last_count};
-ghost use Rattle.io_rules.specs.State.{SinkState};
+ghost use Rattle.text_rules.specs.State.{SinkState};
 
 use crate::Failed;
 

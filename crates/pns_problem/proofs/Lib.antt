@@ -1,9 +1,15 @@
 pub mod CanonicalLemmas
+pub mod Cited
+pub mod DrawLemmas
+pub mod Examples
+pub mod GeneratorNameLemmas
 pub mod Judging
 pub mod MarkLemmas
 pub mod MemoryLemmas
 pub mod NameLemmas
 pub mod Printed
 pub mod PrintingLemmas
+pub mod RangeLemmas
 pub mod SettingLemmas
+pub mod ValidLemmas
 pub mod WorkedTexts

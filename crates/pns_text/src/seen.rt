@@ -1,6 +1,6 @@
 //! What was seen on the lines before a line, and the form of the line given that.
 ghost use Rattle.std.specs.Prelude.{◌≡◌, IfOk, IfErr, None, OnOk, false};
-ghost use Rattle.text_rules.specs.Fault.{seen_none, header_fault, skipped_fault};
+ghost use Rattle.text_lines.specs.text_rules.Fault.{seen_none, header_fault, skipped_fault};
 ghost use Rattle.text_lines.specs.View.{texts};
 ghost use Rattle.pns_text.specs.Fault.{TellsKind};
 ghost use Rattle.pns_text.specs.Cut.{Takes};
@@ -22,7 +22,7 @@ use text_lines::name::is_among;
 use text_lines::name_set::NameSet;
 use text_lines::section::section_named;
 use text_lines::term::sides_of;
-use text_rules::{Section, TextKind};
+use text_lines::{Section, TextKind};
 
 /// A line, counted from 1, with the section that it is in or begins.
 #[derive(Clone, Copy)]

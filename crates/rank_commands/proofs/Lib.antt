@@ -1,1 +1,4 @@
 pub mod Best
+mod DistinctLists
+mod Marks
+pub mod Rankings

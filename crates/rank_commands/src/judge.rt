@@ -1,40 +1,23 @@
 //! The command `rankcheck`.
 ghost use Rattle.std.specs.Prelude.{◌≡◌, ◌<◌, ◌^◌, IfOk, length, string_bytes};
-ghost use Rattle.studio_rules.specs.Lines.{line};
-ghost use Rattle.studio_rules.specs.RankWords.{network_line, rank_node_line};
-ghost use Rattle.studio_rules.specs.Reading.{TwoFilesSay};
-ghost use Rattle.studio_rules.specs.Rankcheck.{RankcheckWork, OnRank, FilesListBest};
-ghost use Rattle.studio_rules.specs.Rankcheck.{AcceptedAreBest};
-ghost use Rattle.studio_rules.specs.Ending.{Ends, Says, Tells, Only, OrMemory};
-ghost use Rattle.studio_rules.specs.Keeps.{Keeps};
-ghost use Rattle.studio_rules.specs.declared.status.Status.TheVariants.{Done, Refused};
+ghost use Rattle.searches.specs.studio_rules.Lines.{line};
+ghost use Rattle.searches.specs.studio_rules.RankWords.{network_line, rank_node_line};
+ghost use Rattle.searches.specs.studio_rules.Reading.{TwoFilesSay};
+ghost use Rattle.searches.specs.studio_rules.Rankcheck.{RankcheckWork, OnRank, FilesListBest};
+ghost use Rattle.searches.specs.studio_rules.Rankcheck.{AcceptedAreBest};
+ghost use Rattle.searches.specs.studio_rules.Ending.{Ends, Says, Tells, Only, OrMemory};
+ghost use Rattle.searches.specs.studio_rules.Keeps.{Keeps};
+ghost use Rattle.searches.specs.studio_rules.declared.status.Status.TheVariants.{Done, Refused};
 
 use crate::rank_file::rank_of;
-use crate::words::rank_why_word;
-use command_files::problem_of;
-use endings::say::{say, say_memory};
-use pgraph::{Graph, Site};
-use pns_io::{Outputs, Shelf, Sink};
-use pns_problem::Problem;
-use rank_check::{RankRefusal, check_rank};
-use rank_laws::{alternatives_are_right, listed_are_least, others_are_no_better};
-use rank_rules::RankWhy;
-use rank_text::read_ranks_are_spelled;
-use ranked_tree::RankText;
+use rank_text::{
+    Graph, Outputs, Problem, RankRefusal, RankText, RankWhy, Shelf, Sink, Site,
+    alternatives_are_right, check_rank, listed_are_least, others_are_no_better,
+    read_ranks_are_spelled,
+};
+use searches::say::{say, say_memory};
+use searches::{Status, network_line, problem_of, rank_why_word};
 use std::alloc::{AllocError, Global};
-use studio_rules::Status;
-
-/// The line on a network that fails.
-pub fn network_line(alloc: Global, number: u32, why: RankWhy) -> Result<String, AllocError>
-    ensures { IfOk result (λ text. string_bytes text ≡ line (network_line number why)) }
-{
-    let mut text = String::from_str(alloc, "refused network ")?;
-    write!(text, "{number}")?;
-    text.push(' ')?;
-    text.push_str(rank_why_word(why))?;
-    text.push('\n')?;
-    Ok(text)
-}
 
 fn node_line(alloc: Global, node: u32, why: RankWhy) -> Result<String, AllocError>
     ensures { IfOk result (λ text. string_bytes text ≡ line (rank_node_line node why)) }

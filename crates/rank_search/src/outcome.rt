@@ -1,5 +1,5 @@
 //! What a search for the best networks finds.
-use ranked_tree::RankText;
+use rank_check::RankText;
 
 /// What a search for the best networks finds.
 #[derive(Drop)]

@@ -1,1 +1,3 @@
+mod HeadLemmas
+mod Shown
 mod Works

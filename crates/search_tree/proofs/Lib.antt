@@ -1,7 +1,23 @@
+pub mod BelowLemmas
+pub mod Cited
 pub mod CountLemmas
+pub mod FractionLemmas
+pub mod GrowLemmas
 pub mod GrowthLemmas
+pub mod KeptLemmas
+pub mod LeanLemmas
+pub mod LinkLemmas
+pub mod MonotoneLemmas
+pub mod NumberLemmas
+pub mod OrderLemmas
 pub mod PassLemmas
+pub mod ReducedLemmas
 pub mod RunLemmas
-pub mod TreeLemmas
-pub mod WalkLemmas
 pub mod ShutLemmas
+pub mod SoundLemmas
+pub mod SpentLemmas
+pub mod StepLemmas
+pub mod TreeLemmas
+pub mod ValueLemmas
+pub mod WalkLemmas
+pub use Rattle.tree_laws.proofs as tree_laws

@@ -1,10 +1,9 @@
 //! What is printed for people of a search that stopped.
 ghost use Rattle.std.specs.Prelude.{◌≡◌};
 
-use branch_tree::{Claim, Network, Tail};
-use decimals::push_six_digits;
-use messages::{Notes, Stop, not_finished};
-use pns_problem::Problem;
+use command_files::{Notes, Stop, not_finished};
+use headed_search::{Claim, Network, Problem, Tail};
+use report_amounts::push_six_digits;
 use std::alloc::{AllocError, Global};
 
 // The cost of the network in one year, with 6 digits.

@@ -1,7 +1,7 @@
 //! The positions that are still to be searched.
 ghost use Rattle.std.specs.Prelude.{◌≡◌, ◌<◌, ◌++◌, ◌∷◌, [], length, IfSome, IfNone};
 
-use decisions::Position;
+use crate::Position;
 use std::marker::Model;
 
 /// A stack of positions that takes no memory of its own. Contracts see it as the list of its
@@ -14,7 +14,7 @@ pub(crate) struct Stack {
 
 impl Model for Stack {
     ghost use Rattle.std.specs.Prelude.{List, ◌≤◌, take};
-    ghost use Rattle.decisions.specs.declared.position.Position.{Position};
+    ghost use Rattle.structure_list.specs.declared.position.Position.{Position};
 
     ghost Value = { List Position };
 

@@ -1,12 +1,12 @@
 -- `json FILE TREE`: what the tree proves of its claim, and the facts of the network of the claim,
 -- as one JSON object for programs. With a head it has neither a lower bound nor a gap.
 use Rattle.std.specs.Prelude.{◌≡◌, ℕ, List, [], ◌∷◌, codes, decimal}
-use Rattle.problem_rules.specs.Problem.{Problem}
-use Rattle.tree_rules.specs.declared.why.Why.{Why}
-use Rattle.tree_rules.specs.Claim.{Claim, network, infeasible, unknown, ClaimFails}
-use Rattle.tree_rules.specs.Accepted.{Tree}
-use Rattle.head_rules.specs.Head.{HeadLine}
-use Rattle.tree_text_rules.specs.Read.{HeadedCertificate}
+use Rattle.report_rules.specs.problem_rules.Problem.{Problem}
+use Rattle.report_rules.specs.tree_rules.declared.why.Why.{Why}
+use Rattle.report_rules.specs.tree_rules.Claim.{Claim, network, infeasible, unknown, ClaimFails}
+use Rattle.report_rules.specs.tree_rules.Accepted.{Tree}
+use Rattle.report_rules.specs.tree_rules.Head.{HeadLine}
+use Rattle.report_rules.specs.tree_text_rules.Read.{HeadedCertificate}
 use Rattle.report_rules.specs.declared.verdict.Verdict.{Verdict}
 use Rattle.report_rules.specs.declared.verdict.Verdict.TheVariants.{Proved, Unfinished, Fails}
 use Rattle.report_rules.specs.Verdict.{IsVerdict}
@@ -14,9 +14,9 @@ use Rattle.report_rules.specs.declared.headed_verdict.HeadedVerdict.{HeadedVerdi
 use Rattle.report_rules.specs.declared.headed_verdict.HeadedVerdict.TheVariants as headed
 use Rattle.report_rules.specs.HeadedVerdict.{is_plain, IsHeadedVerdict}
 use Rattle.report_rules.specs.Marginal.{Marginals, AreClaimMarginals}
-use Rattle.json_rules.specs.Json.{quoted, null, member}
-use Rattle.json_rules.specs.Facts.{text_member, fact_lines, bare_lines}
-use Rattle.json_rules.specs.Lower.{low_json, gap_json}
+use Rattle.report_rules.specs.Json.{quoted, null, member}
+use Rattle.report_rules.specs.Facts.{text_member, fact_lines, bare_lines}
+use Rattle.report_rules.specs.JsonLower.{low_json, gap_json}
 use Rattle.studio_rules.specs.RefusalWords.{why_word, line_word, claim_line}
 use Rattle.studio_rules.specs.declared.status.Status.{Status}
 use Rattle.studio_rules.specs.declared.status.Status.TheVariants.{Done, BadClaim}

@@ -7,11 +7,9 @@ pub mod Check
 pub mod Code
 pub mod Command
 pub mod DesignText
-pub mod EditPages
 pub mod Edits
 pub mod Ending
 pub mod Expand
-pub mod FlowPages
 pub mod Flows
 pub mod Graph
 pub mod HeadedFile
@@ -31,26 +29,20 @@ pub mod PageLines
 pub mod Pages
 pub mod Part
 pub mod PartFile
-pub mod PartPages
 pub mod Periods
 pub mod Plan
-pub mod PlanPages
 pub mod Printed
-pub mod ProgramPages
 pub mod Rank
 pub mod RangesJson
 pub mod RankGraph
 pub mod RankJson
-pub mod RankPages
 pub mod RankReport
 pub mod RankWords
 pub mod Rankcheck
 pub mod Reading
 pub mod RefusalWords
 pub mod Report
-pub mod ReportPages
 pub mod Script
-pub mod SearchPages
 pub mod Seconds
 pub mod Show
 pub mod Solve
@@ -58,10 +50,13 @@ pub mod Split
 pub mod Stable
 pub mod StableTable
 pub mod Start
-pub mod StructurePages
 pub mod Summary
 pub mod Table
 pub mod TextFile
 pub mod TopicPages
 pub mod TreeFile
 pub mod Trial
+pub use Rattle.report_rules.specs.problem_rules as problem_rules
+pub use Rattle.report_rules.specs.text_rules as text_rules
+pub use Rattle.report_rules.specs.rank_rules as rank_rules
+pub use Rattle.report_rules.specs as report_rules

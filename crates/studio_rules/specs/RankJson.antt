@@ -1,19 +1,19 @@
 -- `json FILE TEXT` on a ranking, or on a list of alternatives, which is distinct: what its tree
 -- proves of the networks, these, and the facts of the first, as one JSON object for programs.
 use Rattle.std.specs.Prelude.{◌≡◌, ℕ, Bool, true, false, List, [], ◌∷◌, codes, decimal}
-use Rattle.problem_rules.specs.Problem.{Problem}
-use Rattle.rank_rules.specs.Ranked.{Ranking}
-use Rattle.rank_rules.specs.Text.{Text, ranking_of}
+use Rattle.report_rules.specs.problem_rules.Problem.{Problem}
+use Rattle.report_rules.specs.rank_rules.Ranked.{Ranking}
+use Rattle.report_rules.specs.rank_rules.Text.{Text, ranking_of}
 use Rattle.report_rules.specs.declared.rank_verdict.RankVerdict.{RankVerdict}
 use Rattle.report_rules.specs.declared.rank_verdict.RankVerdict.TheVariants.{Proved, Unfinished}
 use Rattle.report_rules.specs.declared.rank_verdict.RankVerdict.TheVariants.{Fails}
 use Rattle.report_rules.specs.RankLow.{best_claim}
 use Rattle.report_rules.specs.RankVerdict.{IsRankVerdict, low_of}
 use Rattle.report_rules.specs.Marginal.{Marginals, AreFirstMarginals}
-use Rattle.json_rules.specs.Json.{quoted, null, member}
-use Rattle.json_rules.specs.Facts.{text_member, count_member}
-use Rattle.json_rules.specs.Lower.{bound_json, gap_between}
-use Rattle.json_rules.specs.Ranked.{networks_member, lines_behind}
+use Rattle.report_rules.specs.Json.{quoted, null, member}
+use Rattle.report_rules.specs.Facts.{text_member, count_member}
+use Rattle.report_rules.specs.JsonLower.{bound_json, gap_between}
+use Rattle.report_rules.specs.JsonRanked.{networks_member, lines_behind}
 use Rattle.studio_rules.specs.RankWords.{rank_why_word}
 use Rattle.studio_rules.specs.RankReport.{NetworkRefusal}
 use Rattle.studio_rules.specs.declared.status.Status.{Status}

@@ -15,10 +15,9 @@ use crate::file_words::are_both_files;
 use crate::merging::merging_of;
 use crate::number::number_within;
 use crate::unit_names::UnitNames;
-use help_texts::{command_page_on, overview_text, page_on, version_text};
-use stability_rules::SpotKind;
+use crate::{command_page_on, overview_text, page_on, version_text};
 use std::alloc::{AllocError, Global};
-use studio_rules::Scene;
+use studio_rules::{Scene, SpotKind};
 
 /// A command with its words.
 #[derive(Drop)]

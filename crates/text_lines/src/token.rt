@@ -1,6 +1,6 @@
 //! The tokens of a line whose parts are separated by one space.
 ghost use Rattle.std.specs.Prelude.{◌≡◌, IfOk};
-ghost use Rattle.script_rules.specs.Line.{tokens_of};
+ghost use Rattle.edit_rules.specs.Line.{tokens_of};
 ghost use Rattle.text_lines.specs.View.{texts};
 
 use std::alloc::{AllocError, Global};

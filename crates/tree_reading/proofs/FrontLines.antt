@@ -1,13 +1,13 @@
 -- The head of a tree, read line by line.
 use Rattle.std.proofs.Common.{◌≡◌, ◌++◌, ℕ, suc, ℤ, Bool, List, [], ◌∷◌, Option, Some, None}
 use Rattle.std.proofs.Common.{Result, Ok, Err, refl, sym, ap, ◌∙◌, subst, append_assoc, append-nil}
-use Rattle.problem_rules.specs.Problem.{Problem}
-use Rattle.charge_rules.specs.Cover.{Cover}
-use Rattle.charge_rules.specs.Facts.{Demand}
-use Rattle.head_rules.specs.Head.{HeadLine, step, cap, out, trim, uses}
-use Rattle.head_rules.specs.Known.{KnowsLine}
-use Rattle.head_lines.specs.View.{line_of, lines_of}
-use Rattle.head_lines.specs.declared.line.HeadLine as values
+use Rattle.tree_text_rules.specs.problem_rules.Problem.{Problem}
+use Rattle.tree_text_rules.specs.flow_rules.Cover.{Cover}
+use Rattle.tree_text_rules.specs.flow_rules.ChargeFacts.{Demand}
+use Rattle.tree_text_rules.specs.tree_rules.Head.{HeadLine, step, cap, out, trim, uses}
+use Rattle.tree_text_rules.specs.tree_rules.HeadKnown.{KnowsLine}
+use Rattle.branch_tree.specs.HeadView.{line_of, lines_of}
+use Rattle.branch_tree.specs.declared.line.HeadLine as values
 use Rattle.tree_text_rules.specs.Line.{Token, Line, word_of, fields_of, is_formed}
 use Rattle.tree_text_rules.specs.LineRead.{cap_of, out_of, use_of, one_and_more, next_cover}
 use Rattle.tree_text_rules.specs.LineRead.{sets_of, head_by, head_read, formed_head}

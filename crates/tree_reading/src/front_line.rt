@@ -1,8 +1,8 @@
 //! The lines of the head of a tree, without the sets that may follow one.
 ghost use Rattle.std.specs.Prelude.{◌≡◌, [], Ok, IfOk, IfErr, IfSome};
-ghost use Rattle.head_rules.specs.Head as heads;
-ghost use Rattle.head_rules.specs.Known.{KnowsLine};
-ghost use Rattle.head_lines.specs.View as views;
+ghost use Rattle.tree_text_rules.specs.tree_rules.Head as heads;
+ghost use Rattle.tree_text_rules.specs.tree_rules.HeadKnown.{KnowsLine};
+ghost use Rattle.branch_tree.specs.HeadView as views;
 ghost use Rattle.tree_text_rules.specs.LineRead as reads;
 ghost use Rattle.tree_text_rules.specs.Token as rules;
 ghost use Rattle.tree_reading.specs.Apart.{formed_by, formed_if_read};
@@ -18,10 +18,7 @@ use crate::line_fault::LineFault;
 use crate::name::{material_of, one_unit, unit_of};
 use crate::number::weight_of;
 use crate::steps::step_line;
-use branch_tree::Scaled;
-use covers::Covers;
-use head_lines::HeadLine;
-use pns_problem::Problem;
+use branch_tree::{Covers, HeadLine, Problem, Scaled};
 use std::alloc::Global;
 use tree_text_rules::{TreeKind, Word};
 

@@ -1,5 +1,5 @@
 //! What the first lines of a claim and of a tail say.
-use unit_sets::UnitSet;
+use branch_tree::UnitSet;
 
 /// The first line of a claim.
 #[derive(Clone, Copy)]

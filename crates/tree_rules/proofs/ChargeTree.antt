@@ -1,6 +1,6 @@
 -- The example with U3 in or out (`EitherTree`) in three nodes in place of seven, each leaf by a
 -- charge. With the sizes that are found at a head it is one node: that is worked out in
--- `head_rules`.
+-- `tree_rules`.
 --
 -- If U3 is in, C and P are at 2. The row of P gives 2 * 20 = 40, U3 owes its 20 and U4 its 5. A
 -- size of U1 costs 2 + 1 and earns 2, and one of U2 costs 4 and earns 2: at size 0 they owe 10 and
@@ -15,18 +15,17 @@ use Rattle.std.proofs.Common.{◌≡◌, ℕ, ◌<◌, ◌==◌, ℤ, pos, negsu
 use Rattle.std.proofs.Common.{◌∷◌, None, refl, sym, subst, arith, inl, inr}
 use Rattle.std.proofs.lemmas.Bool.{cases_Bool, or_left, or_cases, and_from, and_parts, eqb-true}
 use Rattle.std.proofs.lemmas.Int.{ints}
-use Rattle.number_sets.specs.Sets.{has, any_below, listed}
-use Rattle.number_sets.proofs.SetLemmas.{any_below-from, has_below}
-use Rattle.pns_rules.specs.Structure.{is_made, is_used, mats, IsBetween}
-use Rattle.pns_rules.specs.Nodes.{Node}
-use Rattle.pns_rules.proofs.StructureLemmas.{is_made-some, is_used-from}
-use Rattle.pns_rules.proofs.DecideLemmas.{structure_if}
-use Rattle.charge_rules.specs.Facts.{own_facts}
-use Rattle.charge_rules.specs.Cover.{Cover, IsCover, Covers, IsFree}
-use Rattle.charge_rules.specs.ChargeSteps.{charge_steps}
-use Rattle.charge_rules.specs.Leaf.{Handed, charge_of}
-use Rattle.charge_rules.specs.Leaf as charges
-use Rattle.charge_rules.specs.declared.charge_why.ChargeWhy.TheVariants as charge_causes
+use Rattle.flow_rules.specs.number_sets.Sets.{has, any_below, listed}
+use Rattle.flow_rules.proofs.number_sets.Cited.{any_below-from, has_below}
+use Rattle.flow_rules.specs.pns_rules.Structure.{is_made, is_used, mats, IsBetween}
+use Rattle.flow_rules.specs.pns_rules.Nodes.{Node}
+use Rattle.flow_rules.proofs.pns_rules.Cited.{is_made-some, is_used-from, structure_if}
+use Rattle.flow_rules.specs.ChargeFacts.{own_facts}
+use Rattle.flow_rules.specs.Cover.{Cover, IsCover, Covers, IsFree}
+use Rattle.flow_rules.specs.ChargeSteps.{charge_steps}
+use Rattle.flow_rules.specs.ChargeLeaf.{Handed, charge_of}
+use Rattle.flow_rules.specs.ChargeLeaf as charges
+use Rattle.flow_rules.specs.declared.charge_why.ChargeWhy.TheVariants as charge_causes
 use Rattle.tree_rules.specs.declared.why.Why.{Why}
 use Rattle.tree_rules.specs.declared.why.Why.TheVariants as causes
 use Rattle.tree_rules.specs.Ways.{either}

@@ -3,17 +3,17 @@
 -- most, each with units and a weight that is not below 0.
 use Rattle.std.specs.Prelude.{◌≡◌, ℕ, ◌<◌, ◌≤◌, pos, ◌≤ℤ◌, List, [], length, Option, Some, None}
 use Rattle.std.specs.Prelude.{IfSome}
-use Rattle.number_sets.specs.Sets.{IsSet}
-use Rattle.integer_laws.specs.Range.{InRange, AllInRange}
-use Rattle.problem_rules.specs.Each.{Each}
-use Rattle.problem_rules.specs.Problem.{Problem}
-use Rattle.pns_rules.specs.Nodes as nodes
+use Rattle.flow_rules.specs.number_sets.Sets.{IsSet}
+use Rattle.flow_rules.specs.integer_laws.Range.{InRange, AllInRange}
+use Rattle.flow_rules.specs.problem_rules.Each.{Each}
+use Rattle.flow_rules.specs.problem_rules.Problem.{Problem}
+use Rattle.flow_rules.specs.pns_rules.Nodes as nodes
 use Rattle.flow_rules.specs.declared.place.Column.{Column}
 use Rattle.flow_rules.specs.declared.place.Column.TheVariants.{X, S, T, W, Right, Scale}
 use Rattle.flow_rules.specs.declared.place.Place.{Place}
 use Rattle.flow_rules.specs.declared.place.Place.TheVariants as places
-use Rattle.charge_rules.specs.Cover.{Cover}
-use Rattle.charge_rules.specs.Leaf.{Handed}
+use Rattle.flow_rules.specs.Cover.{Cover}
+use Rattle.flow_rules.specs.ChargeLeaf.{Handed}
 use Rattle.tree_rules.specs.Ways as ways
 use Rattle.tree_rules.specs.Tree as trees
 use Rattle.tree_rules.specs.Leaf as leaves

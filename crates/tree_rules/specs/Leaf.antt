@@ -2,24 +2,24 @@
 -- multipliers, the claim and d are judged, then the numbers of the sum, then the comparison.
 --
 -- A leaf that charges its node charges with the problem's own numbers. Its rules are those of
--- `charge_rules`: what it hands in has to pass there, for the cost that is claimed here.
+-- `flow_rules`: what it hands in has to pass there, for the cost that is claimed here.
 use Rattle.std.specs.Prelude.{◌≡◌, ℕ, ℤ, pos, ◌≤ℤ◌, Bool, true, List, length, Option}
 use Rattle.std.specs.Prelude.{Some}
 use Rattle.std.specs.Prelude.{None}
 use Rattle.std.specs.Prelude.{IfSome}
-use Rattle.problem_rules.specs.Problem.{Problem}
-use Rattle.pns_rules.specs.Shape.{shape_of}
-use Rattle.pns_rules.specs.Structure.{Clashes}
-use Rattle.pns_rules.specs.Nodes.{Node}
-use Rattle.pns_rules.specs.Ends.{IsDead}
+use Rattle.flow_rules.specs.problem_rules.Problem.{Problem}
+use Rattle.flow_rules.specs.pns_rules.Shape.{shape_of}
+use Rattle.flow_rules.specs.pns_rules.Structure.{Clashes}
+use Rattle.flow_rules.specs.pns_rules.Nodes.{Node}
+use Rattle.flow_rules.specs.pns_rules.Ends.{IsDead}
 use Rattle.flow_rules.specs.Net.{net_of, beside}
 use Rattle.flow_rules.specs.Relaxed.{rows, bound, Refutes}
 use Rattle.flow_rules.specs.Steps.{AreInRange}
 use Rattle.flow_rules.specs.BoundSteps.{bound_steps}
-use Rattle.charge_rules.specs.Facts.{own_facts}
-use Rattle.charge_rules.specs.Leaf.{Handed, ChargePasses, ChargeFails}
-use Rattle.charge_rules.specs.declared.charge_why.ChargeWhy.{ChargeWhy}
-use Rattle.charge_rules.specs.declared.charge_why.ChargeWhy.TheVariants as charge_causes
+use Rattle.flow_rules.specs.ChargeFacts.{own_facts}
+use Rattle.flow_rules.specs.ChargeLeaf.{Handed, ChargePasses, ChargeFails}
+use Rattle.flow_rules.specs.declared.charge_why.ChargeWhy.{ChargeWhy}
+use Rattle.flow_rules.specs.declared.charge_why.ChargeWhy.TheVariants as charge_causes
 use Rattle.tree_rules.specs.declared.why.Why.{Why}
 use Rattle.tree_rules.specs.declared.why.Why.TheVariants as causes
 use Rattle.tree_rules.specs.Fault.{Fails}

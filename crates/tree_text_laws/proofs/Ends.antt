@@ -3,14 +3,14 @@ use Rattle.std.proofs.Common.{◌≡◌, ◌+◌, ◌<◌, ◌≤◌, ℕ, suc, 
 use Rattle.std.proofs.Common.{Some, None, Result, Ok, refl, sym, ◌∙◌, ap, ap₂, subst, append_assoc}
 use Rattle.std.proofs.Common.{append-nil, length-append, arith}
 use Rattle.std.proofs.lemmas.List.{length-map}
-use Rattle.problem_rules.specs.Each.{Each}
-use Rattle.problem_rules.specs.Problem.{Problem}
-use Rattle.problem_rules.specs.WellFormed.{IsWellFormed}
-use Rattle.charge_rules.specs.Cover.{Cover}
-use Rattle.charge_rules.specs.Leaf.{Handed}
-use Rattle.tree_rules.specs.Tree as trees
-use Rattle.tree_rules.specs.Leaf.{Leaf}
-use Rattle.tree_rules.specs.Known.{KnowsCover, KnowsCharge, KnowsEnd}
+use Rattle.tree_text_rules.specs.problem_rules.Each.{Each}
+use Rattle.tree_text_rules.specs.problem_rules.Problem.{Problem}
+use Rattle.tree_text_rules.specs.problem_rules.WellFormed.{IsWellFormed}
+use Rattle.tree_text_rules.specs.flow_rules.Cover.{Cover}
+use Rattle.tree_text_rules.specs.flow_rules.ChargeLeaf.{Handed}
+use Rattle.tree_text_rules.specs.tree_rules.Tree as trees
+use Rattle.tree_text_rules.specs.tree_rules.Leaf.{Leaf}
+use Rattle.tree_text_rules.specs.tree_rules.Known.{KnowsCover, KnowsCharge, KnowsEnd}
 use Rattle.tree_text_rules.specs.Line.{Line}
 use Rattle.tree_text_rules.specs.LineRead.{end_line_read, next_cover}
 use Rattle.tree_text_rules.specs.Read.{Fault, Taken, with_covers, charge_end, charge_of, on_line}
@@ -22,7 +22,8 @@ use Rattle.tree_text_laws.specs.Codes.{line_of}
 use Rattle.tree_text_laws.specs.Lines.{lines_said, BeginsNoSet}
 use Rattle.tree_text_laws.proofs.NodeLines.{end_lines, set_back, set_again}
 use Rattle.tree_text_laws.proofs.Nodes.{charge_is, no_covers, next_is, next_again, next_none}
-use Rattle.tree_text_laws.proofs.Parts.{good, good_is, on_line_ok, then_ok, first_back, first_again}
+use Rattle.tree_text_laws.proofs.PartTexts.{good, good_is, on_line_ok, then_ok, first_back}
+use Rattle.tree_text_laws.proofs.PartTexts.{first_again}
 
 abbrev End : Type 0
 End = trees.End Leaf

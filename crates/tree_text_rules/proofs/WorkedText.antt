@@ -2,21 +2,21 @@
 use Rattle.std.proofs.Common.{◌≡◌, ◌++◌, ℕ, pos, negsuc, List, [], ◌∷◌, map, codes, refl, Ok, Some}
 use Rattle.std.proofs.Common.{None}
 use Rattle.std.specs.Fmt.{digits}
-use Rattle.pns_rules.specs.Nodes.{raw, rival, starve, loose, sole}
-use Rattle.integer_laws.specs.declared.which.Which.TheVariants as whiches
-use Rattle.flow_rules.specs.declared.place.Column.TheVariants as columns
-use Rattle.flow_rules.specs.declared.place.FlowStep.TheVariants as flows
-use Rattle.flow_rules.specs.declared.place.Place.{Place}
-use Rattle.flow_rules.specs.declared.place.Place.TheVariants as places
-use Rattle.charge_rules.specs.Cover.{Cover}
-use Rattle.charge_rules.specs.Leaf.{Handed}
+use Rattle.tree_rules.specs.pns_rules.Nodes.{raw, rival, starve, loose, sole}
+use Rattle.tree_rules.specs.integer_laws.declared.which.Which.TheVariants as whiches
+use Rattle.tree_rules.specs.flow_rules.declared.place.Column.TheVariants as columns
+use Rattle.tree_rules.specs.flow_rules.declared.place.FlowStep.TheVariants as flows
+use Rattle.tree_rules.specs.flow_rules.declared.place.Place.{Place}
+use Rattle.tree_rules.specs.flow_rules.declared.place.Place.TheVariants as places
+use Rattle.tree_rules.specs.flow_rules.Cover.{Cover}
+use Rattle.tree_rules.specs.flow_rules.ChargeLeaf.{Handed}
 use Rattle.tree_rules.specs.Ways.{at_material, either}
 use Rattle.tree_rules.specs.Tree.{TreeNode, branch, leaf}
 use Rattle.tree_rules.specs.Leaf.{Leaf, dead, clash, refuted, bounded, charged, untried}
 use Rattle.tree_rules.specs.Claim.{Claim, network, infeasible, unknown}
 use Rattle.tree_rules.specs.Accepted.{Tree}
 use Rattle.tree_rules.specs.Tail.{whole, spent, past}
-use Rattle.head_rules.specs.Head.{HeadLine, step, cap, out, trim, uses}
+use Rattle.tree_rules.specs.Head.{HeadLine, step, cap, out, trim, uses}
 use Rattle.tree_text_rules.specs.Spelling.{tree_text, headed_text}
 use Rattle.tree_text_rules.specs.Line.{word_named}
 use Rattle.tree_text_rules.specs.Read.{Certificate, read_text, nodes_taken, front_taken}
@@ -206,7 +206,7 @@ no_head : IsHeadedTextOf charges_text
 unfolding digits front_taken nodes_taken word_named
 no_head = (refl, refl)
 
--- the same tree as one node after a head: with trims alone, as `head_rules` has it worked out,
+-- the same tree as one node after a head: with trims alone, as `tree_rules` has it worked out,
 -- and with each form of a line
 abbrev trims : List HeadLine
 trims = step (sole 5 3) ∷ trim 3 ∷ trim 0 ∷ trim 1 ∷ trim 2 ∷ []

@@ -6,16 +6,16 @@ use Rattle.std.specs.Prelude.{codes}
 use Rattle.std.specs.Prelude.{Option}
 use Rattle.std.specs.Prelude.{Some, None, Result, Ok, Err, if◌then◌else◌}
 use Rattle.std.specs.Str.{bytes_eq}
-use Rattle.problem_rules.specs.Problem.{Problem}
-use Rattle.pns_rules.specs.Nodes as nodes
-use Rattle.flow_rules.specs.declared.place.Column.{Column}
-use Rattle.flow_rules.specs.declared.place.Place.{Place}
-use Rattle.flow_rules.specs.declared.place.Place.TheVariants as places
-use Rattle.charge_rules.specs.Cover.{Cover}
+use Rattle.edit_rules.specs.problem_rules.Problem.{Problem}
+use Rattle.tree_rules.specs.pns_rules.Nodes as nodes
+use Rattle.tree_rules.specs.flow_rules.declared.place.Column.{Column}
+use Rattle.tree_rules.specs.flow_rules.declared.place.Place.{Place}
+use Rattle.tree_rules.specs.flow_rules.declared.place.Place.TheVariants as places
+use Rattle.tree_rules.specs.flow_rules.Cover.{Cover}
 use Rattle.tree_rules.specs.Ways as ways
 use Rattle.tree_rules.specs.Tree as trees
 use Rattle.tree_rules.specs.Leaf as leaves
-use Rattle.head_rules.specs.Head as heads
+use Rattle.tree_rules.specs.Head as heads
 use Rattle.tree_text_rules.specs.Line.{Token, Line, word_of, fields_of, is_formed}
 use Rattle.tree_text_rules.specs.Line.{file_type}
 use Rattle.tree_text_rules.specs.Token.{both, mapped, each, judged, unit_of, material_of}

@@ -1,6 +1,6 @@
 use Rattle.std.proofs.Common.{length, true≢false, refl, sym, ap, ◌∙◌, arith}
-use Rattle.branch_choice.specs.declared.choice.Choice.{Choice}
-use Rattle.branch_choice.specs.Choices.{option_count}
+use Rattle.node_evaluation.specs.declared.choice.Choice.{Choice}
+use Rattle.node_evaluation.specs.Choices.{option_count}
 use Rattle.abb_search.specs.Growing.{choice_of, ready_at}
 use Rattle.abb_search.specs.Rounds.{undercut_of}
 use Rattle.abb_search.proofs.TurnLemmas.{there, within_budget}

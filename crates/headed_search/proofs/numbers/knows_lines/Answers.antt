@@ -1,9 +1,9 @@
 use Rattle.std.proofs.Common.{ℕ, List, drop, sym, subst, add-one}
-use Rattle.problem_rules.specs.Each.{Each}
-use Rattle.head_rules.specs.Known.{KnowsLine}
-use Rattle.head_lines.specs.View.{line_of, lines_of}
-use Rattle.head_rules.specs.Head.{HeadLine}
-use Rattle.cert_parts.proofs.NodeLemmas.{step_ahead, none_ahead}
+use Rattle.tree_parts.specs.problem_rules.Each.{Each}
+use Rattle.tree_parts.specs.tree_rules.HeadKnown.{KnowsLine}
+use Rattle.tree_parts.specs.branch_tree.HeadView.{line_of, lines_of}
+use Rattle.tree_parts.specs.tree_rules.Head.{HeadLine}
+use Rattle.tree_parts.proofs.cert_check.Cited.{step_ahead, none_ahead}
 use Rattle.headed_search.proofs.numbers.knows_lines.Goals as goal
 
 pub lines-init : goal.lines-init

@@ -1,7 +1,7 @@
 use Rattle.std.proofs.Common.{drop}
-use Rattle.problem_rules.specs.Each.{Each}
-use Rattle.head_rules.specs.Known.{KnowsLine}
-use Rattle.head_lines.specs.View.{lines_of}
+use Rattle.tree_parts.specs.problem_rules.Each.{Each}
+use Rattle.tree_parts.specs.tree_rules.HeadKnown.{KnowsLine}
+use Rattle.tree_parts.specs.branch_tree.HeadView.{lines_of}
 use Rattle.headed_search.proofs.numbers.knows_lines.Given as goal
 
 -- if the plant knows those that are left, it knows all

@@ -1,8 +1,8 @@
 use Rattle.std.proofs.Common.{◌≡◌, ◌∙◌, ap, map, ℕ, List, codes}
-use Rattle.problem_rules.specs.Problem.{Problem}
+use Rattle.report_rules.specs.problem_rules.Problem.{Problem}
 use Rattle.report_rules.specs.Report.{left_out}
-use Rattle.json_rules.specs.Json.{member, array}
-use Rattle.json_rules.specs.Facts.{unit_name}
+use Rattle.report_rules.specs.Json.{member, array}
+use Rattle.report_rules.specs.Facts.{unit_name}
 use Rattle.json_text.proofs.foot.left_out_member.Goals as goal
 
 pub returns : goal.returns

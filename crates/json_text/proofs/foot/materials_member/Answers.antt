@@ -1,6 +1,6 @@
 use Rattle.std.proofs.Common.{◌∙◌, ap}
 use Rattle.report_rules.specs.Number.{Number}
-use Rattle.json_rules.specs.Facts.{number_member}
+use Rattle.report_rules.specs.Facts.{number_member}
 use Rattle.json_text.proofs.foot.materials_member.Goals as goal
 
 pub returns : goal.returns

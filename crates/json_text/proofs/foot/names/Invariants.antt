@@ -1,5 +1,5 @@
 use Rattle.std.proofs.Common.{◌≡◌, ◌++◌, map}
-use Rattle.json_rules.specs.Facts.{unit_name}
+use Rattle.report_rules.specs.Facts.{unit_name}
 use Rattle.json_text.proofs.foot.names.Given as goal
 
 -- the list so far and the names that are left give the whole list

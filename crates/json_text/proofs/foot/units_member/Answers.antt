@@ -1,8 +1,8 @@
 use Rattle.std.proofs.Common.{◌<◌, ◌∙◌, sym, ap, subst, length}
-use Rattle.problem_rules.specs.Problem.{Problem}
+use Rattle.report_rules.specs.problem_rules.Problem.{Problem}
 use Rattle.report_rules.specs.Number.{Number}
 use Rattle.report_rules.specs.Amounts.{unit_sum}
-use Rattle.json_rules.specs.Facts.{number_member}
+use Rattle.report_rules.specs.Facts.{number_member}
 use Rattle.json_text.proofs.foot.units_member.Goals as goal
 
 pub unit_sum-sum-requires : goal.unit_sum-sum-requires

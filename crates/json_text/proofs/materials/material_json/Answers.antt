@@ -1,12 +1,12 @@
 use Rattle.std.proofs.Common.{◌≡◌, ◌∷◌, [], ◌∙◌, ap, ℕ, List, codes}
-use Rattle.problem_rules.specs.Problem.{material_at}
+use Rattle.report_rules.specs.problem_rules.Problem.{material_at}
 use Rattle.report_rules.specs.Number.{Number}
 use Rattle.report_rules.specs.declared.amount.UnitAmount.TheVariants.{Made, Used}
 use Rattle.report_rules.specs.Amounts.{unit_sum, net, price, cost}
 use Rattle.report_rules.specs.Marginal.{marginal}
 use Rattle.report_rules.specs.Report.{material_limit}
-use Rattle.json_rules.specs.Json.{object}
-use Rattle.json_rules.specs.Facts.{text_member, number_member, limit_member}
+use Rattle.report_rules.specs.Json.{object}
+use Rattle.report_rules.specs.Facts.{text_member, number_member, limit_member}
 use Rattle.json_text.proofs.materials.material_json.Goals as goal
 
 pub returns : goal.returns

@@ -1,4 +1,4 @@
-use Rattle.json_rules.specs.Ranked.{idle_json}
+use Rattle.report_rules.specs.JsonRanked.{idle_json}
 use Rattle.json_text.proofs.Values.{next_values}
 use Rattle.json_text.proofs.ranking.idle_values.Goals as goal
 

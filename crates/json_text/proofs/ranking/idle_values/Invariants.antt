@@ -1,5 +1,5 @@
 use Rattle.std.proofs.Common.{◌≡◌, ◌++◌}
-use Rattle.json_rules.specs.Ranked.{idle_values}
+use Rattle.report_rules.specs.JsonRanked.{idle_values}
 use Rattle.json_text.proofs.ranking.idle_values.Given as goal
 
 -- the list so far and the names that are left give the whole list

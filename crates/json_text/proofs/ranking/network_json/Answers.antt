@@ -1,10 +1,10 @@
 use Rattle.std.proofs.Common.{◌≡◌, ◌∷◌, [], ◌∙◌, ap, ℕ, List, codes}
-use Rattle.number_sets.specs.Sets.{minus}
+use Rattle.report_rules.specs.number_sets.Sets.{minus}
 use Rattle.report_rules.specs.Number.{Number}
 use Rattle.report_rules.specs.Ranked.{above_first}
-use Rattle.json_rules.specs.Json.{object}
-use Rattle.json_rules.specs.Facts.{count_member, number_member}
-use Rattle.json_rules.specs.Ranked.{names_member}
+use Rattle.report_rules.specs.Json.{object}
+use Rattle.report_rules.specs.Facts.{count_member, number_member}
+use Rattle.report_rules.specs.JsonRanked.{names_member}
 use Rattle.json_text.proofs.ranking.network_json.Goals as goal
 
 pub returns : goal.returns

@@ -1,5 +1,5 @@
 use Rattle.std.proofs.Common.{◌≡◌, ◌∙◌, ◌+◌, ℕ, suc, ap, arith}
-use Rattle.json_rules.specs.Ranked.{network_json}
+use Rattle.report_rules.specs.JsonRanked.{network_json}
 use Rattle.json_text.proofs.Places.{one_more}
 use Rattle.json_text.proofs.ranking.network_values.Goals as goal
 

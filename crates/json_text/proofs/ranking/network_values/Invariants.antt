@@ -1,5 +1,5 @@
 use Rattle.std.proofs.Common.{◌≡◌, ◌+◌, ◌++◌, drop}
-use Rattle.json_rules.specs.Ranked.{network_values}
+use Rattle.report_rules.specs.JsonRanked.{network_values}
 use Rattle.json_text.proofs.ranking.network_values.Given as goal
 
 -- the values so far and those of the networks that are left give all of them

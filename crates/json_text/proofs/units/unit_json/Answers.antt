@@ -1,13 +1,13 @@
 use Rattle.std.proofs.Common.{◌≡◌, ◌∷◌, [], ◌∙◌, ap, ℕ, List, codes}
-use Rattle.problem_rules.specs.Problem.{unit_at}
+use Rattle.report_rules.specs.problem_rules.Problem.{unit_at}
 use Rattle.report_rules.specs.Number.{Number}
 use Rattle.report_rules.specs.declared.amount.UnitAmount.TheVariants.{Fixed, Proportional}
 use Rattle.report_rules.specs.declared.amount.UnitAmount.TheVariants.{Investment, Total}
 use Rattle.report_rules.specs.Amounts.{size, amount}
 use Rattle.report_rules.specs.Marginal.{unit_marginal}
 use Rattle.report_rules.specs.Report.{unit_limit}
-use Rattle.json_rules.specs.Json.{object}
-use Rattle.json_rules.specs.Facts.{text_member, number_member, limit_member}
+use Rattle.report_rules.specs.Json.{object}
+use Rattle.report_rules.specs.Facts.{text_member, number_member, limit_member}
 use Rattle.json_text.proofs.units.unit_json.Goals as goal
 
 pub returns : goal.returns

@@ -1,6 +1,6 @@
 use Rattle.std.proofs.Common.{map}
 use Rattle.cert_check.specs.OpenLeaves.{leaves_at}
-use Rattle.ranked_tree.specs.View.{mark_of}
+use Rattle.rank_check.specs.View.{mark_of}
 use Rattle.rank_check.proofs.CheckLemmas.{pass_as, fail_as}
 use Rattle.rank_check.proofs.check.judge_open.Goals as goal
 

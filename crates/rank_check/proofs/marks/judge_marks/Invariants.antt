@@ -1,6 +1,6 @@
 use Rattle.std.proofs.Common.{map}
 use Rattle.cert_check.specs.OpenLeaves.{leaves_at}
-use Rattle.ranked_tree.specs.View.{mark_of}
+use Rattle.rank_check.specs.View.{mark_of}
 use Rattle.rank_check.proofs.TurnLemmas.{AreOn}
 use Rattle.rank_check.proofs.marks.judge_marks.Given as goal
 

@@ -2,8 +2,8 @@ use Rattle.std.specs.Prelude.{get_or}
 use Rattle.std.proofs.Common.{◌≡◌, ◌<◌, ◌++◌, ℕ, List, length, map, Option, Some, sym, ap, ◌∙◌}
 use Rattle.std.proofs.Common.{arith}
 use Rattle.std.specs.List.{slice_get}
-use Rattle.ranked_tree.specs.declared.mark.Mark as code
-use Rattle.ranked_tree.specs.View.{mark_of}
+use Rattle.rank_check.specs.declared.mark.Mark as code
+use Rattle.rank_check.specs.View.{mark_of}
 use Rattle.rank_search.specs.Naming.{names_at, marks_of}
 use Rattle.rank_search.proofs.NameLemmas.{name_there, got}
 use Rattle.rank_search.proofs.MarkLemmas.{take_next, marks_pushed, marks_stay}

@@ -1,5 +1,5 @@
 use Rattle.std.proofs.Common.{◌≡◌, map, take}
-use Rattle.ranked_tree.specs.View.{mark_of}
+use Rattle.rank_check.specs.View.{mark_of}
 use Rattle.rank_search.specs.Naming.{names_at, opened, marks_in}
 use Rattle.rank_search.proofs.naming.take_marks.Given as goal
 

@@ -1,8 +1,8 @@
 use Rattle.std.proofs.Common.{◌≡◌, ◌∙◌, ap}
-use Rattle.number_sets.specs.Sets.{has}
+use Rattle.report_rules.specs.number_sets.Sets.{has}
 use Rattle.report_rules.specs.Number.{Number, plus, sum_from}
 use Rattle.report_rules.specs.Amounts.{amount}
-use Rattle.pns_tables.proofs.Walk.{all_within, next_within, rest_within}
+use Rattle.report_amounts.proofs.Walk.{all_within, next_within, rest_within}
 use Rattle.report_amounts.proofs.Sums.{next_sum, last_sum}
 use Rattle.report_amounts.proofs.amounts.unit_sum.Goals as goal
 

@@ -1,7 +1,7 @@
 use Rattle.std.proofs.Common.{◌∙◌, sym, subst, refl}
-use Rattle.number_sets.specs.Sets.{has}
+use Rattle.pgraph.specs.number_sets.Sets.{has}
 use Rattle.pgraph.specs.Tables.{shape}
-use Rattle.decisions.specs.Position.{IsWithinNode}
+use Rattle.structure_list.specs.Position.{IsWithinNode}
 use Rattle.structure_list.proofs.TightLemmas.{tight_here}
 use Rattle.structure_list.proofs.StackLemmas.{top_position, top_tight, is_room}
 use Rattle.structure_list.proofs.FollowLemmas.{IsFollowing, follow_start, follow_in, follow_out}

@@ -1,6 +1,6 @@
-use Rattle.number_sets.specs.Sets.{has}
+use Rattle.pgraph.specs.number_sets.Sets.{has}
 use Rattle.pgraph.specs.Tables.{shape}
-use Rattle.decisions.specs.Position.{free_count}
+use Rattle.structure_list.specs.Position.{free_count}
 use Rattle.structure_list.proofs.FollowLemmas.{IsFollowing}
 use Rattle.structure_list.proofs.search.follow.Given as goal
 

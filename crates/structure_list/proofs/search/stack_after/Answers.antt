@@ -1,6 +1,6 @@
 use Rattle.std.proofs.Common.{◌≡◌, ◌∙◌, ◌++◌, ◌∷◌, [], List, None, sym, ap, subst}
 use Rattle.pgraph.specs.Tables.{shape}
-use Rattle.decisions.specs.declared.position.Position.{Position}
+use Rattle.structure_list.specs.declared.position.Position.{Position}
 use Rattle.structure_list.specs.Rest.{IsUnderWay}
 use Rattle.structure_list.proofs.StartLemmas.{begins, nothing}
 use Rattle.structure_list.proofs.search.stack_after.Goals as goal

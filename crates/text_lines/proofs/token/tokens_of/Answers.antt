@@ -1,7 +1,7 @@
 use Rattle.std.proofs.Common.{rules}
 use Rattle.std.proofs.lemmas.Iterator.Consumers.{map_from_collect}
 use Rattle.std.proofs.lemmas.Iterator.Splits.{YieldsList-from_slice_split}
-use Rattle.script_rules.specs.Line.{is_space}
+use Rattle.edit_rules.specs.Line.{is_space}
 use Rattle.text_lines.proofs.token.tokens_of.Goals as goal
 
 pub returns : goal.returns

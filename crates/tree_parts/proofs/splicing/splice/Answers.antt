@@ -1,5 +1,5 @@
 use Rattle.std.proofs.Common.{List, ap, subst, ◌∙◌, length}
-use Rattle.part_laws.specs.Splices.{Splice}
+use Rattle.tree_parts.specs.Splices.{Splice}
 use Rattle.tree_parts.specs.declared.waiting.Waiting.{Waiting}
 use Rattle.tree_parts.specs.Waiting.{splice_of, splices_of}
 use Rattle.tree_parts.proofs.LaidNodes.{IsSplicing, one_spliced, splices-push, last_within}

@@ -1,5 +1,5 @@
 use Rattle.std.proofs.Common.{take}
-use Rattle.part_laws.specs.Splices.{AllBelow}
+use Rattle.tree_parts.specs.Splices.{AllBelow}
 use Rattle.tree_parts.specs.Waiting.{splices_of}
 use Rattle.tree_parts.proofs.waiting.slot.Given as goal
 

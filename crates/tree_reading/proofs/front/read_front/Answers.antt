@@ -2,11 +2,11 @@ use Rattle.std.proofs.Common.{◌≡◌, ◌∙◌, ◌++◌, ◌∷◌, [], Lis
 use Rattle.std.proofs.Common.{rules}
 use Rattle.std.proofs.Common.{arith}
 use Rattle.std.proofs.lemmas.Result.{err_from_is_err_and}
-use Rattle.problem_rules.specs.Each.{Each}
-use Rattle.head_rules.specs.Head as heads
-use Rattle.head_rules.specs.Known.{KnowsLine}
-use Rattle.head_lines.specs.View.{line_of, lines_of}
-use Rattle.head_lines.specs.declared.line.HeadLine.{HeadLine}
+use Rattle.tree_text_rules.specs.problem_rules.Each.{Each}
+use Rattle.tree_text_rules.specs.tree_rules.Head as heads
+use Rattle.tree_text_rules.specs.tree_rules.HeadKnown.{KnowsLine}
+use Rattle.branch_tree.specs.HeadView.{line_of, lines_of}
+use Rattle.branch_tree.specs.declared.line.HeadLine.{HeadLine}
 use Rattle.tree_text_rules.specs.Read.{front_taken}
 use Rattle.tree_reading.specs.Front.{GivesLine}
 use Rattle.tree_reading.specs.Place.{lines_at}

@@ -1,6 +1,6 @@
 use Rattle.std.proofs.Common.{◌≡◌, None, ◌-◌, length}
-use Rattle.head_rules.specs.Known.{KnowsHead}
-use Rattle.head_lines.specs.View.{lines_of}
+use Rattle.tree_text_rules.specs.tree_rules.HeadKnown.{KnowsHead}
+use Rattle.branch_tree.specs.HeadView.{lines_of}
 use Rattle.tree_text_rules.specs.Read.{front_taken}
 use Rattle.tree_reading.specs.Place.{IsReached, lines_at}
 use Rattle.tree_reading.proofs.FrontLines.{before}

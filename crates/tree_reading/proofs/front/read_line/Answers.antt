@@ -1,6 +1,6 @@
 use Rattle.std.proofs.Common.{◌<◌, arith}
 use Rattle.std.proofs.lemmas.Result.{err_from_is_err_and}
-use Rattle.head_lines.specs.View.{line_of}
+use Rattle.branch_tree.specs.HeadView.{line_of}
 use Rattle.tree_reading.specs.Place.{lines_at}
 use Rattle.tree_reading.specs.View as views
 use Rattle.tree_reading.proofs.FrontLines.{none_left, other_line, line_told, sets_told, line_on}

@@ -1,8 +1,8 @@
 use Rattle.std.proofs.Common.{List, subst, ap}
 use Rattle.std.proofs.lemmas.List.{drop_all}
-use Rattle.head_rules.specs.Known.{KnowsHead}
-use Rattle.head_lines.specs.View.{lines_of}
-use Rattle.head_lines.specs.declared.line.HeadLine.{HeadLine}
+use Rattle.tree_text_rules.specs.tree_rules.HeadKnown.{KnowsHead}
+use Rattle.branch_tree.specs.HeadView.{lines_of}
+use Rattle.branch_tree.specs.declared.line.HeadLine.{HeadLine}
 use Rattle.tree_text_rules.specs.Spelling.{front_lines}
 use Rattle.tree_text.proofs.Printed.{none_put, both_put, first_failed, item_ahead}
 use Rattle.tree_text.proofs.front.put_front.Goals as goal

@@ -1,6 +1,6 @@
 use Rattle.std.proofs.Common.{drop}
-use Rattle.head_rules.specs.Known.{KnowsHead}
-use Rattle.head_lines.specs.View.{lines_of}
+use Rattle.tree_text_rules.specs.tree_rules.HeadKnown.{KnowsHead}
+use Rattle.branch_tree.specs.HeadView.{lines_of}
 use Rattle.tree_text_rules.specs.Spelling.{front_lines}
 use Rattle.tree_text.proofs.Printed.{Finishes}
 use Rattle.tree_text.proofs.front.put_front.Given as goal

@@ -2,10 +2,10 @@ use Rattle.std.proofs.Common.{◌≡◌, ◌∷◌, ◌∙◌, [], List, ℤ, ma
 use Rattle.std.specs.Int.{w128}
 use Rattle.std.specs.Fmt.{signed_decimal}
 use Rattle.std.proofs.lemmas.Int.{to_z-of_z}
-use Rattle.charge_rules.specs.Cover.{Cover}
-use Rattle.head_rules.specs.Head as heads
-use Rattle.head_lines.specs.View.{line_of}
-use Rattle.head_lines.specs.declared.line.HeadLine.{HeadLine}
+use Rattle.tree_text_rules.specs.flow_rules.Cover.{Cover}
+use Rattle.tree_text_rules.specs.tree_rules.Head as heads
+use Rattle.branch_tree.specs.HeadView.{line_of}
+use Rattle.branch_tree.specs.declared.line.HeadLine.{HeadLine}
 use Rattle.tree_text_rules.specs.Spelling.{front_with_sets}
 use Rattle.tree_text.proofs.Printed.{both_put, first_failed}
 use Rattle.tree_text.proofs.front.put_front_line.Goals as goal

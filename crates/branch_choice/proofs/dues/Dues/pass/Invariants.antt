@@ -1,5 +1,0 @@
-use Rattle.number_sets.specs.Sets.{IsSet}
-use Rattle.branch_choice.proofs.dues.Dues.pass.Given as goal
-
-abbrev pub invariant-loop-u : goal.invariant-loop-u
-invariant-loop-u l = IsSet 128 l.u-iterator

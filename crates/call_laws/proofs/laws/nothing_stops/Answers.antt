@@ -1,0 +1,5 @@
+use Rattle.call_laws.proofs.NoDemandsLemmas as lemmas
+use Rattle.call_laws.proofs.laws.nothing_stops.Goals as goal
+
+pub returns : goal.returns
+returns c = lemmas.nothing_stops

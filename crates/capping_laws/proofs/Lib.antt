@@ -1,4 +1,0 @@
-pub mod CappedLemmas
-pub mod KnownLemmas
-pub mod LeanLemmas
-pub mod TreeLemmas

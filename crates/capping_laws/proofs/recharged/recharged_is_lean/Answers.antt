@@ -1,5 +1,0 @@
-use Rattle.capping_laws.proofs.LeanLemmas.{lean_there}
-use Rattle.capping_laws.proofs.recharged.recharged_is_lean.Goals as goal
-
-pub returns : goal.returns
-returns c = lean_there

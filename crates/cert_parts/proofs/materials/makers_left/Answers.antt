@@ -1,9 +1,0 @@
-use Rattle.std.proofs.Common.{ℕ}
-use Rattle.pgraph.specs.Tables.{shape}
-use Rattle.cert_parts.proofs.SetLemmas.{left_is}
-use Rattle.cert_parts.proofs.materials.makers_left.Goals as goal
-
-pub returns : goal.returns
-returns c =
-    left_is c.minus.result c.producers.result c.args.node.now.outside
-    (λ (u : ℕ). (shape c.args.graph.now).makes u c.args.x) c.minus.ensures c.producers.ensures

@@ -1,9 +1,0 @@
-use Rattle.std.proofs.Common.{map}
-use Rattle.pgraph.specs.Tables.{shape}
-use Rattle.pgraph.specs.View.{node_of, step_of}
-use Rattle.cert_parts.proofs.NodeLemmas.{IsOnWay}
-use Rattle.cert_parts.proofs.nodes.after_steps.Given as goal
-
-abbrev pub invariant-steps : goal.invariant-steps
-invariant-steps l = IsOnWay (shape l.graph) (node_of l.node) (node_of l.at) (map step_of
-    l.steps) l.i

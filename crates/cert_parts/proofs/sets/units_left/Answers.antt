@@ -1,8 +1,0 @@
-use Rattle.pgraph.specs.Tables.{shape}
-use Rattle.cert_parts.proofs.SetLemmas.{below_is}
-use Rattle.cert_parts.proofs.sets.units_left.Goals as goal
-
-pub returns : goal.returns
-returns c =
-    below_is c.minus.result c.below.result c.args.node.now.outside (shape c.args.graph.now).units
-    c.unit_count.result c.minus.ensures c.below.ensures c.unit_count.ensures

@@ -1,5 +1,0 @@
-use Rattle.design_laws.proofs.DesignLaws.{designs_are_networks}
-use Rattle.design_laws.proofs.laws.designs_are_networks.Goals as goal
-
-pub returns : goal.returns
-returns c = designs_are_networks c.expanded_is_valid.ensures

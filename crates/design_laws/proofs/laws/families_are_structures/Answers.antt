@@ -1,5 +1,0 @@
-use Rattle.design_laws.proofs.DesignLaws.{families_are_structures}
-use Rattle.design_laws.proofs.laws.families_are_structures.Goals as goal
-
-pub returns : goal.returns
-returns c = families_are_structures c.expanded_is_valid.ensures

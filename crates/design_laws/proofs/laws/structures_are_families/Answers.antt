@@ -1,5 +1,0 @@
-use Rattle.design_laws.proofs.DesignLaws.{structures_are_families}
-use Rattle.design_laws.proofs.laws.structures_are_families.Goals as goal
-
-pub returns : goal.returns
-returns c = structures_are_families c.expanded_is_valid.ensures

@@ -1,9 +1,0 @@
-use Rattle.std.proofs.Common.{◌≡◌, ◌∙◌, List, ℕ, true, sym, subst}
-use Rattle.number_sets.specs.Sets.{has}
-use Rattle.flow_rules.specs.Net.{beside}
-use Rattle.designs.proofs.folding.size_table.Goals as goal
-
-pub returns : goal.returns
-returns c =
-    λ k e. c.by_unit.ensures k (subst (λ (us : List ℕ). has us k ≡ true) (sym c.units.ensures) e)
-    ∙ λ j. beside (c.units.ensures j) (c.sizes.ensures j) k

@@ -1,9 +1,0 @@
-use Rattle.std.proofs.Common.{Some, Option, refl, sym, subst}
-use Rattle.tree_rules.specs.Claim.{Network}
-use Rattle.distinct_search.specs.Listing.{IsValueFor}
-use Rattle.distinct_search.proofs.listing.value_for.Goals as goal
-
-pub returns-in-Some : goal.returns-in-Some
-returns-in-Some c =
-    subst (λ (o : Option Network). IsValueFor o (Some c.value_of.result)) (sym c.in-Some.is)
-    (c.value_of.result, refl, c.value_of.ensures)

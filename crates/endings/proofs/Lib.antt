@@ -1,6 +1,0 @@
-pub mod Ending
-pub mod Put
-pub mod Seconds
-pub mod Printing
-pub mod Names
-pub mod Keeping

@@ -1,4 +1,0 @@
-use Rattle.endings.proofs.say.say_printed.Goals as goal
-
-pub returns : goal.returns
-returns g c = c.say_searched.ensures

@@ -1,5 +1,0 @@
-use Rattle.endings.proofs.Put.{no_seconds}
-use Rattle.endings.proofs.say.tell_line.Goals as goal
-
-pub tell-requires-clause-seconds : goal.tell-requires-clause-seconds
-tell-requires-clause-seconds g c = no_seconds

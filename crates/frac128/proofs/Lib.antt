@@ -1,2 +1,0 @@
-pub mod EuclidLemmas
-pub mod FractionLemmas

@@ -1,4 +1,0 @@
-pub mod Product
-pub mod Sum
-pub mod Order
-pub mod OrderLaws

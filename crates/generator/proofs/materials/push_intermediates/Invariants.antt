@@ -1,6 +1,0 @@
-use Rattle.std.proofs.Common.{◌≡◌, ◌++◌}
-use Rattle.problem_rules.specs.Generated.{intermediates}
-use Rattle.generator.proofs.materials.push_intermediates.Given as goal
-
-abbrev pub invariant-chaining : goal.invariant-chaining
-invariant-chaining l = l.materials.items ≡ l.fn.materials.items ++ intermediates l.number

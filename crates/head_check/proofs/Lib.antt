@@ -1,4 +1,0 @@
-pub mod HeadLemmas
-pub mod LineLemmas
-pub mod TrimLemmas
-pub mod UseLemmas

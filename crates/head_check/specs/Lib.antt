@@ -1,4 +1,0 @@
-pub mod Lines
-pub mod Trims
-pub mod Uses
-pub mod View

@@ -1,8 +1,0 @@
--- What the code knows at the place of a line, as the rules speak of it.
-use Rattle.pgraph.specs.View.{node_of}
-use Rattle.charges.specs.Known.{facts_of}
-use Rattle.head_rules.specs.Head as rules
-use Rattle.head_check.specs.declared.known.Known.{Known}
-
-abbrev pub known_of : Known → rules.Known
-known_of k = record { node = node_of k.node; facts = facts_of k.facts }

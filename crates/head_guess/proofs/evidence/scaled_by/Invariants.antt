@@ -1,9 +1,0 @@
-use Rattle.std.proofs.Common.{◌<◌, length}
-use Rattle.integer_laws.specs.Range.{AllInRange}
-use Rattle.head_guess.proofs.evidence.scaled_by.Given as goal
-
-abbrev pub invariant-multipliers : goal.invariant-multipliers
-invariant-multipliers l = record {
-  some : 0 < length l.numbers.items;
-  in_range : AllInRange l.numbers.items;
-}

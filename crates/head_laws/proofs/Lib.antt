@@ -1,3 +1,0 @@
-pub mod EmptyLemmas
-mod FaultLemmas
-mod HeadedLemmas

@@ -1,5 +1,0 @@
-use Rattle.head_laws.proofs.HeadedLemmas.{accepted_by_has_flows}
-use Rattle.head_laws.proofs.accepted_by_has_flows.Goals as goal
-
-pub returns : goal.returns
-returns c = accepted_by_has_flows

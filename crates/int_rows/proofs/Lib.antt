@@ -1,5 +1,0 @@
-pub mod RangeLemmas
-pub mod LowestLemmas
-pub mod Division
-pub mod Entries
-pub mod Unique

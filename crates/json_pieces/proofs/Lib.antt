@@ -1,2 +1,0 @@
-mod LongDivision
-pub mod Pieces

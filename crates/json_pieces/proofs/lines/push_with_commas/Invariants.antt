@@ -1,6 +1,0 @@
-use Rattle.pns_problem.proofs.Printed.{AreLinesPrinted}
-use Rattle.json_rules.specs.Json.{with_comma}
-use Rattle.json_pieces.proofs.lines.push_with_commas.Given as goal
-
-abbrev pub invariant-printing : goal.invariant-printing
-invariant-printing l = AreLinesPrinted with_comma l.pieces l.piece-index l.fn.text.items l.text.items

@@ -1,5 +1,0 @@
-pub mod Facts
-pub mod Json
-pub mod Lower
-pub mod Ranked
-pub mod Value

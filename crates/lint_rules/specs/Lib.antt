@@ -1,4 +1,0 @@
-pub mod Item
-pub mod Lint
-pub mod Warned
-pub mod Words

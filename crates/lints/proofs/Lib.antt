@@ -1,2 +1,0 @@
-mod Maximal
-mod Texts

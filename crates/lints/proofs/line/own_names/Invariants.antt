@@ -1,9 +1,0 @@
-use Rattle.std.proofs.Common.{◌≡◌, ◌++◌, drop}
-use Rattle.text_lines.specs.View.{texts}
-use Rattle.text_rules.specs.Line.{heads_at}
-use Rattle.text_rules.specs.declared.Section.TheVariants.{OperatingUnits}
-use Rattle.lints.proofs.line.own_names.Given as goal
-
-abbrev pub invariant-loop-line : goal.invariant-loop-line
-invariant-loop-line l = texts l.names.items ++ heads_at OperatingUnits (drop l.line-index
-    l.lines) ≡ heads_at OperatingUnits l.lines

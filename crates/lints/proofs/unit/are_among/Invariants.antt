@@ -1,6 +1,0 @@
-use Rattle.std.proofs.Common.{◌≡◌, drop}
-use Rattle.lint_rules.specs.Warned.{are_among}
-use Rattle.lints.proofs.unit.are_among.Given as goal
-
-abbrev pub invariant-looking : goal.invariant-looking
-invariant-looking l = are_among l.others (drop l.term-index l.terms) ≡ are_among l.others l.terms

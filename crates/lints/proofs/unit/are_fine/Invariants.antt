@@ -1,6 +1,0 @@
-use Rattle.std.proofs.Common.{◌≡◌, drop}
-use Rattle.lint_rules.specs.Warned.{are_fine}
-use Rattle.lints.proofs.unit.are_fine.Given as goal
-
-abbrev pub invariant-looking : goal.invariant-looking
-invariant-looking l = are_fine (drop l.term-index l.terms) ≡ are_fine l.terms

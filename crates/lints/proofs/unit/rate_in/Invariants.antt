@@ -1,6 +1,0 @@
-use Rattle.std.proofs.Common.{◌≡◌, drop}
-use Rattle.problem_rules.specs.Problem.{rate_in}
-use Rattle.lints.proofs.unit.rate_in.Given as goal
-
-abbrev pub invariant-looking : goal.invariant-looking
-invariant-looking l = rate_in (drop l.term-index l.terms) l.material ≡ rate_in l.terms l.material

@@ -1,3 +1,0 @@
-pub mod BalanceLemmas
-pub mod LeavingLemmas
-pub mod UnionLemmas

@@ -1,6 +1,0 @@
-use Rattle.studio_rules.specs.Seconds.{IsSecond}
-use Rattle.messages.proofs.notes.push_bytes.Given as goal
-
--- the line is a second line so far
-abbrev pub invariant-pushing : goal.invariant-pushing
-invariant-pushing l = IsSecond l.line.items

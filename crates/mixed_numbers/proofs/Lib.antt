@@ -1,2 +1,0 @@
-pub mod ShareLemmas
-pub mod NumberLemmas

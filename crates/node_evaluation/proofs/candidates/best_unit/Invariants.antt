@@ -1,0 +1,12 @@
+use Rattle.structure_list.specs.number_sets.Sets.{has, IsWithin}
+use Rattle.structure_list.specs.pns_rules.Structure.{is_needed}
+use Rattle.structure_list.specs.pgraph.Tables.{shape}
+use Rattle.structure_list.specs.pgraph.View.{node_of}
+use Rattle.node_evaluation.specs.Choices.{IsDecisive}
+use Rattle.node_evaluation.proofs.candidates.best_unit.Given as goal
+
+abbrev pub invariant-loop-x : goal.invariant-loop-x
+invariant-loop-x l = record {
+  within : IsWithin (has l.x-iterator) (is_needed (shape l.graph) (node_of l.node).inside);
+  decisive : IsDecisive (shape l.graph) (node_of l.node) l.best.unit;
+}

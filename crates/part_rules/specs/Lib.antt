@@ -1,7 +1,0 @@
-pub mod Graft
-pub mod Merge
-pub mod OpenLeaves
-pub mod Part
-pub mod Read
-pub mod Several
-pub mod Spelling

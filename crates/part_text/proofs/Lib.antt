@@ -1,4 +1,0 @@
-mod Reading
-pub mod Tokens
-mod Texts
-mod Once

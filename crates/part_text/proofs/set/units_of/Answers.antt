@@ -1,6 +1,0 @@
-use Rattle.part_text.proofs.Tokens.{token_utf8}
-use Rattle.part_text.proofs.set.units_of.Goals as goal
-
-pub returns-in-Err-clause-none : goal.returns-in-Err-clause-none
-returns-in-Err-clause-none c =
-    λ units is e. c.in-Err.ensures.cases.0 (token_utf8 c.args.token.now units e)

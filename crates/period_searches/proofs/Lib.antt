@@ -1,2 +1,0 @@
-mod Searched
-mod Texts

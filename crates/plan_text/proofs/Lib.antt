@@ -1,5 +1,0 @@
-mod Places
-mod Resumed
-mod Taken
-mod Valid
-mod Whole

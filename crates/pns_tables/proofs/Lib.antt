@@ -1,5 +1,0 @@
-pub mod FlowLemmas
-pub mod ReadLemmas
-mod RowLemmas
-pub mod SizeLemmas
-pub mod Walk

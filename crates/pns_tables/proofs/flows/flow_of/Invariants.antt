@@ -1,8 +1,0 @@
-use Rattle.flow_rules.specs.Net.{net_of}
-use Rattle.tree_rules.specs.Claim.{size_in}
-use Rattle.pns_tables.proofs.FlowLemmas.{IsMadeSoFar}
-use Rattle.pns_tables.proofs.flows.flow_of.Given as goal
-
-abbrev pub invariant-loop-u : goal.invariant-loop-u
-invariant-loop-u l = IsMadeSoFar (net_of l.fn.problem) (size_in
-    l.fn.network) l.fn.j l.fn.network.units l.made l.u-iterator

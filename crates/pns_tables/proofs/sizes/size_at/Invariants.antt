@@ -1,7 +1,0 @@
-use Rattle.std.proofs.Common.{◌≡◌, drop}
-use Rattle.flow_rules.specs.Net.{beside}
-use Rattle.tree_rules.specs.Claim.{size_in}
-use Rattle.pns_tables.proofs.sizes.size_at.Given as goal
-
-abbrev pub invariant-units : goal.invariant-units
-invariant-units l = beside l.left (drop l.size-index l.network.sizes) l.u ≡ size_in l.network l.u

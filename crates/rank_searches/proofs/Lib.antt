@@ -1,3 +1,0 @@
-mod DistinctLists
-mod Marks
-pub mod Rankings

@@ -1,8 +1,0 @@
-use Rattle.std.proofs.Common.{drop}
-use Rattle.problem_rules.specs.Each.{Each}
-use Rattle.branch_tree.specs.Sized.{IsKept}
-use Rattle.rank_searches.proofs.ranking.networks_are_kept.Given as goal
-
--- the networks before the index are kept, so all are if those that follow are
-abbrev pub invariant-networks : goal.invariant-networks
-invariant-networks l = Each IsKept (drop l.network-index l.networks) → Each IsKept l.networks

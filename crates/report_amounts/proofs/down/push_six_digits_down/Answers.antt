@@ -1,0 +1,45 @@
+use Rattle.std.proofs.Common.{◌≡◌, ◌<◌, ◌/◌, ◌%◌, ◌*◌, ◌+◌, ◌-◌, ◌^◌, ◌++◌, ◌∙◌, ◌==◌, ◌&&◌, ap, ℕ}
+use Rattle.std.proofs.Common.{List, arith, string_bytes, unsigned_abs, SFits, rules}
+use Rattle.std.specs.Prelude.{int_lt, pos, ℤ, not, if◌then◌else◌}
+use Rattle.std.specs.Int.{w128}
+use Rattle.std.proofs.lemmas.Int.{to_z-of_z, ints}
+use Rattle.report_rules.specs.Decimal.{signed_text, places_behind}
+use Rattle.report_amounts.proofs.Division.{six_down_text, on_ok}
+use Rattle.report_amounts.proofs.down.push_six_digits_down.Goals as goal
+
+pub returns : goal.returns
+returns c =
+    let h = c.args.half in
+    let num = c.args.number in
+    let k = c.places_behind-places.result in
+    let f : SFits w128 c.args.number = search rules in
+    let g : SFits w128 c.args.d = search rules in
+    let a : c.unsigned_abs-size.result ≡ unsigned_abs c.args.number =
+    c.unsigned_abs-size.ensures.value ∙ ap unsigned_abs (to_z-of_z w128 c.args.number f) in
+    let b : c.unsigned_abs-over.result ≡ unsigned_abs c.args.d =
+    c.unsigned_abs-over.ensures.value ∙ ap unsigned_abs (to_z-of_z w128 c.args.d g) in
+    let places : k ≡ places_behind 6
+    ((unsigned_abs c.args.number / unsigned_abs c.args.d) / (2000000 * h)) =
+    c.places_behind-places.ensures.value
+    ∙ ap (places_behind 6) (c.whole_part.ensures ∙ (λ i. (a i / b i) / (2000000 * h))) in
+    let unit : c.unit_of-unit.result ≡ 2 * (h * 10 ^ (6 - k)) =
+    c.unit_of-unit.ensures.value ∙ ap (λ r. 2 * (h * r)) c.scale_of-rest.ensures.power in
+    let exact : c.divides-exact.result
+    ≡ (unsigned_abs num % unsigned_abs c.args.d == 0
+    && (unsigned_abs num / unsigned_abs c.args.d) % (2 * (h * 10 ^ (6 - k))) == 0) =
+    c.divides-exact.ensures ∙ (λ i. a i % b i == 0 && (a i / b i) % unit i == 0) in
+    let negative = ap (λ (z : ℤ). int_lt z (pos 0)) (to_z-of_z w128 c.args.number f) in
+    let down : c.next_down-down.result
+    ≡ unsigned_abs num / unsigned_abs c.args.d / (2 * (h * 10 ^ (6 - k)))
+    + (if int_lt num (pos 0) && not c.divides-exact.result then 1 else 0) =
+    c.next_down-down.ensures
+    ∙ (λ i. a i / b i / unit i + (if negative i && not c.divides-exact.result then 1 else 0)) in
+    let old = string_bytes c.args.text.now in
+    on_ok c.push_signed.result _ _
+    (λ e. e ∙ ap (λ (z : ℤ). old ++ signed_text k (int_lt z (pos 0)) c.next_down-down.result)
+    (to_z-of_z w128 c.args.number f)
+    ∙ ap (λ (t : List ℕ). old ++ t)
+    (six_down_text h num (unsigned_abs c.args.d) k c.requires.half
+    (omega (arith, ints, c.requires.d)) c.places_behind-places.ensures.few places
+    c.divides-exact.result c.next_down-down.result exact down))
+    c.push_signed.ensures

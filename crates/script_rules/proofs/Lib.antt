@@ -1,3 +1,0 @@
-mod LineFaults
-mod ReadScripts
-mod Texts

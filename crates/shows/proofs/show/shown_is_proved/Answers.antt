@@ -1,5 +1,0 @@
-use Rattle.shows.proofs.Shown as shown
-use Rattle.shows.proofs.show.shown_is_proved.Goals as goal
-
-pub returns : goal.returns
-returns c = shown.shown_is_proved

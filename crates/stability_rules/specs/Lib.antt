@@ -1,3 +1,0 @@
-pub mod Spot
-pub mod Range
-pub mod Rise

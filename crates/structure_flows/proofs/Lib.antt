@@ -1,6 +1,0 @@
-pub mod AnswerLemmas
-pub mod CertifiedLemmas
-pub mod DecidedLemmas
-pub mod KnownLemmas
-pub mod LeastLemmas
-pub mod NodeLemmas

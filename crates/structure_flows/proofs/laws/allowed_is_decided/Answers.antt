@@ -1,7 +1,0 @@
-use Rattle.structure_flows.proofs.DecidedLemmas.{is_sound, is_decided}
-use Rattle.structure_flows.proofs.laws.allowed_is_decided.Goals as goal
-
-pub returns : goal.returns
-returns c =
-    λ p valid us structure allowed.
-    (is_sound p us structure, is_decided p us structure (c.valid_is_proper.ensures p valid) allowed)

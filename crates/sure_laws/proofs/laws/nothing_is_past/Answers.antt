@@ -1,5 +1,0 @@
-use Rattle.sure_laws.proofs.NoDemandsLemmas as lemmas
-use Rattle.sure_laws.proofs.laws.nothing_is_past.Goals as goal
-
-pub returns : goal.returns
-returns c = lemmas.nothing_is_past

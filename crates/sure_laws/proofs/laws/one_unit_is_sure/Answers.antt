@@ -1,5 +1,0 @@
-use Rattle.sure_laws.proofs.OneUnitLemmas as lemmas
-use Rattle.sure_laws.proofs.laws.one_unit_is_sure.Goals as goal
-
-pub returns : goal.returns
-returns c = lemmas.one_unit_is_sure

@@ -1,4 +1,0 @@
-pub mod NoDemands
-pub mod Laws
-pub mod Calls
-pub mod OneUnit

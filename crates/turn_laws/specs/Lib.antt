@@ -1,4 +1,0 @@
-pub mod Kept
-pub mod Laws
-pub mod Turns
-pub mod Values
