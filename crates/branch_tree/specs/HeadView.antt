@@ -1,7 +1,7 @@
 -- The lines of a head of the code, as the rules speak of them.
 use Rattle.std.specs.Prelude.{List, map}
 use Rattle.pgraph.specs.View.{step_of}
-use Rattle.head_rules.specs.Head as rules
+use Rattle.tree_rules.specs.Head as rules
 use Rattle.branch_tree.specs.declared.line.HeadLine.{HeadLine}
 use Rattle.branch_tree.specs.declared.line.HeadLine.TheVariants.{Step, Cap, Out, Trim, Use}
 

@@ -13,7 +13,7 @@ pub struct Head {
 
 impl Model for Head {
     ghost use Rattle.std.specs.Prelude.{List};
-    ghost use Rattle.head_rules.specs.Head as rules;
+    ghost use Rattle.tree_rules.specs.Head as rules;
     ghost use Rattle.branch_tree.specs.HeadView.{lines_of};
 
     ghost Value = { List rules.HeadLine };

@@ -6,7 +6,7 @@ use Rattle.problem_rules.specs.Problem.{Problem}
 use Rattle.tree_rules.specs.Claim.{Network, Claim, network, infeasible, CostOver}
 use Rattle.tree_rules.specs.Accepted.{Tree}
 use Rattle.tree_rules.specs.Tail.{whole}
-use Rattle.head_rules.specs.Head.{HeadLine}
+use Rattle.tree_rules.specs.Head.{HeadLine}
 use Rattle.studio_rules.specs.Command.{Solving}
 use Rattle.studio_rules.specs.Reading.{GivesProblem}
 use Rattle.studio_rules.specs.Solve.{AreTextOf, AreHeadedTextOf, HasProof}

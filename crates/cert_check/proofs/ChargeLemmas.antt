@@ -7,11 +7,11 @@ use Rattle.problem_rules.specs.Each.{Each}
 use Rattle.problem_rules.specs.Problem.{Problem}
 use Rattle.pns_rules.specs.Shape.{shape_of}
 use Rattle.pns_rules.specs.Nodes.{Node}
-use Rattle.charge_rules.specs.Facts.{Facts}
-use Rattle.charge_rules.specs.Leaf.{Handed, IsScale, IsOneEach, CoversPass, IsFormed}
-use Rattle.charge_rules.specs.Leaf.{ChargeReaches, charge_of, ChargePasses, ChargeFails}
-use Rattle.charge_rules.specs.declared.charge_why.ChargeWhy.{ChargeWhy}
-use Rattle.charge_rules.specs.declared.charge_why.ChargeWhy.TheVariants as causes
+use Rattle.flow_rules.specs.ChargeFacts.{Facts}
+use Rattle.flow_rules.specs.ChargeLeaf.{Handed, IsScale, IsOneEach, CoversPass, IsFormed}
+use Rattle.flow_rules.specs.ChargeLeaf.{ChargeReaches, charge_of, ChargePasses, ChargeFails}
+use Rattle.flow_rules.specs.declared.charge_why.ChargeWhy.{ChargeWhy}
+use Rattle.flow_rules.specs.declared.charge_why.ChargeWhy.TheVariants as causes
 use Rattle.tree_rules.specs.Claim.{CostOver, IsAtLeast}
 use Rattle.tree_rules.specs.Leaf.{IsClaimed}
 use Rattle.pgraph.specs.declared.cover.Cover.{Cover}

@@ -3,8 +3,8 @@ use Rattle.std.proofs.Common.{◌≡◌, ℕ, zero, suc, ◌<◌, ◌≤◌, Lis
 use Rattle.std.proofs.Common.{subst, arith, IfSome}
 use Rattle.pns_rules.specs.Shape.{Shape}
 use Rattle.pns_rules.specs.Nodes.{Node}
-use Rattle.charge_rules.specs.Cover as rules
-use Rattle.charge_rules.specs.Leaf.{CoverPasses, CoversPass}
+use Rattle.flow_rules.specs.Cover as rules
+use Rattle.flow_rules.specs.ChargeLeaf.{CoverPasses, CoversPass}
 use Rattle.problem_rules.specs.Each.{Each}
 use Rattle.pgraph.specs.declared.cover.Cover.{Cover}
 use Rattle.pgraph.specs.CoversView.{cover_of, covers_of}

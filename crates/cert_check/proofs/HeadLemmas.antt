@@ -7,10 +7,10 @@ use Rattle.pns_rules.specs.Shape.{shape_of}
 use Rattle.tree_rules.specs.Accepted.{first_node}
 use Rattle.tree_rules.specs.Claim.{CostOver}
 use Rattle.cert_check.specs.Known.{KnowsInside}
-use Rattle.head_rules.specs.declared.line_why.LineWhy.{LineWhy}
-use Rattle.head_rules.specs.Head.{HeadLine, Known, known_first, after_line, after_lines}
-use Rattle.head_rules.specs.Head.{LinePasses, LinesPass}
-use Rattle.head_rules.specs.Faults.{LineFails, IsFirstToFail}
+use Rattle.tree_rules.specs.declared.line_why.LineWhy.{LineWhy}
+use Rattle.tree_rules.specs.Head.{HeadLine, Known, known_first, after_line, after_lines}
+use Rattle.tree_rules.specs.Head.{LinePasses, LinesPass}
+use Rattle.tree_rules.specs.HeadFaults.{LineFails, IsFirstToFail}
 
 -- nothing is taken in before the first line
 pub nothing_inside : (p : Problem) (k : Known) → k ≡ known_first p first_node

@@ -7,7 +7,7 @@ use Rattle.problem_rules.specs.Validity.{IsValid}
 use Rattle.pns_rules.specs.Shape.{Shape, shape_of}
 use Rattle.pns_rules.specs.Structure.{IsStructure, IsAllowed}
 use Rattle.pns_rules.specs.Nodes.{Node}
-use Rattle.charge_rules.specs.Facts.{Facts}
+use Rattle.flow_rules.specs.ChargeFacts.{Facts}
 use Rattle.tree_rules.specs.declared.why.Why.{Why}
 use Rattle.tree_rules.specs.declared.refusal.Refusal as trees
 use Rattle.tree_rules.specs.declared.refusal.Refusal.TheVariants as causes
@@ -18,22 +18,22 @@ use Rattle.tree_rules.specs.Costs.{CostsEnough}
 use Rattle.tree_rules.specs.Accepted.{Tree, first_node}
 use Rattle.tree_laws.specs.Laws.{PassingClaimHasNoFault}
 use Rattle.tree_laws.specs.HeadLaws.{AcceptedByIsOptimal, PassingTreeHasNoFaultBy}
-use Rattle.head_rules.specs.declared.line_why.LineWhy.{LineWhy}
-use Rattle.head_rules.specs.declared.refusal.Refusal.{Refusal}
-use Rattle.head_rules.specs.declared.refusal.Refusal.TheVariants.{Memory, Claim, Line}
-use Rattle.head_rules.specs.declared.refusal.Refusal.TheVariants as refusals
-use Rattle.head_rules.specs.Head.{HeadLine, Known, known_first, LinesPass}
-use Rattle.head_rules.specs.Faults.{IsFirstToFail}
-use Rattle.head_rules.specs.Headed.{head_known, head_node, head_facts, HeadPasses, LeafPassesBy}
-use Rattle.head_rules.specs.Headed.{LeafFailsBy, IsAcceptedBy, ProvesBy, RefusesBy}
-use Rattle.head_rules.specs.Laws.{PassingHasNoFault}
+use Rattle.tree_rules.specs.declared.line_why.LineWhy.{LineWhy}
+use Rattle.tree_rules.specs.declared.head_refusal.HeadRefusal.{HeadRefusal}
+use Rattle.tree_rules.specs.declared.head_refusal.HeadRefusal.TheVariants.{Memory, Claim, Line}
+use Rattle.tree_rules.specs.declared.head_refusal.HeadRefusal.TheVariants as refusals
+use Rattle.tree_rules.specs.Head.{HeadLine, Known, known_first, LinesPass}
+use Rattle.tree_rules.specs.HeadFaults.{IsFirstToFail}
+use Rattle.tree_rules.specs.Headed.{head_known, head_node, head_facts, HeadPasses, LeafPassesBy}
+use Rattle.tree_rules.specs.Headed.{LeafFailsBy, IsAcceptedBy, ProvesBy, RefusesBy}
+use Rattle.tree_rules.specs.HeadLaws.{PassingHasNoFault}
 use Rattle.cert_check.specs.Refusals.{NamesFault}
 use Rattle.cert_check.specs.Headed.{IsOkOrMemoryBy, NamesFaultBy, refusal_by}
 
 module _ (p : Problem) (claim : rules.Claim) (head : List HeadLine) (tree : Tree) where
   -- the refusal of what proves a claim can only be one of memory
   pub accepts_by : PassingClaimHasNoFault → PassingHasNoFault → PassingTreeHasNoFaultBy
-      → (e : Refusal) → RefusesBy false p (head_node p head) claim head tree e
+      → (e : HeadRefusal) → RefusesBy false p (head_node p head) claim head tree e
       → IsAcceptedBy p claim head tree → e ≡ Memory
   accepts_by no_claim no_line no_node Memory f h = refl
   accepts_by no_claim no_line no_node (Claim why) f h =
@@ -78,7 +78,7 @@ module _ (p : Problem) (claim : rules.Claim) (head : List HeadLine) (tree : Tree
             Pass (shape_of p) (LeafPassesBy c.0.facts false p c.1) (c.0.node ∷ []) tree) all_is h;
       }
 
-      refuses_one : (e : Refusal)
+      refuses_one : (e : HeadRefusal)
           → NamesFaultBy (shape_of p) (LeafPassesBy f false p cost) (LeafFailsBy f false p cost)
           (n ∷ []) tree e
           → RefusesBy false p (head_node p head) claim head tree e
@@ -95,13 +95,13 @@ module _ (p : Problem) (claim : rules.Claim) (head : List HeadLine) (tree : Tree
             (refusals.Node k why)) all_is h,
       )
 
-      pub walk_accepts : {A : Type 0} (r : Result A Refusal)
+      pub walk_accepts : {A : Type 0} (r : Result A HeadRefusal)
           → OnOk r (Pass (shape_of p) (LeafPassesBy f false p cost) (n ∷ []) tree)
           → OnOk r (IsAcceptedBy p claim head tree)
       walk_accepts (Ok a) h = accepts_all h
       walk_accepts (Err e) h = tt
 
-      pub walk_refuses : {A : Type 0} (r : Result A Refusal)
+      pub walk_refuses : {A : Type 0} (r : Result A HeadRefusal)
           → IfErr r
           (NamesFaultBy (shape_of p) (LeafPassesBy f false p cost) (LeafFailsBy f false p cost)
           (n ∷ []) tree)
@@ -111,13 +111,13 @@ module _ (p : Problem) (claim : rules.Claim) (head : List HeadLine) (tree : Tree
 
   -- what proves a claim is refused for memory alone
   pub accepts_on : {A : Type 0} → PassingClaimHasNoFault → PassingHasNoFault
-      → PassingTreeHasNoFaultBy → (r : Result A Refusal)
+      → PassingTreeHasNoFaultBy → (r : Result A HeadRefusal)
       → IfErr r (RefusesBy false p (head_node p head) claim head tree)
       → IsAcceptedBy p claim head tree → IsOkOrMemoryBy r
   accepts_on no_claim no_line no_node (Ok a) f h = tt
   accepts_on no_claim no_line no_node (Err e) f h = accepts_by no_claim no_line no_node e f h
 
-  pub least_on : {A : Type 0} → AcceptedByIsOptimal → IsValid p → (r : Result A Refusal)
+  pub least_on : {A : Type 0} → AcceptedByIsOptimal → IsValid p → (r : Result A HeadRefusal)
       → OnOk r (IsAcceptedBy p claim head tree)
       → OnOk r ((s : ℕ → Bool) → IsStructure (shape_of p) s → IsAllowed (shape_of p) s
       → CostsEnough p (rules.claimed_cost claim) s)

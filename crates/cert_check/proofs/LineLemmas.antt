@@ -9,20 +9,20 @@ use Rattle.pns_rules.specs.Nodes.{IsPossible, after}
 use Rattle.tree_rules.specs.Tree.{StepsPass, after_all}
 use Rattle.tree_rules.specs.Claim.{CostOver, IsAtLeast}
 use Rattle.tree_rules.specs.Leaf.{IsClaimed}
-use Rattle.charge_rules.specs.Facts.{Demand, Facts}
-use Rattle.charge_rules.specs.Cover.{Cover, IsFree}
-use Rattle.charge_rules.specs.Leaf.{Handed}
+use Rattle.flow_rules.specs.ChargeFacts.{Demand, Facts}
+use Rattle.flow_rules.specs.Cover.{Cover, IsFree}
+use Rattle.flow_rules.specs.ChargeLeaf.{Handed}
 use Rattle.flow_rules.specs.Net.{net_of}
 use Rattle.cert_check.specs.Known.{KnowsInside}
-use Rattle.head_rules.specs.declared.line_why.LineWhy.{LineWhy}
-use Rattle.head_rules.specs.declared.line_why.LineWhy.TheVariants as causes
-use Rattle.head_rules.specs.Charged.{IsCharged}
-use Rattle.head_rules.specs.Trim.{trimmed_size, MayTrim}
-use Rattle.head_rules.specs.Head as rules
-use Rattle.head_rules.specs.Head.{step, cap, out, trim, uses, with_in, with_out, with_least}
-use Rattle.head_rules.specs.Head.{with_most, with_used, with_demand, MayCap, MayLeave, LinePasses}
-use Rattle.head_rules.specs.Head.{after_line}
-use Rattle.head_rules.specs.Faults.{ChargeFails, IsSize, IsUse, LineFails}
+use Rattle.tree_rules.specs.declared.line_why.LineWhy.{LineWhy}
+use Rattle.tree_rules.specs.declared.line_why.LineWhy.TheVariants as causes
+use Rattle.tree_rules.specs.Charged.{IsCharged}
+use Rattle.tree_rules.specs.Trim.{trimmed_size, MayTrim}
+use Rattle.tree_rules.specs.Head as rules
+use Rattle.tree_rules.specs.Head.{step, cap, out, trim, uses, with_in, with_out, with_least}
+use Rattle.tree_rules.specs.Head.{with_most, with_used, with_demand, MayCap, MayLeave, LinePasses}
+use Rattle.tree_rules.specs.Head.{after_line}
+use Rattle.tree_rules.specs.HeadFaults.{ChargeFails, IsSize, IsUse, LineFails}
 
 -- ---- what a charge hands in
 

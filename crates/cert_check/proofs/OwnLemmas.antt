@@ -4,7 +4,7 @@ use Rattle.problem_rules.specs.Problem.{Problem}
 use Rattle.pns_rules.specs.Shape.{shape_of}
 use Rattle.pns_rules.specs.Nodes.{Node}
 use Rattle.flow_rules.specs.Net.{net_of}
-use Rattle.charge_rules.specs.Facts.{Facts, own_facts}
+use Rattle.flow_rules.specs.ChargeFacts.{Facts, own_facts}
 use Rattle.tree_rules.specs.declared.why.Why.{Why}
 use Rattle.tree_rules.specs.declared.refusal.Refusal.{Refusal}
 use Rattle.tree_rules.specs.declared.refusal.Refusal.TheVariants.{Memory, Claim}
@@ -14,7 +14,7 @@ use Rattle.tree_rules.specs.Claim.{CostOver}
 use Rattle.tree_rules.specs.Leaf.{Leaf, LeafPasses, LeafFails}
 use Rattle.tree_rules.specs.Accepted.{Tree}
 use Rattle.tree_laws.proofs.OpenLemmas.{passes_too}
-use Rattle.head_rules.specs.Headed.{LeafPassesBy, LeafFailsBy}
+use Rattle.tree_rules.specs.Headed.{LeafPassesBy, LeafFailsBy}
 use Rattle.tree_laws.proofs.EmptyLemmas.{by_passes, by_fails, fault_too}
 use Rattle.cert_check.specs.Refusals.{NamesFault}
 use Rattle.cert_check.specs.declared.walk.Stop.{Stop}

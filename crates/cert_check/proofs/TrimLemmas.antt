@@ -10,8 +10,8 @@ use Rattle.std.proofs.lemmas.Int.{ints, clamps}
 use Rattle.number_sets.specs.Sets.{listed}
 use Rattle.pns_rules.specs.Nodes.{Node}
 use Rattle.flow_rules.specs.Net.{Net, high_end}
-use Rattle.charge_rules.specs.Facts.{Facts}
-use Rattle.head_rules.specs.Trim.{greatest, makers_most}
+use Rattle.flow_rules.specs.ChargeFacts.{Facts}
+use Rattle.tree_rules.specs.Trim.{greatest, makers_most}
 use Rattle.cert_check.specs.Trims.{Bears}
 
 max_swap : (a b c : ℤ) → int_max a (int_max b c) ≡ int_max b (int_max a c)

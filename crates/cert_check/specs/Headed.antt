@@ -8,17 +8,17 @@ use Rattle.tree_rules.specs.declared.refusal.Refusal.TheVariants as causes
 use Rattle.tree_rules.specs.Fault.{IsFirstFault}
 use Rattle.tree_rules.specs.Leaf.{Leaf}
 use Rattle.tree_rules.specs.Accepted.{Tree}
-use Rattle.head_rules.specs.declared.refusal.Refusal.{Refusal}
-use Rattle.head_rules.specs.declared.refusal.Refusal.TheVariants.{Memory, Claim, Line}
-use Rattle.head_rules.specs.declared.refusal.Refusal.TheVariants as refusals
+use Rattle.tree_rules.specs.declared.head_refusal.HeadRefusal.{HeadRefusal}
+use Rattle.tree_rules.specs.declared.head_refusal.HeadRefusal.TheVariants.{Memory, Claim, Line}
+use Rattle.tree_rules.specs.declared.head_refusal.HeadRefusal.TheVariants as refusals
 
 -- the answer is Ok or `Memory`
-abbrev pub IsOkOrMemoryBy : {A : Type 0} → Result A Refusal → Type 0
+abbrev pub IsOkOrMemoryBy : {A : Type 0} → Result A HeadRefusal → Type 0
 IsOkOrMemoryBy (Ok x) = Unit {0}
 IsOkOrMemoryBy (Err e) = e ≡ Memory
 
 -- a refusal of nodes, in the words of a tree with a head
-abbrev pub refusal_by : trees.Refusal → Refusal
+abbrev pub refusal_by : trees.Refusal → HeadRefusal
 refusal_by causes.Memory = Memory
 refusal_by (causes.Claim why) = Claim why
 refusal_by (causes.Node k why) = refusals.Node k why
@@ -26,7 +26,7 @@ refusal_by (causes.Node k why) = refusals.Node k why
 -- of the subtrees of the nodes, the first that fails is the one that the refusal names, for its
 -- cause
 abbrev pub NamesFaultBy : Shape → (Node → Leaf → Type 0) → (Node → Leaf → Why → Type 0) → List Node
-    → Tree → Refusal → Type 0
+    → Tree → HeadRefusal → Type 0
 NamesFaultBy g P F starts tree Memory = Unit {0}
 NamesFaultBy g P F starts tree (Claim why) = ⊥
 NamesFaultBy g P F starts tree (Line i why) = ⊥

@@ -4,10 +4,10 @@ use Rattle.problem_rules.specs.Problem.{Problem}
 use Rattle.pns_rules.specs.Shape.{shape_of}
 use Rattle.pgraph.specs.View.{node_of}
 use Rattle.tree_rules.specs.Claim.{CostOver}
-use Rattle.head_rules.specs.Head as rules
-use Rattle.head_rules.specs.Head.{HeadLine, after_line, LinePasses}
-use Rattle.head_rules.specs.Faults.{LineFails}
-use Rattle.head_rules.specs.declared.line_why.LineWhy.{LineWhy}
+use Rattle.tree_rules.specs.Head as rules
+use Rattle.tree_rules.specs.Head.{HeadLine, after_line, LinePasses}
+use Rattle.tree_rules.specs.HeadFaults.{LineFails}
+use Rattle.tree_rules.specs.declared.line_why.LineWhy.{LineWhy}
 use Rattle.cert_check.specs.Known.{KnowsInside}
 use Rattle.cert_check.specs.View.{known_of}
 use Rattle.cert_check.specs.declared.known.Known.{Known}

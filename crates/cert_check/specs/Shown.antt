@@ -1,6 +1,6 @@
 -- What contracts see of a claimed cost, and of what a charge hands in.
 use Rattle.std.specs.Prelude.{ℤ, List, Option, Some, None}
-use Rattle.charge_rules.specs.Leaf.{Handed}
+use Rattle.flow_rules.specs.ChargeLeaf.{Handed}
 use Rattle.tree_rules.specs.Claim as rules
 use Rattle.exact_numbers.specs.declared.cost.CostOver.{CostOver}
 use Rattle.pgraph.specs.declared.cover.Cover.{Cover}

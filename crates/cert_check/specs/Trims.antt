@@ -2,8 +2,8 @@
 use Rattle.std.specs.Prelude.{◌≡◌, ℕ, pos, ◌≤ℤ◌, ◌<ℤ◌, false}
 use Rattle.pns_rules.specs.Nodes.{Node}
 use Rattle.flow_rules.specs.Net.{Net, high_end}
-use Rattle.charge_rules.specs.Facts.{Facts}
-use Rattle.head_rules.specs.Trim.{makers_most}
+use Rattle.flow_rules.specs.ChargeFacts.{Facts}
+use Rattle.tree_rules.specs.Trim.{makers_most}
 
 -- an output is no raw material, and of an input no more can be made than may be left over
 abbrev pub Bears : Net → Node → Facts → ℕ → ℕ → Type 0

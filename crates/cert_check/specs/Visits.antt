@@ -10,7 +10,7 @@ use Rattle.tree_rules.specs.Ways.{Way, width, MayBranch, options_at}
 use Rattle.tree_rules.specs.Leaf.{Leaf}
 use Rattle.tree_rules.specs.Accepted.{Tree}
 use Rattle.charges.specs.Known.{facts_of}
-use Rattle.head_rules.specs.Headed.{LeafPassesBy, LeafFailsBy}
+use Rattle.tree_rules.specs.Headed.{LeafPassesBy, LeafFailsBy}
 use Rattle.cert_check.specs.Shown.{cost_over}
 use Rattle.cert_check.specs.Bare.{as_judged}
 use Rattle.cert_check.specs.declared.visit.Judge.{Judge}

@@ -2,8 +2,8 @@
 ghost use Rattle.std.specs.Prelude.{◌≡◌, ◌↔◌, ◌<◌, ◌≤ℤ◌, ◌<ℤ◌, pos, Bool, IsTrue, IfSome, IfNone};
 ghost use Rattle.std.specs.Prelude.{OnOk, IfErr};
 ghost use Rattle.pns_rules.specs.Shape.{shape_of};
-ghost use Rattle.charge_rules.specs.Leaf.{IsScale, IsOneEach, CoverPasses, CoversPass, IsFormed};
-ghost use Rattle.charge_rules.specs.Leaf.{ChargeReaches, charge_of, ChargePasses, ChargeFails};
+ghost use Rattle.flow_rules.specs.ChargeLeaf.{IsScale, IsOneEach, CoverPasses, CoversPass, IsFormed};
+ghost use Rattle.flow_rules.specs.ChargeLeaf.{ChargeReaches, charge_of, ChargePasses, ChargeFails};
 ghost use Rattle.charges.specs.Known.{facts_of};
 ghost use Rattle.tree_rules.specs.Claim.{IsAtLeast};
 ghost use Rattle.tree_rules.specs.Leaf.{IsClaimed};
@@ -15,7 +15,7 @@ ghost use Rattle.cert_check.specs.Known.{KnowsInside};
 ghost use Rattle.cert_check.specs.Shown.{cost_over, handed};
 
 use crate::leaves::{is_one_each, is_scale};
-use charge_rules::ChargeWhy;
+use flow_rules::ChargeWhy;
 use charges::{Charge, Facts, charge_of, covers_node, is_cover};
 use pgraph::Cover;
 use exact_numbers::CostOver;

@@ -5,17 +5,17 @@ ghost use Rattle.pgraph.specs.View.{node_of};
 ghost use Rattle.charges.specs.Known.{facts_of};
 ghost use Rattle.cert_check.specs.Known.{KnowsInside};
 ghost use Rattle.cert_check.specs.Shown.{cost_over};
-ghost use Rattle.head_rules.specs.Charged.{IsCharged};
-ghost use Rattle.head_rules.specs.Faults as rules;
+ghost use Rattle.tree_rules.specs.Charged.{IsCharged};
+ghost use Rattle.tree_rules.specs.HeadFaults as rules;
 
 use crate::known::Known;
 use branch_tree::Scaled;
 use crate::judge_charge;
-use charge_rules::ChargeWhy;
+use flow_rules::ChargeWhy;
 use charges::Charge;
 use pgraph::Covers;
 use exact_numbers::CostOver;
-use head_rules::LineWhy;
+use tree_rules::LineWhy;
 use pgraph::Site;
 
 /// The cause of a charge that fails, as that of its line.

@@ -5,8 +5,8 @@ ghost use Rattle.pgraph.specs.View.{node_of};
 ghost use Rattle.tree_rules.specs.Accepted.{first_node};
 ghost use Rattle.cert_check.specs.Known.{KnowsInside};
 ghost use Rattle.cert_check.specs.Shown.{cost_over};
-ghost use Rattle.head_rules.specs.Head.{known_first, after_lines, LinesPass};
-ghost use Rattle.head_rules.specs.Faults.{IsFirstToFail};
+ghost use Rattle.tree_rules.specs.Head.{known_first, after_lines, LinesPass};
+ghost use Rattle.tree_rules.specs.HeadFaults.{IsFirstToFail};
 ghost use Rattle.branch_tree.specs.HeadView.{lines_of};
 ghost use Rattle.cert_check.specs.View.{known_of};
 
@@ -14,7 +14,7 @@ use crate::known::Known;
 use crate::line::judge_line;
 use exact_numbers::CostOver;
 use branch_tree::HeadLine;
-use head_rules::LineWhy;
+use tree_rules::LineWhy;
 use pgraph::Site;
 
 /// The first line of a head that fails, counted from 0, and why.

@@ -11,8 +11,8 @@ ghost use Rattle.branch_tree.specs.View.{claim_of};
 ghost use Rattle.charges.specs.Known.{facts_of};
 ghost use Rattle.cert_check.specs.Known.{KnowsInside};
 ghost use Rattle.cert_check.specs.Shown.{cost_over};
-ghost use Rattle.head_rules.specs.Headed as rules;
-ghost use Rattle.head_rules.specs.Headed.{head_node, IsAcceptedBy, RefusesBy};
+ghost use Rattle.tree_rules.specs.Headed as rules;
+ghost use Rattle.tree_rules.specs.Headed.{head_node, IsAcceptedBy, RefusesBy};
 ghost use Rattle.cert_check.specs.Headed.{IsOkOrMemoryBy, NamesFaultBy, refusal_by};
 
 use crate::claim::{cost_of_claim, judge_claim};
@@ -23,20 +23,20 @@ use exact_numbers::CostOver;
 use crate::{Known, judge_head};
 use tree_laws::{accepted_by_is_optimal, tree_has_one_fault_by};
 use branch_tree::Head;
-use head_rules::{Refusal, one_fault};
+use tree_rules::{HeadRefusal, one_fault};
 use pgraph::Site;
 use std::alloc::Global;
 use tree_laws::claim_has_one_fault;
 use tree_rules::Refusal as NodeRefusal;
 
 /// Why the nodes of a tree with a head are refused.
-fn refusal_by(refusal: NodeRefusal) -> Refusal
+fn refusal_by(refusal: NodeRefusal) -> HeadRefusal
     ensures { result ≡ refusal_by refusal }
 {
     match refusal {
-        NodeRefusal::Memory => Refusal::Memory,
-        NodeRefusal::Claim(why) => Refusal::Claim(why),
-        NodeRefusal::Node { node, why } => Refusal::Node { node, why },
+        NodeRefusal::Memory => HeadRefusal::Memory,
+        NodeRefusal::Claim(why) => HeadRefusal::Claim(why),
+        NodeRefusal::Node { node, why } => HeadRefusal::Node { node, why },
     }
 }
 
@@ -47,7 +47,7 @@ fn check_known(
     known: &Known,
     claimed: Option<CostOver>,
     tree: &Tree,
-) -> Result<(), Refusal>
+) -> Result<(), HeadRefusal>
     requires inside { KnowsInside (shape_of site.now) (node_of known.now.node) }
     requires few { length tree.now < 2 ^ 32 }
     ensures passes { OnOk result
@@ -81,7 +81,7 @@ fn check_lines(
     claim: &Claim,
     head: &Head,
     tree: &Tree,
-) -> Result<(), Refusal>
+) -> Result<(), HeadRefusal>
     requires claimed { claims.ClaimPasses false site.now (claim_of claim.now) }
     requires few { length tree.now < 2 ^ 32 }
     ensures accepted { OnOk result
@@ -93,7 +93,7 @@ fn check_lines(
     let claimed = cost_of_claim(claim);
     match judge_head(site, claimed, head.lines()) {
         Ok(known) => check_known(alloc, site, &known, claimed, tree),
-        Err(fault) => Err(Refusal::Line {
+        Err(fault) => Err(HeadRefusal::Line {
             line: fault.line,
             why: fault.why,
         }),
@@ -108,7 +108,7 @@ pub fn check_headed(
     claim: &Claim,
     head: &Head,
     tree: &Tree,
-) -> Result<(), Refusal>
+) -> Result<(), HeadRefusal>
     requires few { length tree.now < 2 ^ 32 }
     // `Ok` comes only if the head and the tree prove the claim. If they do, the only other answer
     // is that there is no memory.
@@ -133,6 +133,6 @@ pub fn check_headed(
     accepted_by_is_optimal();
     match judge_claim(site, claim, false) {
         Ok(()) => check_lines(alloc, site, claim, head, tree),
-        Err(why) => Err(Refusal::Claim(why)),
+        Err(why) => Err(HeadRefusal::Claim(why)),
     }
 }

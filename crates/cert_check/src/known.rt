@@ -1,7 +1,7 @@
 //! What is known at the place of a line.
 ghost use Rattle.std.specs.Prelude.{◌≡◌, ◌<◌};
 ghost use Rattle.tree_rules.specs.Accepted.{first_node};
-ghost use Rattle.head_rules.specs.Head as rules;
+ghost use Rattle.tree_rules.specs.Head as rules;
 ghost use Rattle.pgraph.specs.View.{node_of};
 ghost use Rattle.cert_check.specs.View.{known_of};
 

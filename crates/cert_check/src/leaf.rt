@@ -4,7 +4,7 @@ ghost use Rattle.pns_rules.specs.Shape.{shape_of};
 ghost use Rattle.tree_rules.specs.Tree.{leaf};
 ghost use Rattle.tree_rules.specs.Claim as claims;
 ghost use Rattle.tree_rules.specs.Leaf.{Leaf, charged, untried, LeafPasses, LeafFails, why_of};
-ghost use Rattle.head_rules.specs.Headed.{LeafPassesBy, LeafFailsBy};
+ghost use Rattle.tree_rules.specs.Headed.{LeafPassesBy, LeafFailsBy};
 ghost use Rattle.charges.specs.Known.{facts_of};
 ghost use Rattle.pgraph.specs.View.{node_of};
 ghost use Rattle.branch_tree.specs.View.{end_of};
@@ -17,7 +17,7 @@ use branch_tree::{End, Scaled};
 use crate::{
     judge_bound, judge_charge, judge_clash, judge_dead, judge_low, judge_open, judge_refutation,
 };
-use charge_rules::ChargeWhy;
+use flow_rules::ChargeWhy;
 use charges::Charge;
 use pgraph::Covers;
 use pgraph::Site;

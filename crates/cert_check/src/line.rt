@@ -5,7 +5,7 @@ ghost use Rattle.pgraph.specs.View.{node_of, step_of};
 ghost use Rattle.charges.specs.Known.{demand_of};
 ghost use Rattle.cert_check.specs.Known.{KnowsInside};
 ghost use Rattle.cert_check.specs.Shown.{cost_over};
-ghost use Rattle.head_rules.specs.Head.{step, cap, out, trim, uses};
+ghost use Rattle.tree_rules.specs.Head.{step, cap, out, trim, uses};
 ghost use Rattle.branch_tree.specs.HeadView.{line_of};
 ghost use Rattle.cert_check.specs.View.{known_of};
 ghost use Rattle.cert_check.specs.Lines.{IsJudged, Fails};
@@ -19,7 +19,7 @@ use crate::after_steps;
 use charges::{Demand, is_free};
 use exact_numbers::CostOver;
 use branch_tree::HeadLine;
-use head_rules::LineWhy;
+use tree_rules::LineWhy;
 use pgraph::Site;
 use unit_sets::Step;
 

@@ -1,7 +1,7 @@
 //! Sizes of units.
 ghost use Rattle.std.specs.Prelude.{◌≡◌, ◌<◌, ◌≤ℤ◌, length, IfSome, IfNone};
 ghost use Rattle.flow_rules.specs.Net.{net_of};
-ghost use Rattle.head_rules.specs.Faults.{IsSize};
+ghost use Rattle.tree_rules.specs.HeadFaults.{IsSize};
 ghost use Rattle.cert_check.specs.View.{known_of};
 
 use crate::known::Known;

@@ -8,7 +8,7 @@ ghost use Rattle.flow_rules.specs.Net.{net_of, size_cost};
 ghost use Rattle.flow_rules.specs.Relaxed as relaxed;
 ghost use Rattle.charges.specs.Known.{facts_of};
 ghost use Rattle.cert_check.specs.Known.{KnowsInside};
-ghost use Rattle.head_rules.specs.Trim as rules;
+ghost use Rattle.tree_rules.specs.Trim as rules;
 ghost use Rattle.cert_check.specs.Trims.{Bears};
 
 use crate::known::Known;

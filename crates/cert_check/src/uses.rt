@@ -4,7 +4,7 @@ ghost use Rattle.pns_rules.specs.Shape.{shape_of};
 ghost use Rattle.pgraph.specs.View.{node_of};
 ghost use Rattle.charges.specs.Known.{demand_of};
 ghost use Rattle.cert_check.specs.Known.{KnowsInside};
-ghost use Rattle.head_rules.specs.Faults.{IsUse};
+ghost use Rattle.tree_rules.specs.HeadFaults.{IsUse};
 ghost use Rattle.cert_check.specs.Uses.{IsInner};
 ghost use Rattle.cert_check.specs.View.{known_of};
 

@@ -11,8 +11,8 @@ use Rattle.flow_rules.specs.Steps.{AreInRange, IsFirstPast}
 use Rattle.flow_rules.proofs.LeadingLemmas.{Leads, leads_none, leads_part, leads_past_in, leads_all}
 use Rattle.flow_rules.proofs.LeadingLemmas.{leads_same}
 use Rattle.flow_rules.proofs.ZeroLemmas.{int_eq_zero, int_eq_other, zero_from}
-use Rattle.charge_rules.specs.Charge.{Knee, Owed, sorted, counted, bend, bent}
-use Rattle.charge_rules.specs.ChargeSteps.{knee_steps}
+use Rattle.flow_rules.specs.Charge.{Knee, Owed, sorted, counted, bend, bent}
+use Rattle.flow_rules.specs.ChargeSteps.{knee_steps}
 use Rattle.charges.specs.Bends.{three_steps}
 use Rattle.charges.specs.Firsts.{IsFirstLeast}
 use Rattle.charges.proofs.KneeLemmas.{sorted_first, first_counts}

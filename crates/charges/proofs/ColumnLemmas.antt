@@ -4,8 +4,8 @@ use Rattle.std.proofs.Common.{length}
 use Rattle.std.proofs.lemmas.List.{length-append}
 use Rattle.flow_rules.specs.Steps.{AreInRange, IsFirstPast}
 use Rattle.flow_rules.proofs.LeadingLemmas.{IsFirstPast-left, IsFirstPast-right, AreInRange-append}
-use Rattle.charge_rules.specs.Charge.{Knee, Owed, or_none}
-use Rattle.charge_rules.specs.ChargeSteps.{sum_steps}
+use Rattle.flow_rules.specs.Charge.{Knee, Owed, or_none}
+use Rattle.flow_rules.specs.ChargeSteps.{sum_steps}
 use Rattle.charges.specs.Columns.{owed_in, owed_steps, bent_steps, charge_in, column_steps}
 use Rattle.charges.specs.declared.unit.Terms.{Terms}
 

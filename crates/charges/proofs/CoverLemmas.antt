@@ -7,7 +7,7 @@ use Rattle.number_sets.proofs.SetLemmas.{any_below-some, any_below-none}
 use Rattle.pns_rules.specs.Shape.{Shape}
 use Rattle.pns_rules.specs.Structure.{IsBetween}
 use Rattle.pns_rules.specs.Nodes.{Node}
-use Rattle.charge_rules.specs.Cover.{Cover, Covers, is_beside}
+use Rattle.flow_rules.specs.Cover.{Cover, Covers, is_beside}
 
 module _ (g : Shape) (n : Node) (c : Cover) (inside outside : ℕ → Bool)
     (in_is : (u : ℕ) → inside u ≡ (is_beside c.beside u || n.inside u))

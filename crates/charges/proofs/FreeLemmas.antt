@@ -6,7 +6,7 @@ use Rattle.number_sets.specs.Sets.{has, minus}
 use Rattle.number_sets.proofs.SetLemmas.{has-minus}
 use Rattle.pns_rules.specs.Shape.{Shape}
 use Rattle.pns_rules.specs.Nodes.{Node}
-use Rattle.charge_rules.specs.Cover.{IsFree}
+use Rattle.flow_rules.specs.Cover.{IsFree}
 
 false_of : (a : Bool) → not a ≡ true → a ≡ false
 false_of true h = absurd (both_ways false refl h)

@@ -28,14 +28,14 @@ use Rattle.flow_program.specs.Entry.{entry}
 use Rattle.flow_program.specs.Rates.{AreRates}
 use Rattle.flow_program.proofs.WalkLemmas.{IsNext, has-first, has-rest}
 use Rattle.flow_program.proofs.BoundSumLemmas.{materials_are_rows}
-use Rattle.charge_rules.specs.Facts.{Demand, Facts}
-use Rattle.charge_rules.specs.Cover.{Cover, paid}
-use Rattle.charge_rules.specs.Charge as rules
-use Rattle.charge_rules.specs.Charge.{Knee, Owed, useful, has_knee, knee_of, knees, sorted, bent}
-use Rattle.charge_rules.specs.Charge.{demanded_by, owed, owed_bent, unit_charge, unit_part}
-use Rattle.charge_rules.specs.Charge.{or_none}
-use Rattle.charge_rules.specs.ChargeSteps.{knee_steps, size_steps, sum_steps, unit_steps}
-use Rattle.charge_rules.specs.ChargeSteps.{use_steps, units_steps}
+use Rattle.flow_rules.specs.ChargeFacts.{Demand, Facts}
+use Rattle.flow_rules.specs.Cover.{Cover, paid}
+use Rattle.flow_rules.specs.Charge as rules
+use Rattle.flow_rules.specs.Charge.{Knee, Owed, useful, has_knee, knee_of, knees, sorted, bent}
+use Rattle.flow_rules.specs.Charge.{demanded_by, owed, owed_bent, unit_charge, unit_part}
+use Rattle.flow_rules.specs.Charge.{or_none}
+use Rattle.flow_rules.specs.ChargeSteps.{knee_steps, size_steps, sum_steps, unit_steps}
+use Rattle.flow_rules.specs.ChargeSteps.{use_steps, units_steps}
 use Rattle.charges.specs.declared.knees.Knees.{Knees}
 use Rattle.charges.specs.declared.useful.Useful.{Useful}
 use Rattle.charges.specs.declared.unit.Terms.{Terms}

@@ -10,7 +10,7 @@ use Rattle.std.proofs.lemmas.Bool.{ne_eqb}
 use Rattle.number_sets.specs.Sets.{has, kept, IsRising}
 use Rattle.flow_rules.proofs.NetLemmas.{at_most_from}
 use Rattle.flow_program.proofs.WalkLemmas.{walk_next, has-first, has-rest}
-use Rattle.charge_rules.specs.Charge.{Knee, inserted, sorted}
+use Rattle.flow_rules.specs.Charge.{Knee, inserted, sorted}
 use Rattle.charges.specs.Firsts.{AreAtLeast, IsFirstLeast, least_from}
 
 pub lt_from : (x y : ℤ) → int_lt x y ≡ true → x <ℤ y

@@ -15,9 +15,9 @@ use Rattle.flow_rules.proofs.LeadingLemmas.{Leads, leads_none, leads_one, leads_
 use Rattle.flow_rules.proofs.LeadingLemmas.{leads_past_in, leads_all, leads_same, IsFirstPast-right}
 use Rattle.flow_rules.proofs.LeadingLemmas.{AreInRange-append}
 use Rattle.flow_program.proofs.WalkLemmas.{IsNext, has_next, passed, rest_within}
-use Rattle.charge_rules.specs.Cover as rules
-use Rattle.charge_rules.specs.Cover.{is_beside, paid_by, paid, added, weights}
-use Rattle.charge_rules.specs.ChargeSteps.{added_steps, weight_steps, beside_steps, paid_steps}
+use Rattle.flow_rules.specs.Cover as rules
+use Rattle.flow_rules.specs.Cover.{is_beside, paid_by, paid, added, weights}
+use Rattle.flow_rules.specs.ChargeSteps.{added_steps, weight_steps, beside_steps, paid_steps}
 use Rattle.pgraph.specs.declared.cover.Cover.{Cover}
 use Rattle.pgraph.specs.CoversView.{cover_of, covers_of}
 use Rattle.charges.specs.Sets.{cover_steps, AreBesideSmall, IsBesideSmall}

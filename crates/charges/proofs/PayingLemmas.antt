@@ -8,7 +8,7 @@ use Rattle.integer_laws.specs.Range.{InRange}
 use Rattle.number_sets.specs.Sets.{has, IsWithin}
 use Rattle.number_sets.proofs.SetLemmas.{below_not_had}
 use Rattle.flow_program.proofs.WalkLemmas.{IsNext, has_next, passed, rest_within}
-use Rattle.charge_rules.specs.Charge.{rounded_up}
+use Rattle.flow_rules.specs.Charge.{rounded_up}
 
 clash : (b : Bool) → {X : Type 0} → b ≡ true → b ≡ false → X
 clash b e f = absurd (let g : true ≡ false = sym e ∙ f in cc)

@@ -9,11 +9,11 @@ use Rattle.flow_rules.specs.Relaxed.{units, rows, row_part}
 use Rattle.flow_rules.specs.Steps.{AreInRange, IsFirstPast}
 use Rattle.flow_rules.specs.BoundSteps.{rows_steps}
 use Rattle.flow_rules.proofs.LeadingLemmas.{IsFirstPast-left, IsFirstPast-right, AreInRange-append}
-use Rattle.charge_rules.specs.Facts.{Demand, Facts}
-use Rattle.charge_rules.specs.Cover.{Cover, weights}
-use Rattle.charge_rules.specs.Charge.{demanded, unit_part, charge}
-use Rattle.charge_rules.specs.ChargeSteps.{demand_steps, weight_steps, paid_steps, units_steps}
-use Rattle.charge_rules.specs.ChargeSteps.{charge_steps}
+use Rattle.flow_rules.specs.ChargeFacts.{Demand, Facts}
+use Rattle.flow_rules.specs.Cover.{Cover, weights}
+use Rattle.flow_rules.specs.Charge.{demanded, unit_part, charge}
+use Rattle.flow_rules.specs.ChargeSteps.{demand_steps, weight_steps, paid_steps, units_steps}
+use Rattle.flow_rules.specs.ChargeSteps.{charge_steps}
 
 -- y is read from a table, what is asked for from the facts, and the rows and units are listed
 module _ (net : Net) (n : Node) (f : Facts) (d : ℤ) (table y : ℕ → ℤ) (ys : table ≡ y)

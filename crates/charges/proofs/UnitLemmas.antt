@@ -18,8 +18,8 @@ use Rattle.number_sets.specs.Sets.{has}
 use Rattle.flow_rules.proofs.NetLemmas.{at_most_from}
 use Rattle.flow_program.specs.Columns.{left_of, least_of}
 use Rattle.flow_program.proofs.BoundSumLemmas.{IsReducedSoFar, reduced_ends}
-use Rattle.charge_rules.specs.Charge.{Knee, Owed, bent, least_owed, or_none}
-use Rattle.charge_rules.specs.ChargeSteps.{knee_steps, size_steps, sum_steps}
+use Rattle.flow_rules.specs.Charge.{Knee, Owed, bent, least_owed, or_none}
+use Rattle.flow_rules.specs.ChargeSteps.{knee_steps, size_steps, sum_steps}
 use Rattle.charges.specs.declared.unit.Terms.{Terms}
 use Rattle.charges.specs.Columns.{used_steps, each_in, each_steps, once_steps, owed_steps}
 use Rattle.charges.specs.Columns.{bent_steps, charge_in}

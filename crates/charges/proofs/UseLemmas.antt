@@ -23,8 +23,8 @@ use Rattle.flow_rules.proofs.NetLemmas.{no_rate_in, unit_formed, not_negative_fr
 use Rattle.flow_program.proofs.RateLemmas.{rate_in_range}
 use Rattle.flow_program.proofs.SizeLemmas.{size_sub}
 use Rattle.flow_program.proofs.WalkLemmas.{IsNext, has_next, passed, rest_within}
-use Rattle.charge_rules.specs.Facts.{Facts, use_rate}
-use Rattle.charge_rules.specs.Charge.{users_most}
+use Rattle.flow_rules.specs.ChargeFacts.{Facts, use_rate}
+use Rattle.flow_rules.specs.Charge.{users_most}
 
 lengths : (n : ℕ) (left : List ℕ) (x : ℕ) (rest : List ℕ) → IsNext n left x rest → length left ≡ 1
     + length rest

@@ -2,8 +2,8 @@
 use Rattle.std.specs.Prelude.{◌≡◌, ℕ, ℤ, ◌+ℤ◌, ◌-ℤ◌, ◌*ℤ◌, List, [], ◌∷◌, map}
 use Rattle.integer_laws.specs.Range.{InRange}
 use Rattle.flow_program.specs.Entry.{entry}
-use Rattle.charge_rules.specs.Charge as rules
-use Rattle.charge_rules.specs.Charge.{sorted, rounded_up}
+use Rattle.flow_rules.specs.Charge as rules
+use Rattle.flow_rules.specs.Charge.{sorted, rounded_up}
 use Rattle.charges.specs.declared.bending.Owed.{Owed}
 use Rattle.charges.specs.declared.knees.Knees.{Knees}
 

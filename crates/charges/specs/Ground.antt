@@ -6,9 +6,9 @@ use Rattle.pgraph.specs.View.{node_of}
 use Rattle.flow_rules.specs.Net.{Net}
 use Rattle.flow_rules.specs.Relaxed.{units, rows}
 use Rattle.flow_program.specs.Entry.{entry}
-use Rattle.charge_rules.specs.Facts as rules
-use Rattle.charge_rules.specs.Cover.{Cover, paid}
-use Rattle.charge_rules.specs.Charge.{useful}
+use Rattle.flow_rules.specs.ChargeFacts as rules
+use Rattle.flow_rules.specs.Cover.{Cover, paid}
+use Rattle.flow_rules.specs.Charge.{useful}
 use Rattle.charges.specs.Known.{facts_of}
 use Rattle.charges.specs.declared.useful.Useful.{Useful}
 use Rattle.charges.specs.declared.charge.Ground.{Ground}

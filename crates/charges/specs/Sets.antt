@@ -1,8 +1,8 @@
 -- The covers as the code has them.
 use Rattle.std.specs.Prelude.{ℕ, ◌<◌, ℤ, ◌+ℤ◌, ◌++◌, List, map, IfSome}
 use Rattle.std.specs.List.{AllByRecursion}
-use Rattle.charge_rules.specs.Cover as rules
-use Rattle.charge_rules.specs.ChargeSteps.{beside_steps}
+use Rattle.flow_rules.specs.Cover as rules
+use Rattle.flow_rules.specs.ChargeSteps.{beside_steps}
 use Rattle.pgraph.specs.declared.cover.Cover.{Cover}
 
 -- a unit beside a set is below 128

@@ -3,8 +3,8 @@ ghost use Rattle.std.specs.Prelude.{◌≡◌, ◌<◌, ◌≤◌, ◌+◌, ◌-
 ghost use Rattle.std.specs.Prelude.{IfErr, OnOk};
 ghost use Rattle.flow_rules.specs.Net.{net_of};
 ghost use Rattle.flow_rules.specs.Steps.{AreInRange, IsFirstPast};
-ghost use Rattle.charge_rules.specs.Charge.{demanded};
-ghost use Rattle.charge_rules.specs.ChargeSteps.{demand_steps};
+ghost use Rattle.flow_rules.specs.Charge.{demanded};
+ghost use Rattle.flow_rules.specs.ChargeSteps.{demand_steps};
 ghost use Rattle.charges.specs.Known.{asked_of, facts_of};
 ghost use Rattle.charges.specs.Columns.{worth_asked, rate_asked, used_steps};
 

@@ -4,8 +4,8 @@ ghost use Rattle.std.specs.Prelude.{pos, neg_ℤ, not, length, IfOk, IfErr, OnOk
 ghost use Rattle.std.specs.Int.{int_min};
 ghost use Rattle.std.specs.Ordering.{int_eq};
 ghost use Rattle.flow_rules.specs.Steps.{AreInRange, IsFirstPast};
-ghost use Rattle.charge_rules.specs.Charge.{bent, counted};
-ghost use Rattle.charge_rules.specs.ChargeSteps.{knee_steps};
+ghost use Rattle.flow_rules.specs.Charge.{bent, counted};
+ghost use Rattle.flow_rules.specs.ChargeSteps.{knee_steps};
 ghost use Rattle.charges.specs.Bends.{as_owed, knee, three_steps, knees_in};
 
 use crate::knees::{Knees, first_knee};

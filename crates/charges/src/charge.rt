@@ -10,12 +10,12 @@ ghost use Rattle.flow_rules.specs.Relaxed.{units, rows};
 ghost use Rattle.flow_rules.specs.Steps.{AreInRange, IsFirstPast};
 ghost use Rattle.flow_program.specs.Entry.{entry};
 ghost use Rattle.flow_program.specs.Rates.{AreRates};
-ghost use Rattle.charge_rules.specs.Charge.{unit_part, charge};
-ghost use Rattle.charge_rules.specs.ChargeSteps.{paid_steps, units_steps, charge_steps};
+ghost use Rattle.flow_rules.specs.Charge.{unit_part, charge};
+ghost use Rattle.flow_rules.specs.ChargeSteps.{paid_steps, units_steps, charge_steps};
 ghost use Rattle.charges.specs.Known.{facts_of};
 ghost use Rattle.pgraph.specs.CoversView.{covers_of};
 ghost use Rattle.charges.specs.Sets.{AreBesideSmall};
-ghost use Rattle.charge_rules.specs.Cover as rules;
+ghost use Rattle.flow_rules.specs.Cover as rules;
 ghost use Rattle.charges.specs.Ground.{IsGround, ArePaid};
 
 use crate::asked::{used_by, with_worth};

@@ -4,7 +4,7 @@ ghost use Rattle.number_sets.specs.Sets.{has};
 ghost use Rattle.pns_rules.specs.Structure.{IsBetween};
 ghost use Rattle.pgraph.specs.Tables.{shape};
 ghost use Rattle.pgraph.specs.View.{node_of};
-ghost use Rattle.charge_rules.specs.Cover.{Covers, IsCover, IsFree, is_beside};
+ghost use Rattle.flow_rules.specs.Cover.{Covers, IsCover, IsFree, is_beside};
 ghost use Rattle.pgraph.specs.CoversView.{cover_of};
 
 use pgraph::Cover;

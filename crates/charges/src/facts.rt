@@ -1,7 +1,7 @@
 //! What is known of the flows that matter at a node.
 ghost use Rattle.std.specs.Prelude.{◌≡◌, ◌<◌};
 ghost use Rattle.flow_rules.specs.Net.{net_of};
-ghost use Rattle.charge_rules.specs.Facts.{own_facts};
+ghost use Rattle.flow_rules.specs.ChargeFacts.{own_facts};
 ghost use Rattle.charges.specs.Known.{demand_of, asked_of, facts_of, at_one, known_at};
 
 use pns_problem::Problem;

@@ -4,7 +4,7 @@ ghost use Rattle.std.specs.Prelude.{int_lt, pos, [], length, unsigned_abs, IfSom
 ghost use Rattle.integer_laws.specs.Range.{InRange};
 ghost use Rattle.number_sets.specs.Sets.{has};
 ghost use Rattle.flow_program.specs.Entry.{entry};
-ghost use Rattle.charge_rules.specs.Charge.{rounded_up};
+ghost use Rattle.flow_rules.specs.Charge.{rounded_up};
 ghost use Rattle.charges.specs.Bends.{IsKnee};
 ghost use Rattle.charges.specs.Firsts.{IsFirstLeast};
 

@@ -4,8 +4,8 @@ ghost use Rattle.std.specs.Prelude.{cond, length, map, IfSome, IfOk, IfErr, OnOk
 ghost use Rattle.number_sets.specs.Sets.{has};
 ghost use Rattle.flow_rules.specs.Steps.{AreInRange, IsFirstPast};
 ghost use Rattle.flow_program.specs.Entry.{entry};
-ghost use Rattle.charge_rules.specs.Cover.{added, weights, paid, paid_by};
-ghost use Rattle.charge_rules.specs.ChargeSteps.{added_steps, weight_steps, paid_steps};
+ghost use Rattle.flow_rules.specs.Cover.{added, weights, paid, paid_by};
+ghost use Rattle.flow_rules.specs.ChargeSteps.{added_steps, weight_steps, paid_steps};
 ghost use Rattle.pgraph.specs.CoversView.{cover_of, covers_of};
 ghost use Rattle.charges.specs.Sets.{cover_steps, IsBesideSmall, AreBesideSmall};
 

@@ -9,8 +9,8 @@ ghost use Rattle.pgraph.specs.View.{node_of};
 ghost use Rattle.flow_rules.specs.Net.{net_of};
 ghost use Rattle.flow_rules.specs.Relaxed.{units};
 ghost use Rattle.flow_program.specs.NodeSets.{AreSetsOf};
-ghost use Rattle.charge_rules.specs.Facts.{use_rate};
-ghost use Rattle.charge_rules.specs.Charge.{users_most, at_most, useful};
+ghost use Rattle.flow_rules.specs.ChargeFacts.{use_rate};
+ghost use Rattle.flow_rules.specs.Charge.{users_most, at_most, useful};
 ghost use Rattle.charges.specs.Known.{facts_of};
 ghost use Rattle.charges.specs.Ground.{AreUseful};
 

@@ -6,7 +6,7 @@ ghost use Rattle.studio_rules.specs.declared.status.Status.TheVariants.{Refused,
 ghost use Rattle.studio_rules.specs.RefusalWords.{why_word, node_line, line_word, head_line};
 
 use crate::say::{say, say_memory, tell};
-use head_rules::LineWhy;
+use tree_rules::LineWhy;
 use studio_words::refused;
 use pns_io::{Outputs, Sink};
 use std::alloc::{AllocError, Global};

@@ -10,9 +10,9 @@ use Rattle.problem_rules.specs.Each.{Each}
 use Rattle.problem_rules.specs.Problem.{Problem}
 use Rattle.pns_rules.specs.Shape.{Shape, shape_of}
 use Rattle.pns_rules.specs.Nodes.{Node}
-use Rattle.charge_rules.specs.Cover as rules
-use Rattle.charge_rules.specs.Cover.{IsCover, IsFree, Covers}
-use Rattle.charge_rules.specs.Leaf.{CoversPass}
+use Rattle.flow_rules.specs.Cover as rules
+use Rattle.flow_rules.specs.Cover.{IsCover, IsFree, Covers}
+use Rattle.flow_rules.specs.ChargeLeaf.{CoversPass}
 use Rattle.charges.specs.Sets.{AreBesideSmall}
 use Rattle.pgraph.specs.declared.cover.Cover.{Cover}
 use Rattle.pgraph.specs.CoversView.{cover_of, covers_of}

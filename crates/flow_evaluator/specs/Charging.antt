@@ -5,10 +5,10 @@ use Rattle.problem_rules.specs.Problem.{Problem}
 use Rattle.pns_rules.specs.Shape.{shape_of}
 use Rattle.pns_rules.specs.Nodes.{Node}
 use Rattle.flow_rules.specs.Net.{net_of}
-use Rattle.charge_rules.specs.Facts.{own_facts}
-use Rattle.charge_rules.specs.Cover.{Cover}
-use Rattle.charge_rules.specs.Leaf as charges
-use Rattle.charge_rules.specs.Leaf.{Handed, CoverPasses}
+use Rattle.flow_rules.specs.ChargeFacts.{own_facts}
+use Rattle.flow_rules.specs.Cover.{Cover}
+use Rattle.flow_rules.specs.ChargeLeaf as charges
+use Rattle.flow_rules.specs.ChargeLeaf.{Handed, CoverPasses}
 use Rattle.pgraph.specs.Kept.{IsKept}
 use Rattle.tree_rules.specs.Claim.{CostOver, IsAtLeast}
 use Rattle.tree_rules.specs.Leaf.{Scaled, IsOneEach}

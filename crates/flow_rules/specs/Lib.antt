@@ -1,6 +1,12 @@
 pub mod BoundSteps
+pub mod Charge
+pub mod ChargeFacts
+pub mod ChargeLaws
+pub mod ChargeLeaf
+pub mod ChargeSteps
 pub mod Columns
 pub mod CostSteps
+pub mod Cover
 pub mod Equations
 pub mod FeasibleSteps
 pub mod Flows

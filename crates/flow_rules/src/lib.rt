@@ -9,6 +9,19 @@
 //! a simplex method. Each law is the contract of a function without a body. A proof elsewhere calls
 //! the function to use the law.
 //!
+//! No flows that fit what is known cost less than the charge.
+//!
+//! The relaxed bound lets a free unit pay for its size instead of its fixed cost. A charge lets it
+//! owe the whole fixed cost or nothing, so it is stronger. For units to owe at all, a charge takes
+//! `Cover`s: sets of units of which each structure of the node has one. What is made of a material
+//! beyond all that can be used of it is worth nothing (`Knee`). If so much of a material is used,
+//! its use is worth something (`Demand`).
+//!
+//! The definitions are in `specs/`: `Facts` (what is known of sizes and uses), `Cover`, `Charge`,
+//! `ChargeSteps` (which number of the sum is the first out of range), `Leaf` (which leaves of a
+//! tree pass by a charge, and why one is refused, [`ChargeWhy`]) and `Laws`. Each law is the
+//! contract of a function without a body.
+//!
 //! The path of the dual simplex method, and which number overflows at its end.
 //!
 //! A basis fixes its tableau. Each row is the one combination of the equations in lowest terms with
@@ -26,9 +39,12 @@ ghost use Rattle.flow_rules.specs.Laws.{RelaxedDuality, FlowsAreRelaxed, Relaxed
 ghost use Rattle.flow_rules.specs.Laws.{SlopeIsGreatest, WeakDuality, RefutationHolds};
 ghost use Rattle.flow_rules.specs.Laws.{RefutedIsEmpty, BoundIsLast, CostIsLast, ReducedIsLast};
 ghost use Rattle.flow_rules.specs.Laws.{BalanceIsLast};
+ghost use Rattle.flow_rules.specs.ChargeLaws.{ChargeDuality, ChargeRefutes, OwnFactsHold, FlowsFit};
 
+mod charge_why;
 mod place;
 
+pub use charge_why::ChargeWhy;
 pub use place::{Column, FlowStep, Place};
 
 /// For any multipliers and any scale of the cost from 0 on: no flows for a solution structure cost
@@ -68,4 +84,17 @@ pub fn sums_are_last()
     ensures cost { CostIsLast }
     ensures reduced { ReducedIsLast }
     ensures balance { BalanceIsLast }
+{}
+
+/// No flows that fit the facts cost less than a charge, for any multipliers, any covers and any
+/// scale of the cost.
+pub fn charge_duality()
+    ensures duality { ChargeDuality }
+    ensures refutes { ChargeRefutes }
+{}
+
+/// All flows fit the problem's own numbers.
+pub fn flows_fit()
+    ensures own { OwnFactsHold }
+    ensures fit { FlowsFit }
 {}

@@ -4,9 +4,9 @@ ghost use Rattle.pns_rules.specs.Shape.{shape_of};
 ghost use Rattle.pns_rules.specs.Structure.{IsStructure, IsAllowed};
 ghost use Rattle.tree_rules.specs.Claim as claims;
 ghost use Rattle.tree_rules.specs.Costs.{CostsEnough};
-ghost use Rattle.head_rules.specs.Headed.{head_node};
-ghost use Rattle.head_rules.specs.Known.{KnowsHead};
-ghost use Rattle.head_rules.specs.Proved.{IsProvedBy};
+ghost use Rattle.tree_rules.specs.Headed.{head_node};
+ghost use Rattle.tree_rules.specs.HeadKnown.{KnowsHead};
+ghost use Rattle.tree_rules.specs.HeadedProved.{IsProvedBy};
 ghost use Rattle.headed_search.specs.Lean.{IsLeanFor};
 
 use crate::inner::{Candidate, search_capped};

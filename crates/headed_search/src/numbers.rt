@@ -5,8 +5,8 @@ ghost use Rattle.tree_rules.specs.Known.{IsUnit, IsMaterial, AreUnits, KnowsStep
 ghost use Rattle.tree_rules.specs.Known.{KnowsCharge};
 ghost use Rattle.pgraph.specs.View.{step_of};
 ghost use Rattle.pgraph.specs.CoversView.{cover_of, covers_of};
-ghost use Rattle.head_rules.specs.Charged.{handed};
-ghost use Rattle.head_rules.specs.Known.{KnowsLine, KnowsHead};
+ghost use Rattle.tree_rules.specs.Charged.{handed};
+ghost use Rattle.tree_rules.specs.HeadKnown.{KnowsLine, KnowsHead};
 ghost use Rattle.branch_tree.specs.HeadView.{line_of, lines_of};
 
 use branch_tree::Scaled;

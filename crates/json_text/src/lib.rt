@@ -14,6 +14,14 @@
 //!
 //! Modules: `piece`, pieces and what they are made of; `digits`, a fraction rounded to 17 digits;
 //! `value`, its text; `lines`, pieces in lines of their own.
+//!
+//! Reads tables.
+//!
+//! They are tables of ranges. `Table` of `range_rules` has the grammar of the text that
+//! `stable FILE TREE` prints, and `Object` the lines of the JSON object. [`read_table`] gives the
+//! rows of a text, or exactly its first fault, and [`table_json`] prints rows as JSON.
+//!
+//! Modules: `words`, the words of a line; `row`, a line; `read`, the text; `object`, the JSON.
 #![tactic(auto)]
 
 mod digits;
@@ -23,15 +31,21 @@ mod lines;
 mod lower;
 mod materials;
 mod members;
+mod object;
 mod piece;
 mod ranking;
+mod read;
+mod row;
 mod text;
 mod units;
 mod value;
+mod words;
 
 pub use lines::{push_array, push_comma_lines, push_line, push_with_commas};
 pub use lower::{bound_member, first_gap_member, gap_member, low_member};
 pub use members::{count_member, null_member, text_member};
+pub use object::table_json;
 pub use piece::Json;
 pub use ranking::{first_of, networks_member};
+pub use read::{is_table, read_table};
 pub use text::{bare_of, facts_of};

@@ -14,7 +14,7 @@ ghost use Rattle.verdicts.specs.Unjudged.{IsUnjudged, IsUnjudgedIf};
 use crate::verdict_lines::{network_text, push_failing, push_proved, verdict_text};
 use branch_tree::{Claim, Tree};
 use branch_tree::Head;
-use head_rules::LineWhy;
+use tree_rules::LineWhy;
 use pns_problem::Problem;
 use command_files::line_word;
 use report_rules::HeadedVerdict;

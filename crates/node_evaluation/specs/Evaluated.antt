@@ -10,7 +10,7 @@ use Rattle.exact_numbers.specs.Number.{numerator, denominator}
 use Rattle.flow_rules.specs.declared.place.Column.{Column}
 use Rattle.flow_rules.specs.declared.place.Place.{Place}
 use Rattle.tree_rules.specs.Claim.{Network, CostOver, IsFeasible}
-use Rattle.charge_rules.specs.Leaf.{Handed}
+use Rattle.flow_rules.specs.ChargeLeaf.{Handed}
 use Rattle.tree_rules.specs.Leaf.{IsRefuted, IsBounded, IsCharged}
 use Rattle.tree_rules.specs.Known.{KnowsCharge}
 use Rattle.tree_rules.specs.Lean.{MayUndercut, HasCheaper}

@@ -1,6 +1,6 @@
 -- Covers of the code, as the rules speak of them.
 use Rattle.std.specs.Prelude.{List, map}
-use Rattle.charge_rules.specs.Cover as rules
+use Rattle.flow_rules.specs.Cover as rules
 use Rattle.pgraph.specs.declared.cover.Cover.{Cover}
 
 abbrev pub cover_of : Cover → rules.Cover

@@ -2,7 +2,7 @@
 use Rattle.std.specs.Prelude.{◌<◌, ◌≤◌, ℤ, pos, ◌≤ℤ◌, List, length, IfSome}
 use Rattle.integer_laws.specs.Range.{InRange}
 use Rattle.problem_rules.specs.Each.{Each}
-use Rattle.charge_rules.specs.Cover.{Cover}
+use Rattle.flow_rules.specs.Cover.{Cover}
 
 -- the weight is in range and not below 0, and a unit beside the set is below 128
 pub record IsKept (c : Cover) : Type 0 where

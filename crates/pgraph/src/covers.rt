@@ -15,7 +15,7 @@ pub struct Covers {
 
 impl Model for Covers {
     ghost use Rattle.std.specs.Prelude.{List};
-    ghost use Rattle.charge_rules.specs.Cover as rules;
+    ghost use Rattle.flow_rules.specs.Cover as rules;
     ghost use Rattle.pgraph.specs.CoversView.{covers_of};
     ghost use Rattle.pgraph.specs.Kept.{AreKept};
 

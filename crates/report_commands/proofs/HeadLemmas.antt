@@ -3,7 +3,7 @@ use Rattle.std.proofs.Common.{◌≡◌, true, false, ℕ, List, [], ◌∷◌}
 use Rattle.problem_rules.specs.Problem.{Problem}
 use Rattle.tree_rules.specs.Claim.{Claim}
 use Rattle.tree_rules.specs.Accepted.{Tree}
-use Rattle.head_rules.specs.Head.{HeadLine}
+use Rattle.tree_rules.specs.Head.{HeadLine}
 use Rattle.report_rules.specs.HeadedVerdict.{is_plain}
 use Rattle.studio_rules.specs.Json.{JsonSays, JsonSaysBy, HeadedJsonSays}
 

@@ -25,6 +25,14 @@
 //!
 //! Modules: `head`, the verdict and the claim; `text`, the whole; `headed`, that of a tree that may
 //! have a head; `call`, from the tree to the text.
+//!
+//! The command `show`: a search, and what it proves for people.
+//!
+//! [`show::show`] searches the problem of a file as `solve` does. It prints what `report` prints of
+//! the tree, and of its head if it has one, with the status of `solve`. `Show` of `studio_rules`
+//! has the lines.
+//!
+//! Modules: `show`; `stopped`, the text of a search that is not finished.
 #![tactic(auto)]
 
 pub mod call;
@@ -38,6 +46,8 @@ mod json_text;
 mod object;
 mod ranking;
 mod report;
+pub mod show;
+mod stopped;
 mod table;
 mod text;
 mod words;

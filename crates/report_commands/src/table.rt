@@ -8,7 +8,7 @@ use command_files::say::{say_made, say_memory};
 use studio_words::{Format, Source};
 use pns_io::{Outputs, Sink};
 use pns_problem::Problem;
-use range_text::{read_table, table_json};
+use json_text::{read_table, table_json};
 use std::alloc::Global;
 use studio_rules::Status;
 use tree_reading::TreeFault;

@@ -17,7 +17,7 @@ use network_commands::{NetworkText, say_claimed, say_reported};
 use pgraph::{Graph, Site};
 use pns_io::{Outputs, Sink};
 use pns_problem::Problem;
-use range_text::is_table;
+use json_text::is_table;
 use rank_text::is_ranking;
 use report_tables::Plant;
 use std::alloc::Global;

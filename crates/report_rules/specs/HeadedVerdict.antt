@@ -4,8 +4,8 @@ use Rattle.std.specs.Prelude.{Bool, true, false, List, [], ◌∷◌}
 use Rattle.problem_rules.specs.Problem.{Problem}
 use Rattle.tree_rules.specs.Claim.{Claim, ClaimPasses}
 use Rattle.tree_rules.specs.Accepted.{Tree}
-use Rattle.head_rules.specs.Head.{HeadLine}
-use Rattle.head_rules.specs.Headed.{head_node, HeadPasses, IsAcceptedBy, LineIsFault, NodeIsFaultBy}
+use Rattle.tree_rules.specs.Head.{HeadLine}
+use Rattle.tree_rules.specs.Headed.{head_node, HeadPasses, IsAcceptedBy, LineIsFault, NodeIsFaultBy}
 use Rattle.report_rules.specs.declared.headed_verdict.HeadedVerdict.{HeadedVerdict}
 use Rattle.report_rules.specs.declared.headed_verdict.HeadedVerdict.TheVariants.{Proved}
 use Rattle.report_rules.specs.declared.headed_verdict.HeadedVerdict.TheVariants.{LineFails}

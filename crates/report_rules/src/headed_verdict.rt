@@ -1,4 +1,4 @@
-use head_rules::LineWhy;
+use tree_rules::LineWhy;
 use tree_rules::Why;
 
 /// What a branch tree with a head proves of its claim.

@@ -13,8 +13,8 @@ use Rattle.flow_rules.specs.Net.{net_of}
 use Rattle.flow_rules.specs.Relaxed.{bound}
 use Rattle.pgraph.specs.View.{node_of}
 use Rattle.tree_rules.specs.Tree.{End, branch, leaf, StepsPass, after_all}
-use Rattle.charge_rules.specs.Facts.{own_facts}
-use Rattle.charge_rules.specs.Leaf.{IsScale, charge_of, ChargeReaches}
+use Rattle.flow_rules.specs.ChargeFacts.{own_facts}
+use Rattle.flow_rules.specs.ChargeLeaf.{IsScale, charge_of, ChargeReaches}
 use Rattle.tree_rules.specs.Leaf.{Leaf, dead, clash, refuted, bounded, charged, untried, multiplier}
 use Rattle.tree_rules.specs.Leaf.{IsClaimed, LeafPasses}
 use Rattle.tree_rules.specs.Claim.{CostOver, IsAtLeast}

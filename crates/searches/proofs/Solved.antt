@@ -9,8 +9,8 @@ use Rattle.tree_rules.specs.Claim.{ClaimPasses, claimed_cost}
 use Rattle.tree_rules.specs.Costs.{CostsEnough}
 use Rattle.tree_rules.specs.Accepted.{Tree, first_node}
 use Rattle.tree_rules.specs.Tail.{whole}
-use Rattle.head_rules.specs.Head.{HeadLine}
-use Rattle.head_rules.specs.Proved.{IsProvedBy}
+use Rattle.tree_rules.specs.Head.{HeadLine}
+use Rattle.tree_rules.specs.HeadedProved.{IsProvedBy}
 use Rattle.headed_search.specs.declared.headed.Headed.{Headed}
 use Rattle.tree_text_rules.specs.Read.{read_headed_text}
 use Rattle.tree_text_rules.specs.Spelling.{headed_text, headed_text_lines}

@@ -4,7 +4,7 @@ use Rattle.problem_rules.specs.Problem.{Problem}
 use Rattle.tree_rules.specs.Claim as claims
 use Rattle.tree_rules.specs.Accepted.{Tree, first_node}
 use Rattle.tree_rules.specs.Tail.{whole}
-use Rattle.head_rules.specs.Head.{HeadLine}
+use Rattle.tree_rules.specs.Head.{HeadLine}
 use Rattle.tree_text_rules.specs.Read.{HeadedCertificate}
 use Rattle.abb_search.specs.Found.{IsFound}
 use Rattle.studio_rules.specs.Solve.{SolvesBy}

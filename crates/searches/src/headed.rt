@@ -3,7 +3,7 @@ ghost use Rattle.std.specs.Prelude.{◌≡◌, ◌<◌, ◌^◌, Ok, length};
 ghost use Rattle.tree_rules.specs.Claim as claims;
 ghost use Rattle.tree_rules.specs.Tail as tails;
 ghost use Rattle.tree_rules.specs.Known.{AreUnits, KnowsTree};
-ghost use Rattle.head_rules.specs.Known.{KnowsHead};
+ghost use Rattle.tree_rules.specs.HeadKnown.{KnowsHead};
 ghost use Rattle.tree_text_rules.specs.Read.{read_headed_text};
 ghost use Rattle.tree_text_rules.specs.Spelling.{headed_text};
 ghost use Rattle.studio_rules.specs.Solve.{SolvesBy, HeadedWork};

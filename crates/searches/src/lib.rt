@@ -20,14 +20,6 @@
 //!
 //! Modules: `search`; `headed`, the text of a network with a head and a tree; `solve`.
 //!
-//! The command `show`: a search, and what it proves for people.
-//!
-//! [`show::show`] searches the problem of a file as `solve` does. It prints what `report` prints of
-//! the tree, and of its head if it has one, with the status of `solve`. `Show` of `studio_rules`
-//! has the lines.
-//!
-//! Modules: `show`; `stopped`, the text of a search that is not finished.
-//!
 //! The commands on a plant over several periods: `periods`, which searches all designs, and
 //! `expand`.
 //!
@@ -50,8 +42,6 @@ mod headed;
 mod least;
 pub mod planned;
 mod search;
-pub mod show;
-mod shows_stopped;
 pub mod solve;
 mod solves_search;
 mod stopped;

@@ -4,8 +4,8 @@ use Rattle.problem_rules.specs.Problem.{Problem}
 use Rattle.problem_rules.specs.Validity.{IsValid}
 use Rattle.tree_rules.specs.Claim.{Claim, network, infeasible, unknown}
 use Rattle.tree_rules.specs.Accepted.{Tree}
-use Rattle.head_rules.specs.Head.{HeadLine}
-use Rattle.head_rules.specs.Headed.{head_node, IsAcceptedBy}
+use Rattle.tree_rules.specs.Head.{HeadLine}
+use Rattle.tree_rules.specs.Headed.{head_node, IsAcceptedBy}
 use Rattle.tree_laws.specs.HeadLaws.{AcceptedByIsOptimal, AcceptedByHasFlows}
 use Rattle.studio_rules.specs.Reading.{TwoFilesSay}
 use Rattle.studio_rules.specs.HeadedFile.{OnHeaded}

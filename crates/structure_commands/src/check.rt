@@ -13,7 +13,7 @@ use cert_check::check_headed;
 use command_files::{headed_of, problem_of};
 use command_files::say::{say, say_memory, say_of};
 use tree_laws::{accepted_by_has_flows, accepted_by_is_optimal};
-use head_rules::Refusal;
+use tree_rules::HeadRefusal;
 use pgraph::{Graph, Site};
 use pns_io::{Outputs, Shelf, Sink};
 use pns_problem::Problem;
@@ -36,12 +36,12 @@ fn say_judged<K: Sink, E: Sink>(
 {
     match check_headed(alloc, site, &text.claim, &text.head, &text.tree) {
         Ok(()) => say(out, b"accepted\n", Status::Done),
-        Err(Refusal::Claim(why)) => {
+        Err(HeadRefusal::Claim(why)) => {
             say_of(alloc, out, "refused claim ", why_word(why), Status::Refused)
         }
-        Err(Refusal::Line { line, why }) => say_head(alloc, out, line, why),
-        Err(Refusal::Node { node, why }) => say_node(alloc, out, node, why),
-        Err(Refusal::Memory) => say_memory(out),
+        Err(HeadRefusal::Line { line, why }) => say_head(alloc, out, line, why),
+        Err(HeadRefusal::Node { node, why }) => say_node(alloc, out, node, why),
+        Err(HeadRefusal::Memory) => say_memory(out),
     }
 }
 

@@ -9,9 +9,9 @@ use Rattle.problem_rules.specs.Validity.{IsValid}
 use Rattle.tree_rules.specs.Claim.{Claim, claimed_cost}
 use Rattle.tree_rules.specs.Accepted.{Tree, first_node, IsAccepted}
 use Rattle.tree_laws.specs.Laws.{PassingClaimHasNoFault}
-use Rattle.head_rules.specs.Laws.{PassingHasNoFault}
-use Rattle.head_rules.specs.Head.{known_first}
-use Rattle.head_rules.specs.Headed.{head_node, IsAcceptedBy}
+use Rattle.tree_rules.specs.HeadLaws.{PassingHasNoFault}
+use Rattle.tree_rules.specs.Head.{known_first}
+use Rattle.tree_rules.specs.Headed.{head_node, IsAcceptedBy}
 use Rattle.tree_laws.specs.HeadLaws.{EmptyHeadProves, PassingTreeHasNoFaultBy}
 use Rattle.tree_text_laws.specs.Laws.{PlainTextsAreHeaded}
 use Rattle.tree_rules.specs.Tail.{Tail, whole, spent, past}

@@ -38,7 +38,7 @@ use rank_commands::{accepted_are_best, rankcheck};
 use rank_commands::{alternatives, rank};
 use report_commands::call::{Drawing, graph, json, report};
 use searches::trial::trial;
-use searches::show::show;
+use report_commands::show::show;
 use searches::solve::solve;
 use stability_commands::ranges::{Asked, ranges};
 use stability_commands::stable::stable;

@@ -8,7 +8,7 @@ ghost use Rattle.studio.specs.Calls.{RankcheckAcceptsAlternatives};
 ghost use Rattle.studio.specs.Calls.{CheckAcceptsMerged, ListingsJoin};
 
 use tree_laws::{empty_head_is_none, tree_has_one_fault_by};
-use head_rules::one_fault;
+use tree_rules::one_fault;
 use tree_parts::{grafts_are_partial, open_leaves_stand};
 use tree_parts::read_parts_are_spelled;
 use problem_rules::valid_is_well_formed;

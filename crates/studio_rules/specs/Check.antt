@@ -6,9 +6,9 @@ use Rattle.problem_rules.specs.Problem.{Problem}
 use Rattle.tree_rules.specs.declared.why.Why.{Why}
 use Rattle.tree_rules.specs.Claim.{Claim, ClaimPasses, ClaimFails}
 use Rattle.tree_rules.specs.Accepted.{Tree}
-use Rattle.head_rules.specs.declared.line_why.LineWhy.{LineWhy}
-use Rattle.head_rules.specs.Head.{HeadLine}
-use Rattle.head_rules.specs.Headed.{head_node, HeadPasses, IsAcceptedBy, LineIsFault, NodeIsFaultBy}
+use Rattle.tree_rules.specs.declared.line_why.LineWhy.{LineWhy}
+use Rattle.tree_rules.specs.Head.{HeadLine}
+use Rattle.tree_rules.specs.Headed.{head_node, HeadPasses, IsAcceptedBy, LineIsFault, NodeIsFaultBy}
 use Rattle.tree_text_rules.specs.Read.{HeadedCertificate}
 use Rattle.studio_rules.specs.RefusalWords.{claim_line, head_line, node_line}
 use Rattle.studio_rules.specs.declared.status.Status.{Status}

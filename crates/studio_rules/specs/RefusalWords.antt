@@ -4,8 +4,8 @@ use Rattle.tree_rules.specs.declared.why.Why.{Why}
 use Rattle.tree_rules.specs.declared.why.Why.TheVariants.{Unknown, Axiom, Exclusion, Flows, Cost}
 use Rattle.tree_rules.specs.declared.why.Why.TheVariants.{Step, Options, Open, Dead, Clash, Refuted}
 use Rattle.tree_rules.specs.declared.why.Why.TheVariants.{Bound, Cover, Sum}
-use Rattle.head_rules.specs.declared.line_why.LineWhy.{LineWhy}
-use Rattle.head_rules.specs.declared.line_why.LineWhy.TheVariants as lines
+use Rattle.tree_rules.specs.declared.line_why.LineWhy.{LineWhy}
+use Rattle.tree_rules.specs.declared.line_why.LineWhy.TheVariants as lines
 
 -- the word for a cause
 abbrev pub why_word : Why → List ℕ

@@ -7,8 +7,8 @@ use Rattle.problem_rules.specs.Problem.{Problem}
 use Rattle.tree_rules.specs.declared.why.Why.{Why}
 use Rattle.tree_rules.specs.Claim.{Claim, Network, network, infeasible, unknown, ClaimFails}
 use Rattle.tree_rules.specs.Accepted.{Tree}
-use Rattle.head_rules.specs.declared.line_why.LineWhy.{LineWhy}
-use Rattle.head_rules.specs.Head.{HeadLine}
+use Rattle.tree_rules.specs.declared.line_why.LineWhy.{LineWhy}
+use Rattle.tree_rules.specs.Head.{HeadLine}
 use Rattle.tree_text_rules.specs.Read.{HeadedCertificate}
 use Rattle.report_rules.specs.declared.verdict.Verdict.{Verdict}
 use Rattle.report_rules.specs.declared.verdict.Verdict.TheVariants.{Proved, Unfinished, Fails}

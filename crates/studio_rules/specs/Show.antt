@@ -4,7 +4,7 @@ use Rattle.std.specs.Prelude.{◌≡◌, ◌⊎◌, ℕ, List}
 use Rattle.problem_rules.specs.Problem.{Problem}
 use Rattle.tree_rules.specs.Claim.{Claim}
 use Rattle.tree_rules.specs.Accepted.{Tree}
-use Rattle.head_rules.specs.Head.{HeadLine}
+use Rattle.tree_rules.specs.Head.{HeadLine}
 use Rattle.tree_text_rules.specs.Read.{Certificate, HeadedCertificate}
 use Rattle.report_rules.specs.declared.verdict.Verdict.TheVariants.{Proved}
 use Rattle.report_rules.specs.declared.headed_verdict.HeadedVerdict.TheVariants as headed

@@ -17,12 +17,12 @@ use Rattle.tree_rules.specs.Accepted.{Tree, first_node}
 use Rattle.tree_rules.specs.Stops.{IsSpent, IsPast}
 use Rattle.tree_rules.specs.Costs.{CostsEnough}
 use Rattle.tree_rules.specs.Tail.{Tail, whole, spent, past}
-use Rattle.head_rules.specs.Head.{HeadLine}
+use Rattle.tree_rules.specs.Head.{HeadLine}
 use Rattle.tree_text_rules.specs.Read.{Certificate, read_text, HeadedCertificate, read_headed_text}
 use Rattle.tree_text_rules.specs.Spelling.{tree_text_lines, headed_text_lines}
 use Rattle.tree_rules.specs.Past.{IsPastAt}
 use Rattle.tree_rules.specs.Proved.{IsProved, IsStopped, IsBelowLimit}
-use Rattle.head_rules.specs.Proved.{IsProvedBy}
+use Rattle.tree_rules.specs.HeadedProved.{IsProvedBy}
 use Rattle.studio_rules.specs.Lines.{text_of}
 use Rattle.studio_rules.specs.Printed.{spelled}
 use Rattle.studio_rules.specs.declared.status.Status.{Status}

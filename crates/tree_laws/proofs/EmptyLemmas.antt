@@ -4,7 +4,7 @@ use Rattle.problem_rules.specs.Problem.{Problem}
 use Rattle.pns_rules.specs.Shape.{Shape, shape_of}
 use Rattle.pns_rules.specs.Nodes.{Node}
 use Rattle.flow_rules.specs.Net.{net_of}
-use Rattle.charge_rules.specs.Facts.{own_facts}
+use Rattle.flow_rules.specs.ChargeFacts.{own_facts}
 use Rattle.tree_rules.specs.declared.why.Why.{Why}
 use Rattle.tree_rules.specs.Tree.{End, branch, leaf, TreeNode, after_all, below, EndPasses}
 use Rattle.tree_rules.specs.Fault.{EndFails, NodeFails, IsFirstFault}
@@ -12,7 +12,7 @@ use Rattle.tree_rules.specs.Claim.{CostOver, claimed_cost}
 use Rattle.tree_rules.specs.Leaf.{Leaf, dead, clash, refuted, bounded, charged, untried}
 use Rattle.tree_rules.specs.Leaf.{LeafPasses, LeafFails}
 use Rattle.tree_laws.proofs.OpenLemmas.{passes_too}
-use Rattle.head_rules.specs.Headed.{LeafPassesBy, LeafFailsBy}
+use Rattle.tree_rules.specs.Headed.{LeafPassesBy, LeafFailsBy}
 use Rattle.tree_laws.specs.HeadLaws.{EmptyHeadProves, EmptyHeadFails}
 
 module _ (partial : Bool) (p : Problem) (claimed : Option CostOver) where

@@ -5,8 +5,8 @@ use Rattle.problem_rules.specs.Problem.{Problem}
 use Rattle.pns_rules.specs.Shape.{Shape}
 use Rattle.pns_rules.specs.Nodes.{Node}
 use Rattle.flow_rules.specs.Net.{net_of}
-use Rattle.charge_rules.specs.Facts.{own_facts}
-use Rattle.charge_rules.proofs.LeafLemmas.{passing_has_no_cause, cause_is_one}
+use Rattle.flow_rules.specs.ChargeFacts.{own_facts}
+use Rattle.flow_rules.proofs.LeafLemmas.{passing_has_no_cause, cause_is_one}
 use Rattle.tree_rules.specs.declared.why.Why.{Why}
 use Rattle.tree_rules.specs.Tree.{End, branch, leaf, TreeNode, StepsPass, after_all, below}
 use Rattle.tree_rules.specs.Tree.{EndPasses, Pass}

@@ -3,14 +3,14 @@ use Rattle.std.proofs.Common.{◌≡◌, Bool, [], ◌∷◌, Option, sym, ap, �
 use Rattle.problem_rules.specs.Problem.{Problem}
 use Rattle.pns_rules.specs.Shape.{shape_of}
 use Rattle.pns_rules.specs.Nodes.{Node}
-use Rattle.charge_rules.specs.Facts.{Facts}
-use Rattle.charge_rules.proofs.LeafLemmas.{passing_has_no_cause, cause_is_one}
+use Rattle.flow_rules.specs.ChargeFacts.{Facts}
+use Rattle.flow_rules.proofs.LeafLemmas.{passing_has_no_cause, cause_is_one}
 use Rattle.tree_rules.specs.declared.why.Why.{Why}
 use Rattle.tree_rules.specs.Claim.{CostOver, IsAtLeast, claimed_cost}
 use Rattle.tree_rules.specs.Leaf.{Leaf, dead, clash, refuted, bounded, charged, untried}
 use Rattle.tree_rules.specs.Leaf.{IsClaimed, why_of}
 use Rattle.tree_laws.proofs.FaultLemmas.{leaf_passes, leaf_one, tree_passes, tree_one}
-use Rattle.head_rules.specs.Headed.{head_facts, LeafPassesBy, LeafFailsBy}
+use Rattle.tree_rules.specs.Headed.{head_facts, LeafPassesBy, LeafFailsBy}
 use Rattle.tree_laws.specs.HeadLaws.{LeavesHaveRulesBy, PassingTreeHasNoFaultBy, TreeHasOneFaultBy}
 
 module _ (f : Facts) (partial : Bool) (p : Problem) (claimed : Option CostOver) where

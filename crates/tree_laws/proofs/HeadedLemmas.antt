@@ -10,7 +10,7 @@ use Rattle.pns_rules.specs.Nodes.{Node}
 use Rattle.pns_rules.proofs.ProperLemmas.{proper_if_valid}
 use Rattle.flow_rules.specs.Net.{net_of}
 use Rattle.flow_rules.specs.Flows.{IsFlows, cost}
-use Rattle.charge_rules.specs.Facts.{Facts, AreFacts}
+use Rattle.flow_rules.specs.ChargeFacts.{Facts, AreFacts}
 use Rattle.tree_rules.specs.Tree.{leaf, Stands}
 use Rattle.tree_rules.specs.Claim.{network, Claim, infeasible, unknown, CostOver, IsAtLeast}
 use Rattle.tree_rules.specs.Claim.{claimed_cost, ClaimPasses}
@@ -23,13 +23,13 @@ use Rattle.tree_laws.proofs.LeafLemmas.{HasScale, scale_of, leaf_holds}
 use Rattle.tree_laws.proofs.OpenLemmas.{passes_too, claim_whole_partial}
 use Rattle.tree_laws.proofs.OpenLemmas.{claim_partial_whole}
 use Rattle.tree_laws.proofs.AcceptedLemmas.{in_first}
-use Rattle.head_rules.specs.Head.{HeadLine}
-use Rattle.head_rules.specs.Headed.{head_known, head_node, head_facts, LeafPassesBy, HeadPasses}
-use Rattle.head_rules.specs.Headed.{ProvesBy}
-use Rattle.head_rules.specs.Keeps.{IsBelow, Undercuts, MayFit, Keeps}
-use Rattle.head_rules.specs.Laws.{IsCost}
-use Rattle.head_rules.proofs.ChargedLemmas.{charged_is_empty}
-use Rattle.head_rules.proofs.HeadLemmas.{head_keeps, head_has_facts}
+use Rattle.tree_rules.specs.Head.{HeadLine}
+use Rattle.tree_rules.specs.Headed.{head_known, head_node, head_facts, LeafPassesBy, HeadPasses}
+use Rattle.tree_rules.specs.Headed.{ProvesBy}
+use Rattle.tree_rules.specs.Keeps.{IsBelow, Undercuts, MayFit, Keeps}
+use Rattle.tree_rules.specs.HeadLaws.{IsCost}
+use Rattle.tree_rules.proofs.ChargedLemmas.{charged_is_empty}
+use Rattle.tree_rules.proofs.HeadLemmas.{head_keeps, head_has_facts}
 use Rattle.tree_laws.specs.HeadLaws.{AcceptedByIsLeast, AcceptedByIsOptimal, AcceptedByHasFlows}
 use Rattle.tree_laws.specs.HeadLaws.{PartialByIsLeast, PartialByIsLeastOfAll, AcceptedByIsPartialBy}
 use Rattle.tree_laws.specs.HeadLaws.{PartialByIsAcceptedBy}

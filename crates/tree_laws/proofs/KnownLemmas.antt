@@ -7,8 +7,8 @@ use Rattle.integer_laws.specs.Range.{InRange, AllInRange}
 use Rattle.problem_rules.specs.Each.{Each}
 use Rattle.problem_rules.specs.Problem.{Problem, Material, Exclusion}
 use Rattle.pns_rules.specs.Nodes as nodes
-use Rattle.charge_rules.specs.Cover.{Cover}
-use Rattle.charge_rules.specs.Leaf.{Handed}
+use Rattle.flow_rules.specs.Cover.{Cover}
+use Rattle.flow_rules.specs.ChargeLeaf.{Handed}
 use Rattle.tree_rules.specs.Ways as ways
 use Rattle.tree_rules.specs.Tree.{End, branch, leaf, TreeNode}
 use Rattle.tree_rules.specs.Leaf.{Leaf, dead, clash, refuted, bounded, charged, untried}

@@ -15,13 +15,13 @@ use Rattle.flow_rules.specs.Net.{net_of}
 use Rattle.flow_rules.specs.Flows.{IsFlows, cost}
 use Rattle.flow_rules.specs.Relaxed.{bound}
 use Rattle.flow_rules.proofs.DualityLemmas.{weak_duality_holds, refutation_holds}
-use Rattle.charge_rules.specs.Facts.{own_facts}
-use Rattle.charge_rules.specs.Cover.{Cover}
-use Rattle.charge_rules.specs.Leaf.{Handed, IsScale, CoversPass, charge_of, ChargeReaches}
-use Rattle.charge_rules.specs.Leaf as charges
-use Rattle.charge_rules.specs.Laws.{AreCovers}
-use Rattle.charge_rules.proofs.DualityLemmas.{charge_duality, charge_refutes, own_facts_hold}
-use Rattle.charge_rules.proofs.DualityLemmas.{flows_fit}
+use Rattle.flow_rules.specs.ChargeFacts.{own_facts}
+use Rattle.flow_rules.specs.Cover.{Cover}
+use Rattle.flow_rules.specs.ChargeLeaf.{Handed, IsScale, CoversPass, charge_of, ChargeReaches}
+use Rattle.flow_rules.specs.ChargeLeaf as charges
+use Rattle.flow_rules.specs.ChargeLaws.{AreCovers}
+use Rattle.flow_rules.proofs.ChargeDualityLemmas.{charge_duality, charge_refutes, own_facts_hold}
+use Rattle.flow_rules.proofs.ChargeDualityLemmas.{flows_fit}
 use Rattle.tree_rules.specs.Claim.{network, Claim, infeasible, unknown, CostOver, IsAtLeast}
 use Rattle.tree_rules.specs.Claim.{claimed_cost, ClaimPasses}
 use Rattle.tree_rules.specs.Leaf.{Leaf, dead, clash, refuted, bounded, charged, untried, Scaled}

@@ -9,7 +9,7 @@ use Rattle.pns_rules.specs.Structure.{IsStructure, IsAllowed, InFamily}
 use Rattle.pns_rules.specs.Nodes.{Node}
 use Rattle.flow_rules.specs.Net.{net_of}
 use Rattle.flow_rules.specs.Flows.{IsFlows, cost}
-use Rattle.charge_rules.specs.Facts.{Facts}
+use Rattle.flow_rules.specs.ChargeFacts.{Facts}
 use Rattle.tree_rules.specs.declared.why.Why.{Why}
 use Rattle.tree_rules.specs.Tree.{leaf, Stands}
 use Rattle.tree_rules.specs.Claim.{Network, network, Claim, unknown, CostOver, IsAtLeast}
@@ -19,9 +19,9 @@ use Rattle.tree_rules.specs.Leaf.{untried, Scaled}
 use Rattle.tree_rules.specs.Costs.{CostsEnough}
 use Rattle.tree_rules.specs.Accepted.{Tree, Proves, NodeIsFault}
 use Rattle.tree_laws.specs.Laws.{IsStillOpen}
-use Rattle.head_rules.specs.Head.{HeadLine}
-use Rattle.head_rules.specs.Headed.{head_node, LeafPassesBy, LeafFailsBy, ProvesBy, IsAcceptedBy}
-use Rattle.head_rules.specs.Headed.{IsPartialBy, NodeIsFaultBy}
+use Rattle.tree_rules.specs.Head.{HeadLine}
+use Rattle.tree_rules.specs.Headed.{head_node, LeafPassesBy, LeafFailsBy, ProvesBy, IsAcceptedBy}
+use Rattle.tree_rules.specs.Headed.{IsPartialBy, NodeIsFaultBy}
 
 -- ---- trees without a head
 

@@ -1,7 +1,7 @@
 -- Trees whose leaves charge. A leaf that is refuted, or has a bound, charges its node by the same
 -- multipliers, without covers.
 use Rattle.std.specs.Prelude.{pos, [], map}
-use Rattle.head_rules.specs.Charged.{handed}
+use Rattle.tree_rules.specs.Charged.{handed}
 use Rattle.tree_rules.specs.Tree.{End, branch, leaf, TreeNode}
 use Rattle.tree_rules.specs.Leaf.{Leaf, dead, clash, refuted, bounded, charged, untried}
 use Rattle.tree_rules.specs.Accepted.{Tree}

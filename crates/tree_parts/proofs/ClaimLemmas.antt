@@ -6,7 +6,7 @@ use Rattle.integer_laws.proofs.Order.{mul-le_left, mul-lt_left}
 use Rattle.integer_laws.proofs.Ring.{ring_z}
 use Rattle.problem_rules.specs.Problem.{Problem}
 use Rattle.pns_rules.specs.Nodes.{Node}
-use Rattle.charge_rules.specs.Leaf.{IsScale, ChargeReaches}
+use Rattle.flow_rules.specs.ChargeLeaf.{IsScale, ChargeReaches}
 use Rattle.tree_rules.specs.Claim.{Network, Claim, network, infeasible, unknown, CostOver}
 use Rattle.tree_rules.specs.Claim.{claimed_cost, IsAtLeast, IsFeasible, ClaimPasses}
 use Rattle.tree_rules.specs.Leaf.{Leaf, dead, clash, refuted, bounded, charged, untried, IsClaimed}

@@ -2,10 +2,10 @@
 use Rattle.std.proofs.Common.{◌≡◌, ◌++◌, ℕ, suc, ℤ, Bool, List, [], ◌∷◌, Option, Some, None}
 use Rattle.std.proofs.Common.{Result, Ok, Err, refl, sym, ap, ◌∙◌, subst, append_assoc, append-nil}
 use Rattle.problem_rules.specs.Problem.{Problem}
-use Rattle.charge_rules.specs.Cover.{Cover}
-use Rattle.charge_rules.specs.Facts.{Demand}
-use Rattle.head_rules.specs.Head.{HeadLine, step, cap, out, trim, uses}
-use Rattle.head_rules.specs.Known.{KnowsLine}
+use Rattle.flow_rules.specs.Cover.{Cover}
+use Rattle.flow_rules.specs.ChargeFacts.{Demand}
+use Rattle.tree_rules.specs.Head.{HeadLine, step, cap, out, trim, uses}
+use Rattle.tree_rules.specs.HeadKnown.{KnowsLine}
 use Rattle.branch_tree.specs.HeadView.{line_of, lines_of}
 use Rattle.branch_tree.specs.declared.line.HeadLine as values
 use Rattle.tree_text_rules.specs.Line.{Token, Line, word_of, fields_of, is_formed}

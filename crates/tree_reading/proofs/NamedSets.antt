@@ -5,7 +5,7 @@ use Rattle.std.proofs.Common.{if◌then◌else◌}
 use Rattle.std.proofs.lemmas.List.{length-map}
 use Rattle.problem_rules.specs.Each.{Each}
 use Rattle.problem_rules.specs.Problem.{Problem}
-use Rattle.charge_rules.specs.Cover as rules
+use Rattle.flow_rules.specs.Cover as rules
 use Rattle.pgraph.specs.Kept.{IsKept, AreKept}
 use Rattle.pgraph.specs.CoversView.{cover_of, covers_of}
 use Rattle.pgraph.specs.declared.cover.Cover.{Cover}

@@ -9,8 +9,8 @@ use Rattle.tree_rules.specs.Tree as trees
 use Rattle.tree_rules.specs.Leaf.{Leaf}
 use Rattle.tree_rules.specs.Accepted.{Tree}
 use Rattle.tree_text_rules.specs.Line.{Line}
-use Rattle.charge_rules.specs.Cover.{Cover}
-use Rattle.charge_rules.specs.Leaf.{Handed}
+use Rattle.flow_rules.specs.Cover.{Cover}
+use Rattle.flow_rules.specs.ChargeLeaf.{Handed}
 use Rattle.tree_text_rules.specs.LineRead.{step_read, end_line_read, next_cover, option_read}
 use Rattle.tree_text_rules.specs.Read.{Fault, Taken, Head, with_step, with_end, with_covers}
 use Rattle.tree_text_rules.specs.Read.{charge_end, charge_of, with_node, between, at_steps}

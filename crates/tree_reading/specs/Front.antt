@@ -3,9 +3,9 @@
 use Rattle.std.specs.Prelude.{◌≡◌, ℕ, Bool, List, [], ◌∷◌, Option, Some, None, IfSome, Result, Ok}
 use Rattle.std.specs.Prelude.{Err}
 use Rattle.problem_rules.specs.Problem.{Problem}
-use Rattle.charge_rules.specs.Cover.{Cover}
-use Rattle.head_rules.specs.Head as heads
-use Rattle.head_rules.specs.Known.{KnowsLine}
+use Rattle.flow_rules.specs.Cover.{Cover}
+use Rattle.tree_rules.specs.Head as heads
+use Rattle.tree_rules.specs.HeadKnown.{KnowsLine}
 use Rattle.branch_tree.specs.HeadView.{line_of}
 use Rattle.branch_tree.specs.declared.line.HeadLine.{HeadLine}
 use Rattle.tree_text_rules.specs.Line.{Token, Line}

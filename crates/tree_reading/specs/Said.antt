@@ -2,7 +2,7 @@
 use Rattle.problem_rules.specs.Problem.{Problem}
 use Rattle.branch_tree.specs.View.{claim_of, tail_of}
 use Rattle.tree_rules.specs.Known.{KnowsClaim, KnowsTree, KnowsTail}
-use Rattle.head_rules.specs.Known.{KnowsHead}
+use Rattle.tree_rules.specs.HeadKnown.{KnowsHead}
 use Rattle.tree_text_rules.specs.Read.{HeadedCertificate}
 use Rattle.tree_reading.specs.declared.text.Headed.{Headed}
 

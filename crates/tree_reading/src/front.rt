@@ -1,6 +1,6 @@
 //! The head of a tree: the lines before the first node.
 ghost use Rattle.std.specs.Prelude.{◌≡◌, ◌<◌, ◌-◌, ◌^◌, None, Ok, IfOk, IfErr, length};
-ghost use Rattle.head_rules.specs.Known.{KnowsLine, KnowsHead};
+ghost use Rattle.tree_rules.specs.HeadKnown.{KnowsLine, KnowsHead};
 ghost use Rattle.branch_tree.specs.HeadView.{line_of, lines_of};
 ghost use Rattle.tree_text_rules.specs.LineRead.{sets_of};
 ghost use Rattle.tree_text_rules.specs.Read.{front_taken};

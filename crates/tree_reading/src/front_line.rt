@@ -1,7 +1,7 @@
 //! The lines of the head of a tree, without the sets that may follow one.
 ghost use Rattle.std.specs.Prelude.{◌≡◌, [], Ok, IfOk, IfErr, IfSome};
-ghost use Rattle.head_rules.specs.Head as heads;
-ghost use Rattle.head_rules.specs.Known.{KnowsLine};
+ghost use Rattle.tree_rules.specs.Head as heads;
+ghost use Rattle.tree_rules.specs.HeadKnown.{KnowsLine};
 ghost use Rattle.branch_tree.specs.HeadView as views;
 ghost use Rattle.tree_text_rules.specs.LineRead as reads;
 ghost use Rattle.tree_text_rules.specs.Token as rules;

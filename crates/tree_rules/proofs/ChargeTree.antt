@@ -21,12 +21,12 @@ use Rattle.pns_rules.specs.Structure.{is_made, is_used, mats, IsBetween}
 use Rattle.pns_rules.specs.Nodes.{Node}
 use Rattle.pns_rules.proofs.StructureLemmas.{is_made-some, is_used-from}
 use Rattle.pns_rules.proofs.DecideLemmas.{structure_if}
-use Rattle.charge_rules.specs.Facts.{own_facts}
-use Rattle.charge_rules.specs.Cover.{Cover, IsCover, Covers, IsFree}
-use Rattle.charge_rules.specs.ChargeSteps.{charge_steps}
-use Rattle.charge_rules.specs.Leaf.{Handed, charge_of}
-use Rattle.charge_rules.specs.Leaf as charges
-use Rattle.charge_rules.specs.declared.charge_why.ChargeWhy.TheVariants as charge_causes
+use Rattle.flow_rules.specs.ChargeFacts.{own_facts}
+use Rattle.flow_rules.specs.Cover.{Cover, IsCover, Covers, IsFree}
+use Rattle.flow_rules.specs.ChargeSteps.{charge_steps}
+use Rattle.flow_rules.specs.ChargeLeaf.{Handed, charge_of}
+use Rattle.flow_rules.specs.ChargeLeaf as charges
+use Rattle.flow_rules.specs.declared.charge_why.ChargeWhy.TheVariants as charge_causes
 use Rattle.tree_rules.specs.declared.why.Why.{Why}
 use Rattle.tree_rules.specs.declared.why.Why.TheVariants as causes
 use Rattle.tree_rules.specs.Ways.{either}

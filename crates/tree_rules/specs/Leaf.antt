@@ -16,10 +16,10 @@ use Rattle.flow_rules.specs.Net.{net_of, beside}
 use Rattle.flow_rules.specs.Relaxed.{rows, bound, Refutes}
 use Rattle.flow_rules.specs.Steps.{AreInRange}
 use Rattle.flow_rules.specs.BoundSteps.{bound_steps}
-use Rattle.charge_rules.specs.Facts.{own_facts}
-use Rattle.charge_rules.specs.Leaf.{Handed, ChargePasses, ChargeFails}
-use Rattle.charge_rules.specs.declared.charge_why.ChargeWhy.{ChargeWhy}
-use Rattle.charge_rules.specs.declared.charge_why.ChargeWhy.TheVariants as charge_causes
+use Rattle.flow_rules.specs.ChargeFacts.{own_facts}
+use Rattle.flow_rules.specs.ChargeLeaf.{Handed, ChargePasses, ChargeFails}
+use Rattle.flow_rules.specs.declared.charge_why.ChargeWhy.{ChargeWhy}
+use Rattle.flow_rules.specs.declared.charge_why.ChargeWhy.TheVariants as charge_causes
 use Rattle.tree_rules.specs.declared.why.Why.{Why}
 use Rattle.tree_rules.specs.declared.why.Why.TheVariants as causes
 use Rattle.tree_rules.specs.Fault.{Fails}

@@ -1,7 +1,15 @@
 pub mod Accepted
+pub mod Charged
 pub mod Claim
 pub mod Costs
 pub mod Fault
+pub mod Head
+pub mod HeadFaults
+pub mod HeadKnown
+pub mod HeadLaws
+pub mod Headed
+pub mod HeadedProved
+pub mod Keeps
 pub mod Known
 pub mod Leaf
 pub mod Lean
@@ -13,4 +21,5 @@ pub mod Refusals
 pub mod Stops
 pub mod Tail
 pub mod Tree
+pub mod Trim
 pub mod Ways

@@ -1,7 +1,7 @@
 //! The lines of the head of a tree.
 ghost use Rattle.std.specs.Prelude.{◌≡◌};
 ghost use Rattle.tree_rules.specs.Known.{KnowsTree, KnowsClaim, KnowsTail};
-ghost use Rattle.head_rules.specs.Known.{KnowsLine, KnowsHead};
+ghost use Rattle.tree_rules.specs.HeadKnown.{KnowsLine, KnowsHead};
 ghost use Rattle.branch_tree.specs.View.{claim_of, tail_of};
 ghost use Rattle.branch_tree.specs.HeadView.{line_of, lines_of};
 ghost use Rattle.tree_text_rules.specs.Spelling.{front_with_sets, front_lines};

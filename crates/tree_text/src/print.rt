@@ -4,7 +4,7 @@ ghost use Rattle.problem_rules.specs.Each.{Each};
 ghost use Rattle.pgraph.specs.View.{step_of};
 ghost use Rattle.tree_rules.specs.Known.{AreUnits, KnowsStep, KnowsEnd, KnowsTree, KnowsClaim};
 ghost use Rattle.tree_rules.specs.Known.{KnowsColumn, KnowsPlace, KnowsTail};
-ghost use Rattle.head_rules.specs.Known.{KnowsHead};
+ghost use Rattle.tree_rules.specs.HeadKnown.{KnowsHead};
 ghost use Rattle.branch_tree.specs.View.{end_of, claim_of, tail_of};
 ghost use Rattle.tree_text_rules.specs.Spelling.{end_with_sets, head_lines, network_lines};
 ghost use Rattle.tree_text_rules.specs.Spelling.{place_lines, tail_lines, rest_lines};

@@ -6,8 +6,8 @@ use Rattle.std.proofs.lemmas.List.{length-map}
 use Rattle.problem_rules.specs.Each.{Each}
 use Rattle.problem_rules.specs.Problem.{Problem}
 use Rattle.problem_rules.specs.WellFormed.{IsWellFormed}
-use Rattle.charge_rules.specs.Cover.{Cover}
-use Rattle.charge_rules.specs.Leaf.{Handed}
+use Rattle.flow_rules.specs.Cover.{Cover}
+use Rattle.flow_rules.specs.ChargeLeaf.{Handed}
 use Rattle.tree_rules.specs.Tree as trees
 use Rattle.tree_rules.specs.Leaf.{Leaf}
 use Rattle.tree_rules.specs.Known.{KnowsCover, KnowsCharge, KnowsEnd}

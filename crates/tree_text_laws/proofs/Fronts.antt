@@ -7,10 +7,10 @@ use Rattle.problem_rules.specs.Each.{Each}
 use Rattle.problem_rules.specs.Problem.{Problem}
 use Rattle.problem_rules.specs.WellFormed.{IsWellFormed}
 use Rattle.text_laws.proofs.Each.{each-append}
-use Rattle.charge_rules.specs.Cover.{Cover}
+use Rattle.flow_rules.specs.Cover.{Cover}
 use Rattle.tree_rules.specs.Known.{KnowsCover}
-use Rattle.head_rules.specs.Head.{HeadLine, step, cap, out, trim, uses}
-use Rattle.head_rules.specs.Known.{KnowsLine, KnowsHead}
+use Rattle.tree_rules.specs.Head.{HeadLine, step, cap, out, trim, uses}
+use Rattle.tree_rules.specs.HeadKnown.{KnowsLine, KnowsHead}
 use Rattle.tree_text_rules.specs.Line.{Token, Line}
 use Rattle.tree_text_rules.specs.LineRead.{head_read, sets_of, next_among, next_cover}
 use Rattle.tree_text_rules.specs.Read.{Fault, Taken, on_line, with_set, with_line, front_taken}

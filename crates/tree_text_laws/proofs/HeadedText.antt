@@ -9,7 +9,7 @@ use Rattle.problem_rules.specs.WellFormed.{IsWellFormed}
 use Rattle.tree_rules.specs.Claim as claims
 use Rattle.tree_rules.specs.Accepted.{Tree}
 use Rattle.tree_rules.specs.Tail as tails
-use Rattle.head_rules.specs.Head.{HeadLine}
+use Rattle.tree_rules.specs.Head.{HeadLine}
 use Rattle.tree_text_rules.specs.Line.{Token, Line, lines_of}
 use Rattle.tree_text_rules.specs.LineRead.{file_type_read}
 use Rattle.tree_text_rules.specs.Read.{Fault, Taken, then_read, claim_taken, front_taken}

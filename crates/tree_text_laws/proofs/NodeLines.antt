@@ -9,16 +9,16 @@ use Rattle.problem_rules.specs.Each.{Each}
 use Rattle.problem_rules.specs.Problem.{Problem}
 use Rattle.problem_rules.specs.WellFormed.{IsWellFormed}
 use Rattle.pns_rules.specs.Nodes as nodes
-use Rattle.charge_rules.specs.Cover.{Cover}
+use Rattle.flow_rules.specs.Cover.{Cover}
 use Rattle.tree_rules.specs.Ways as ways
 use Rattle.tree_rules.specs.Tree as trees
 use Rattle.tree_rules.specs.Leaf as leaves
 use Rattle.tree_rules.specs.Known.{IsUnit, IsMaterial, IsExclusion, AreUnits, KnowsStep, KnowsCover}
 use Rattle.tree_rules.specs.Known.{KnowsCharge}
-use Rattle.head_rules.specs.Charged.{handed}
-use Rattle.head_rules.specs.Head as heads
-use Rattle.head_rules.specs.Head.{HeadLine}
-use Rattle.head_rules.specs.Known.{KnowsLine}
+use Rattle.tree_rules.specs.Charged.{handed}
+use Rattle.tree_rules.specs.Head as heads
+use Rattle.tree_rules.specs.Head.{HeadLine}
+use Rattle.tree_rules.specs.HeadKnown.{KnowsLine}
 use Rattle.tree_text_rules.specs.Line.{Token, Line, is_formed, word_text, word_of, fields_of}
 use Rattle.tree_text_rules.specs.LineRead.{formed, one, two, one_and_more, step_by, formed_step}
 use Rattle.tree_text_rules.specs.LineRead.{step_read, open_of, end_by, end_line_read, some_units}

@@ -5,7 +5,7 @@ use Rattle.std.proofs.lemmas.List.{length-map}
 use Rattle.problem_rules.specs.Problem.{Problem}
 use Rattle.problem_rules.specs.WellFormed.{IsWellFormed}
 use Rattle.pns_rules.specs.Nodes as nodes
-use Rattle.charge_rules.specs.Cover.{Cover}
+use Rattle.flow_rules.specs.Cover.{Cover}
 use Rattle.tree_rules.specs.Claim as claims
 use Rattle.tree_rules.specs.Accepted.{Tree}
 use Rattle.tree_text_rules.specs.Line.{Token, Line}
@@ -16,7 +16,7 @@ use Rattle.tree_text_rules.specs.Spelling.{step_line, cover_line, covers_in, end
 use Rattle.tree_text_rules.specs.Spelling.{node_lines, network_lines, claim_lines, tree_lines}
 use Rattle.tree_text_rules.specs.Spelling.{front_lines, tail_lines, rest_lines}
 use Rattle.tree_text_rules.specs.Spelling.{headed_rest_lines}
-use Rattle.head_rules.specs.Known.{KnowsHead}
+use Rattle.tree_rules.specs.HeadKnown.{KnowsHead}
 use Rattle.tree_text_laws.specs.LineFits.{FitsEnd}
 use Rattle.tree_text_laws.specs.Fits.{FitsNetwork, FitsClaim, FitsTree, FitsTail, Fits}
 use Rattle.tree_text_laws.specs.Fits.{FitsHeaded}

@@ -8,7 +8,7 @@ use Rattle.tree_rules.specs.Claim as claims
 use Rattle.tree_rules.specs.Known.{AreUnits, KnowsClaim, KnowsStep, KnowsTree, KnowsTail}
 use Rattle.branch_tree.specs.Sized.{IsKept}
 use Rattle.tree_rules.specs.Tail as tails
-use Rattle.head_rules.specs.Known.{KnowsHead}
+use Rattle.tree_rules.specs.HeadKnown.{KnowsHead}
 use Rattle.tree_text_rules.specs.Read.{Certificate, HeadedCertificate, Head}
 use Rattle.tree_text_laws.specs.LineFits.{IsCount, IsOptionCount, CountsEnd, CountsPlace}
 

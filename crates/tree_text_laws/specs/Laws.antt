@@ -2,7 +2,7 @@
 use Rattle.std.specs.Prelude.{◌≡◌, ◌+◌, ℕ, List, [], ◌++◌, length, None, Ok}
 use Rattle.problem_rules.specs.Problem.{Problem}
 use Rattle.problem_rules.specs.Validity.{IsValid}
-use Rattle.head_rules.specs.Known.{KnowsHead}
+use Rattle.tree_rules.specs.HeadKnown.{KnowsHead}
 use Rattle.tree_text_rules.specs.Line.{Line}
 use Rattle.tree_text_rules.specs.Read.{Taken, Certificate, Head, network_taken}
 use Rattle.tree_text_rules.specs.Read.{claim_taken}

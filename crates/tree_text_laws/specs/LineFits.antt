@@ -10,8 +10,8 @@ use Rattle.tree_rules.specs.Ways as ways
 use Rattle.tree_rules.specs.Tree as trees
 use Rattle.tree_rules.specs.Leaf as leaves
 use Rattle.tree_rules.specs.Known.{KnowsEnd, KnowsPlace}
-use Rattle.head_rules.specs.Head.{HeadLine}
-use Rattle.head_rules.specs.Known.{KnowsLine}
+use Rattle.tree_rules.specs.Head.{HeadLine}
+use Rattle.tree_rules.specs.HeadKnown.{KnowsLine}
 use Rattle.tree_text_rules.specs.Spelling.{covers_in, sets_in}
 
 -- the number of a node or of a step, or how many children a branch has

@@ -6,10 +6,10 @@ use Rattle.problem_rules.specs.Each.{Each}
 use Rattle.problem_rules.specs.Problem.{Problem}
 use Rattle.problem_rules.specs.Validity.{IsValid}
 use Rattle.pns_rules.specs.Nodes.{Step}
-use Rattle.charge_rules.specs.Cover.{Cover}
+use Rattle.flow_rules.specs.Cover.{Cover}
 use Rattle.tree_rules.specs.Known.{IsUnit, IsMaterial, IsExclusion, AreUnits, KnowsStep, KnowsCover}
 use Rattle.tree_rules.specs.Known.{KnowsColumn, KnowsRow}
-use Rattle.head_rules.specs.Head.{HeadLine}
+use Rattle.tree_rules.specs.Head.{HeadLine}
 use Rattle.tree_text_rules.specs.Line.{Token, Line, lines_of, word_text}
 use Rattle.tree_text_rules.specs.LineRead.{step_read, end_line_read, cover_read, head_read}
 use Rattle.tree_text_rules.specs.LineRead.{option_read, root_read, network_line_read, sizes_read}

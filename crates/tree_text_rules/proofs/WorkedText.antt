@@ -8,15 +8,15 @@ use Rattle.flow_rules.specs.declared.place.Column.TheVariants as columns
 use Rattle.flow_rules.specs.declared.place.FlowStep.TheVariants as flows
 use Rattle.flow_rules.specs.declared.place.Place.{Place}
 use Rattle.flow_rules.specs.declared.place.Place.TheVariants as places
-use Rattle.charge_rules.specs.Cover.{Cover}
-use Rattle.charge_rules.specs.Leaf.{Handed}
+use Rattle.flow_rules.specs.Cover.{Cover}
+use Rattle.flow_rules.specs.ChargeLeaf.{Handed}
 use Rattle.tree_rules.specs.Ways.{at_material, either}
 use Rattle.tree_rules.specs.Tree.{TreeNode, branch, leaf}
 use Rattle.tree_rules.specs.Leaf.{Leaf, dead, clash, refuted, bounded, charged, untried}
 use Rattle.tree_rules.specs.Claim.{Claim, network, infeasible, unknown}
 use Rattle.tree_rules.specs.Accepted.{Tree}
 use Rattle.tree_rules.specs.Tail.{whole, spent, past}
-use Rattle.head_rules.specs.Head.{HeadLine, step, cap, out, trim, uses}
+use Rattle.tree_rules.specs.Head.{HeadLine, step, cap, out, trim, uses}
 use Rattle.tree_text_rules.specs.Spelling.{tree_text, headed_text}
 use Rattle.tree_text_rules.specs.Line.{word_named}
 use Rattle.tree_text_rules.specs.Read.{Certificate, read_text, nodes_taken, front_taken}

@@ -11,11 +11,11 @@ use Rattle.pns_rules.specs.Nodes as nodes
 use Rattle.flow_rules.specs.declared.place.Column.{Column}
 use Rattle.flow_rules.specs.declared.place.Place.{Place}
 use Rattle.flow_rules.specs.declared.place.Place.TheVariants as places
-use Rattle.charge_rules.specs.Cover.{Cover}
+use Rattle.flow_rules.specs.Cover.{Cover}
 use Rattle.tree_rules.specs.Ways as ways
 use Rattle.tree_rules.specs.Tree as trees
 use Rattle.tree_rules.specs.Leaf as leaves
-use Rattle.head_rules.specs.Head as heads
+use Rattle.tree_rules.specs.Head as heads
 use Rattle.tree_text_rules.specs.Line.{Token, Line, word_of, fields_of, is_formed}
 use Rattle.tree_text_rules.specs.Line.{file_type}
 use Rattle.tree_text_rules.specs.Token.{both, mapped, each, judged, unit_of, material_of}

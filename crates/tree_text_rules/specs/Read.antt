@@ -5,15 +5,15 @@ use Rattle.std.specs.Prelude.{◌+◌, ℕ, zero, suc, List, [], ◌∷◌, ◌+
 use Rattle.std.specs.Prelude.{Result, Ok, Err}
 use Rattle.problem_rules.specs.Problem.{Problem}
 use Rattle.pns_rules.specs.Nodes as nodes
-use Rattle.charge_rules.specs.Cover.{Cover}
-use Rattle.charge_rules.specs.Leaf.{Handed}
+use Rattle.flow_rules.specs.Cover.{Cover}
+use Rattle.flow_rules.specs.ChargeLeaf.{Handed}
 use Rattle.tree_rules.specs.Tree as trees
 use Rattle.tree_rules.specs.Leaf as leaves
 use Rattle.tree_rules.specs.Claim as claims
 use Rattle.tree_rules.specs.Accepted.{Tree}
 use Rattle.tree_rules.specs.Tail as tails
-use Rattle.head_rules.specs.Head as heads
-use Rattle.head_rules.specs.Head.{HeadLine}
+use Rattle.tree_rules.specs.Head as heads
+use Rattle.tree_rules.specs.Head.{HeadLine}
 use Rattle.tree_text_rules.specs.Line.{Line, lines_of}
 use Rattle.tree_text_rules.specs.LineRead as reads
 use Rattle.tree_text_rules.specs.declared.TreeKind.{TreeKind}

@@ -14,14 +14,14 @@ use Rattle.flow_rules.specs.declared.place.FlowStep.{FlowStep}
 use Rattle.flow_rules.specs.declared.place.FlowStep.TheVariants as flows
 use Rattle.flow_rules.specs.declared.place.Place.{Place}
 use Rattle.flow_rules.specs.declared.place.Place.TheVariants as places
-use Rattle.charge_rules.specs.Cover.{Cover}
+use Rattle.flow_rules.specs.Cover.{Cover}
 use Rattle.tree_rules.specs.Ways as ways
 use Rattle.tree_rules.specs.Tree as trees
 use Rattle.tree_rules.specs.Leaf as leaves
 use Rattle.tree_rules.specs.Claim as claims
 use Rattle.tree_rules.specs.Accepted.{Tree}
 use Rattle.tree_rules.specs.Tail as tails
-use Rattle.head_rules.specs.Head as heads
+use Rattle.tree_rules.specs.Head as heads
 use Rattle.tree_text_rules.specs.Line.{Token, file_type, word_text}
 use Rattle.tree_text_rules.specs.declared.Word.TheVariants as words
 

@@ -9,7 +9,7 @@ use crate::verdict::Unjudged;
 use branch_tree::{Claim, Tree};
 use cert_check::check_headed;
 use branch_tree::Head;
-use head_rules::Refusal;
+use tree_rules::HeadRefusal;
 use pgraph::Site;
 use report_rules::HeadedVerdict;
 use std::alloc::Global;
@@ -38,9 +38,9 @@ pub fn headed_verdict_of(
 {
     match check_headed(alloc, site, claim, head, tree) {
         Ok(()) => Ok(HeadedVerdict::Proved),
-        Err(Refusal::Line { line, why }) => Ok(HeadedVerdict::LineFails { line, why }),
-        Err(Refusal::Node { node, why }) => Ok(HeadedVerdict::NodeFails { node, why }),
-        Err(Refusal::Claim(why)) => Err(Unjudged::Claim(why)),
-        Err(Refusal::Memory) => Err(Unjudged::Memory),
+        Err(HeadRefusal::Line { line, why }) => Ok(HeadedVerdict::LineFails { line, why }),
+        Err(HeadRefusal::Node { node, why }) => Ok(HeadedVerdict::NodeFails { node, why }),
+        Err(HeadRefusal::Claim(why)) => Err(Unjudged::Claim(why)),
+        Err(HeadRefusal::Memory) => Err(Unjudged::Memory),
     }
 }

@@ -5,7 +5,7 @@ use Rattle.pgraph.specs.View.{node_of}
 use Rattle.flow_rules.specs.Net.{net_of, beside}
 use Rattle.flow_rules.specs.Relaxed.{rows}
 use Rattle.flow_rules.proofs.LeadingLemmas.{not_both}
-use Rattle.charge_rules.specs.ChargeSteps.{charge_steps}
+use Rattle.flow_rules.specs.ChargeSteps.{charge_steps}
 use Rattle.charges.specs.Known.{facts_of}
 use Rattle.pgraph.specs.CoversView.{covers_of}
 use Rattle.cert_check.proofs.ChargeLemmas.{few_covers, beside_small}

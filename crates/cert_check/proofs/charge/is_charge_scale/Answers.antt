@@ -1,6 +1,6 @@
 use Rattle.std.proofs.Common.{◌↔◌, Option, IsTrue, inl, inr, sym, subst}
 use Rattle.std.proofs.lemmas.Int.{to_z-of_z}
-use Rattle.charge_rules.specs.Leaf.{IsScale}
+use Rattle.flow_rules.specs.ChargeLeaf.{IsScale}
 use Rattle.tree_rules.specs.Leaf.{IsClaimed}
 use Rattle.exact_numbers.specs.declared.cost.CostOver.{CostOver}
 use Rattle.cert_check.specs.Shown.{cost_over}

@@ -2,8 +2,8 @@ use Rattle.std.proofs.Common.{◌∙◌, List, SFits, refl, rules, sym, subst}
 use Rattle.std.specs.Int.{w128}
 use Rattle.std.proofs.lemmas.Int.{to_z-of_z}
 use Rattle.pgraph.specs.View.{node_of}
-use Rattle.charge_rules.specs.Cover.{Cover}
-use Rattle.charge_rules.specs.Leaf.{Handed, ChargePasses, ChargeFails}
+use Rattle.flow_rules.specs.Cover.{Cover}
+use Rattle.flow_rules.specs.ChargeLeaf.{Handed, ChargePasses, ChargeFails}
 use Rattle.charges.specs.Known.{facts_of}
 use Rattle.pgraph.specs.Kept.{AreKept}
 use Rattle.tree_rules.specs.Claim.{IsAtLeast}

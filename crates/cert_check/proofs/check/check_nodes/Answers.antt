@@ -3,7 +3,7 @@ use Rattle.problem_rules.specs.Problem.{Problem}
 use Rattle.pns_rules.specs.Shape.{shape_of}
 use Rattle.pgraph.specs.View.{node_of}
 use Rattle.flow_rules.specs.Net.{net_of}
-use Rattle.charge_rules.specs.Facts.{own_facts}
+use Rattle.flow_rules.specs.ChargeFacts.{own_facts}
 use Rattle.charges.specs.Known.{facts_of}
 use Rattle.tree_rules.specs.Tree.{Pass}
 use Rattle.tree_rules.specs.Accepted.{Tree}

@@ -4,7 +4,7 @@ use Rattle.pgraph.specs.View.{node_of}
 use Rattle.tree_rules.specs.Accepted.{first_node}
 use Rattle.cert_check.specs.Shown.{cost_over}
 use Rattle.cert_check.proofs.NodeLemmas.{step_ahead, none_ahead}
-use Rattle.head_rules.specs.Head.{known_first}
+use Rattle.tree_rules.specs.Head.{known_first}
 use Rattle.branch_tree.specs.HeadView.{line_of, lines_of}
 use Rattle.cert_check.specs.View.{known_of}
 use Rattle.cert_check.proofs.HeadLemmas.{Decides, all_decide, line_on, line_fails, none_left}

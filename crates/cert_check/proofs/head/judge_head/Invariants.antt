@@ -4,7 +4,7 @@ use Rattle.pgraph.specs.View.{node_of}
 use Rattle.tree_rules.specs.Accepted.{first_node}
 use Rattle.cert_check.specs.Known.{KnowsInside}
 use Rattle.cert_check.specs.Shown.{cost_over}
-use Rattle.head_rules.specs.Head.{known_first}
+use Rattle.tree_rules.specs.Head.{known_first}
 use Rattle.branch_tree.specs.HeadView.{lines_of}
 use Rattle.cert_check.specs.View.{known_of}
 use Rattle.cert_check.proofs.HeadLemmas.{Decides}

@@ -4,8 +4,8 @@ use Rattle.pgraph.specs.View.{node_of}
 use Rattle.charges.specs.Known.{facts_of}
 use Rattle.tree_rules.specs.Tree.{Pass}
 use Rattle.tree_rules.specs.Accepted.{Tree}
-use Rattle.head_rules.specs.declared.refusal.Refusal.{Refusal}
-use Rattle.head_rules.specs.Headed.{LeafPassesBy, LeafFailsBy}
+use Rattle.tree_rules.specs.declared.head_refusal.HeadRefusal.{HeadRefusal}
+use Rattle.tree_rules.specs.Headed.{LeafPassesBy, LeafFailsBy}
 use Rattle.cert_check.specs.Shown.{cost_over}
 use Rattle.cert_check.specs.Refusals.{NamesFault}
 use Rattle.cert_check.specs.Headed.{NamesFaultBy}
@@ -13,7 +13,7 @@ use Rattle.cert_check.proofs.HeadedLemmas.{names_by}
 use Rattle.cert_check.proofs.headed.check_known.Goals.{in-Ok, in-Err}
 use Rattle.cert_check.proofs.headed.check_known.Goals as goal
 
-abbrev refused : Refusal → Result (Unit {0}) Refusal
+abbrev refused : HeadRefusal → Result (Unit {0}) HeadRefusal
 refused e = Err e
 
 pub returns-clause-passes : goal.returns-clause-passes
@@ -21,7 +21,8 @@ returns-clause-passes c =
     let p = c.args.site.now in
     let P = LeafPassesBy (facts_of c.args.known.now.facts) false p (cost_over c.args.claimed) in
     let ns = node_of c.args.known.now.node ∷ [] in
-    let passes = λ (a : Result (Unit {0}) Refusal). OnOk a (Pass (shape_of p) P ns c.args.tree.now)
+    let passes = λ (a : Result (Unit {0}) HeadRefusal).
+            OnOk a (Pass (shape_of p) P ns c.args.tree.now)
     in
     elim c.match-walk.branch [
       | in-Ok w ↦ subst passes (sym w.result-is)
@@ -36,7 +37,7 @@ returns-clause-fault c =
     let P = LeafPassesBy f false p (cost_over c.args.claimed) in
     let F = LeafFailsBy f false p (cost_over c.args.claimed) in
     let ns = node_of c.args.known.now.node ∷ [] in
-    let names = λ (a : Result (Unit {0}) Refusal). IfErr a
+    let names = λ (a : Result (Unit {0}) HeadRefusal). IfErr a
     (NamesFaultBy (shape_of p) P F ns c.args.tree.now) in
     elim c.match-walk.branch [
       | in-Ok w ↦ subst names (sym w.result-is) tt

@@ -4,8 +4,8 @@ use Rattle.tree_rules.specs.Accepted.{first_node}
 use Rattle.branch_tree.specs.View.{claim_of}
 use Rattle.charges.specs.Known.{facts_of}
 use Rattle.cert_check.specs.Shown.{cost_over}
-use Rattle.head_rules.specs.Head.{HeadLine, known_first, after_lines, LinesPass}
-use Rattle.head_rules.specs.Faults.{IsFirstToFail}
+use Rattle.tree_rules.specs.Head.{HeadLine, known_first, after_lines, LinesPass}
+use Rattle.tree_rules.specs.HeadFaults.{IsFirstToFail}
 use Rattle.cert_check.specs.View.{known_of}
 use Rattle.cert_check.proofs.HeadedLemmas.{line_refuses, walk_accepts, walk_refuses}
 use Rattle.cert_check.proofs.headed.check_lines.Goals as goal

@@ -5,12 +5,12 @@ use Rattle.pgraph.specs.View.{node_of}
 use Rattle.tree_rules.specs.declared.why.Why.{Why}
 use Rattle.tree_rules.specs.Claim as claims
 use Rattle.tree_rules.specs.Tree.{leaf}
-use Rattle.charge_rules.specs.Leaf.{Handed}
+use Rattle.flow_rules.specs.ChargeLeaf.{Handed}
 use Rattle.tree_rules.specs.Leaf.{Leaf, dead, clash, refuted, bounded, charged, untried, LeafPasses}
 use Rattle.tree_rules.specs.Leaf.{LeafFails}
 use Rattle.branch_tree.specs.View.{end_of}
 use Rattle.charges.specs.Known.{facts_of}
-use Rattle.head_rules.specs.Headed.{LeafPassesBy, LeafFailsBy}
+use Rattle.tree_rules.specs.Headed.{LeafPassesBy, LeafFailsBy}
 use Rattle.cert_check.specs.Shown.{cost_over}
 use Rattle.cert_check.proofs.LeafLemmas.{passes_at, fails_at}
 use Rattle.cert_check.proofs.leaf.judge_leaf.Goals as goal

@@ -5,7 +5,7 @@ use Rattle.tree_rules.specs.Claim.{CostOver}
 use Rattle.tree_rules.specs.Leaf.{Leaf, untried, LeafPasses, LeafFails}
 use Rattle.branch_tree.specs.View.{end_of}
 use Rattle.charges.specs.Known.{facts_of}
-use Rattle.head_rules.specs.Headed.{LeafPassesBy, LeafFailsBy}
+use Rattle.tree_rules.specs.Headed.{LeafPassesBy, LeafFailsBy}
 use Rattle.cert_check.specs.Shown.{cost_over}
 use Rattle.cert_check.specs.Bare.{as_judged}
 use Rattle.cert_check.specs.Visits.{leaf_passes, leaf_fails}

@@ -2,7 +2,7 @@ use Rattle.std.proofs.Common.{◌<◌, ◌∙◌, arith, sym, subst}
 use Rattle.std.proofs.lemmas.Bool.{both_ways}
 use Rattle.pns_rules.specs.Shape.{Shape, shape_of}
 use Rattle.pgraph.specs.View.{node_of}
-use Rattle.charge_rules.specs.Cover.{IsFree}
+use Rattle.flow_rules.specs.Cover.{IsFree}
 use Rattle.cert_check.specs.Shown.{cost_over}
 use Rattle.cert_check.specs.View.{known_of}
 use Rattle.cert_check.proofs.LineLemmas.{inside_with, inside_out, free_fails, out_passes, out_fails}

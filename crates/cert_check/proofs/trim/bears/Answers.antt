@@ -13,7 +13,7 @@ use Rattle.flow_rules.specs.Net.{net_of, high_end}
 use Rattle.flow_rules.specs.Relaxed.{stays}
 use Rattle.flow_program.proofs.NodeSetLemmas.{listed_had}
 use Rattle.charges.specs.Known.{facts_of}
-use Rattle.head_rules.specs.Trim.{makers_most}
+use Rattle.tree_rules.specs.Trim.{makers_most}
 use Rattle.cert_check.proofs.TrimLemmas.{made_bears, none_bears, used_bears}
 use Rattle.cert_check.proofs.trim.bears.Goals as goal
 

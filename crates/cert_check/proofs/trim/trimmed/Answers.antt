@@ -9,8 +9,8 @@ use Rattle.pgraph.specs.View.{node_of}
 use Rattle.cert_check.specs.Known.{KnowsInside}
 use Rattle.flow_rules.specs.Net.{net_of}
 use Rattle.charges.specs.Known.{facts_of}
-use Rattle.head_rules.specs.Trim.{MayTrim, enough_of, outputs}
-use Rattle.head_rules.proofs.SumLemmas.{greatest_first}
+use Rattle.tree_rules.specs.Trim.{MayTrim, enough_of, outputs}
+use Rattle.tree_rules.proofs.SumLemmas.{greatest_first}
 use Rattle.cert_check.proofs.TrimLemmas.{none_may}
 use Rattle.cert_check.proofs.trim.trimmed.Goals as goal
 

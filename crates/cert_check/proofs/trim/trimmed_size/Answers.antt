@@ -7,7 +7,7 @@ use Rattle.pns_rules.specs.Shape.{Shape}
 use Rattle.pgraph.specs.View.{node_of}
 use Rattle.flow_rules.specs.Net.{net_of}
 use Rattle.charges.specs.Known.{facts_of}
-use Rattle.head_rules.specs.Trim.{enough_of}
+use Rattle.tree_rules.specs.Trim.{enough_of}
 use Rattle.cert_check.proofs.TrimLemmas.{below, below_none, one_more}
 use Rattle.cert_check.proofs.trim.trimmed_size.Goals as goal
 

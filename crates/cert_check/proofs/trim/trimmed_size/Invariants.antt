@@ -3,7 +3,7 @@ use Rattle.std.specs.Prelude.{int_lt}
 use Rattle.pgraph.specs.View.{node_of}
 use Rattle.flow_rules.specs.Net.{net_of}
 use Rattle.charges.specs.Known.{facts_of}
-use Rattle.head_rules.specs.Trim.{enough_of}
+use Rattle.tree_rules.specs.Trim.{enough_of}
 use Rattle.cert_check.proofs.TrimLemmas.{below}
 use Rattle.cert_check.proofs.trim.trimmed_size.Given as goal
 

@@ -4,7 +4,7 @@ use Rattle.std.proofs.lemmas.Int.{to_z-of_z}
 use Rattle.problem_rules.specs.Problem.{Problem}
 use Rattle.pgraph.specs.View.{node_of}
 use Rattle.flow_rules.specs.Net.{net_of, low_end}
-use Rattle.charge_rules.specs.Charge.{at_most, users_most}
+use Rattle.flow_rules.specs.Charge.{at_most, users_most}
 use Rattle.charges.specs.Known.{facts_of}
 use Rattle.cert_check.proofs.trim.useful_there.Goals as goal
 

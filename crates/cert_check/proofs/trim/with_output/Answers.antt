@@ -8,7 +8,7 @@ use Rattle.std.proofs.lemmas.Int.{to_z-of_z}
 use Rattle.pgraph.specs.View.{node_of}
 use Rattle.flow_rules.specs.Net.{net_of}
 use Rattle.charges.specs.Known.{facts_of}
-use Rattle.head_rules.specs.Trim.{enough_of}
+use Rattle.tree_rules.specs.Trim.{enough_of}
 use Rattle.cert_check.proofs.TrimLemmas.{lt_true, lt_false}
 use Rattle.cert_check.proofs.trim.with_output.Goals as goal
 

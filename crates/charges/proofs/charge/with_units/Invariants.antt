@@ -3,7 +3,7 @@ use Rattle.number_sets.specs.Sets.{has, IsSet, IsWithin}
 use Rattle.pgraph.specs.View.{node_of}
 use Rattle.flow_rules.specs.Net.{net_of}
 use Rattle.flow_program.specs.Entry.{entry}
-use Rattle.charge_rules.specs.Cover.{Cover}
+use Rattle.flow_rules.specs.Cover.{Cover}
 use Rattle.charges.specs.Known.{facts_of}
 use Rattle.charges.specs.Ground.{ArePaid}
 use Rattle.charges.proofs.GroundLemmas.{IsChargeSum}

@@ -4,7 +4,7 @@ use Rattle.std.specs.Int.{w128}
 use Rattle.std.proofs.lemmas.Int.{to_z-of_z}
 use Rattle.flow_rules.proofs.LeadingLemmas.{IsFirstPast-left}
 use Rattle.flow_program.specs.Entry.{entry}
-use Rattle.charge_rules.specs.ChargeSteps.{beside_steps}
+use Rattle.flow_rules.specs.ChargeSteps.{beside_steps}
 use Rattle.pgraph.specs.CoversView.{cover_of}
 use Rattle.charges.proofs.PaidLemmas.{beside_past, beside_fit, beside_value}
 use Rattle.charges.proofs.paid.with_cover.Goals as goal

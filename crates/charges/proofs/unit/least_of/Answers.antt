@@ -4,8 +4,8 @@ use Rattle.std.proofs.lemmas.Int.{to_z-of_z}
 use Rattle.charges.specs.Bends.{as_owed, knees_in}
 use Rattle.charges.proofs.UnitLemmas.{sizes_past, sizes_fit, sizes_count, sizes_value}
 use Rattle.flow_rules.proofs.LeadingLemmas.{IsFirstPast-left}
-use Rattle.charge_rules.specs.Charge.{bent}
-use Rattle.charge_rules.specs.ChargeSteps.{knee_steps, size_steps}
+use Rattle.flow_rules.specs.Charge.{bent}
+use Rattle.flow_rules.specs.ChargeSteps.{knee_steps, size_steps}
 use Rattle.charges.proofs.unit.least_of.Goals as goal
 
 pub returns-in-Err-clause-past : goal.returns-in-Err-clause-past

@@ -5,7 +5,7 @@ use Rattle.number_sets.specs.Sets.{IsSet}
 use Rattle.flow_rules.specs.Net.{net_of}
 use Rattle.flow_program.proofs.SizeLemmas.{fits_small, size_add}
 use Rattle.flow_program.proofs.WalkLemmas.{next_of, IsNext, has_next}
-use Rattle.charge_rules.specs.Facts.{use_rate}
+use Rattle.flow_rules.specs.ChargeFacts.{use_rate}
 use Rattle.charges.specs.Known.{facts_of}
 use Rattle.charges.proofs.UseLemmas.{use_begins, use_small, use_more, use_ends}
 use Rattle.charges.proofs.useful.set_most.Goals as goal

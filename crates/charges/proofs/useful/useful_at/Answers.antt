@@ -12,7 +12,7 @@ use Rattle.flow_rules.specs.Net.{net_of}
 use Rattle.flow_rules.specs.Relaxed.{stays}
 use Rattle.flow_program.proofs.NodeSetLemmas.{listed_had}
 use Rattle.flow_program.proofs.WalkLemmas.{next_of, has_next}
-use Rattle.charge_rules.specs.Charge.{useful}
+use Rattle.flow_rules.specs.Charge.{useful}
 use Rattle.charges.specs.Known.{facts_of}
 use Rattle.charges.proofs.OwnLemmas.{same_all}
 use Rattle.charges.proofs.UseLemmas.{table_begins, table_more, table_ends, first_of}

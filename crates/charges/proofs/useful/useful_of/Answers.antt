@@ -7,7 +7,7 @@ use Rattle.pgraph.specs.View.{node_of}
 use Rattle.flow_rules.specs.Net.{net_of}
 use Rattle.flow_rules.specs.Relaxed.{row_low}
 use Rattle.flow_program.specs.NodeSets.{AreNeeded}
-use Rattle.charge_rules.specs.Charge.{at_most, users_most}
+use Rattle.flow_rules.specs.Charge.{at_most, users_most}
 use Rattle.charges.specs.Known.{facts_of}
 use Rattle.charges.proofs.useful.useful_of.Goals as goal
 

@@ -1,5 +1,5 @@
 use Rattle.std.proofs.Common.{List, sym, subst}
-use Rattle.charge_rules.specs.Cover as rules
+use Rattle.flow_rules.specs.Cover as rules
 use Rattle.pgraph.specs.View.{node_of}
 use Rattle.pgraph.specs.declared.cover.Cover.{Cover}
 use Rattle.pgraph.specs.CoversView.{covers_of}

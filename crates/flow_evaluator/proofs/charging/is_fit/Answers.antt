@@ -5,7 +5,7 @@ use Rattle.integer_laws.specs.Range.{InRange}
 use Rattle.pns_rules.specs.Shape.{Shape}
 use Rattle.pgraph.specs.Tables.{shape}
 use Rattle.pgraph.specs.View.{node_of}
-use Rattle.charge_rules.specs.Cover.{IsCover, Covers}
+use Rattle.flow_rules.specs.Cover.{IsCover, Covers}
 use Rattle.pgraph.specs.CoversView.{cover_of}
 use Rattle.flow_evaluator.proofs.ChargingLemmas.{small_beside, fit_is}
 use Rattle.flow_evaluator.proofs.charging.is_fit.Goals as goal

@@ -6,9 +6,9 @@ use Rattle.pgraph.specs.View.{node_of}
 use Rattle.flow_rules.specs.Net.{net_of, beside}
 use Rattle.flow_rules.specs.Relaxed.{rows}
 use Rattle.flow_rules.specs.Steps.{AreInRange}
-use Rattle.charge_rules.specs.Facts.{Facts, own_facts}
-use Rattle.charge_rules.specs.Charge.{charge}
-use Rattle.charge_rules.specs.ChargeSteps.{charge_steps}
+use Rattle.flow_rules.specs.ChargeFacts.{Facts, own_facts}
+use Rattle.flow_rules.specs.Charge.{charge}
+use Rattle.flow_rules.specs.ChargeSteps.{charge_steps}
 use Rattle.charges.specs.Known.{facts_of}
 use Rattle.pgraph.specs.CoversView.{covers_of}
 use Rattle.flow_evaluator.proofs.ChargingLemmas.{small_all}

@@ -2,7 +2,7 @@ use Rattle.std.proofs.Common.{ℕ, List, drop, sym, subst, add-one}
 use Rattle.problem_rules.specs.Each.{Each}
 use Rattle.tree_rules.specs.Known.{KnowsCover}
 use Rattle.pgraph.specs.CoversView.{cover_of, covers_of}
-use Rattle.charge_rules.specs.Cover.{Cover}
+use Rattle.flow_rules.specs.Cover.{Cover}
 use Rattle.cert_check.proofs.NodeLemmas.{step_ahead, none_ahead}
 use Rattle.headed_search.proofs.numbers.knows_covers.Goals as goal
 

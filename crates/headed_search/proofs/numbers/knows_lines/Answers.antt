@@ -1,8 +1,8 @@
 use Rattle.std.proofs.Common.{ℕ, List, drop, sym, subst, add-one}
 use Rattle.problem_rules.specs.Each.{Each}
-use Rattle.head_rules.specs.Known.{KnowsLine}
+use Rattle.tree_rules.specs.HeadKnown.{KnowsLine}
 use Rattle.branch_tree.specs.HeadView.{line_of, lines_of}
-use Rattle.head_rules.specs.Head.{HeadLine}
+use Rattle.tree_rules.specs.Head.{HeadLine}
 use Rattle.cert_check.proofs.NodeLemmas.{step_ahead, none_ahead}
 use Rattle.headed_search.proofs.numbers.knows_lines.Goals as goal
 

@@ -1,6 +1,6 @@
 use Rattle.std.proofs.Common.{drop}
 use Rattle.problem_rules.specs.Each.{Each}
-use Rattle.head_rules.specs.Known.{KnowsLine}
+use Rattle.tree_rules.specs.HeadKnown.{KnowsLine}
 use Rattle.branch_tree.specs.HeadView.{lines_of}
 use Rattle.headed_search.proofs.numbers.knows_lines.Given as goal
 

@@ -2,7 +2,7 @@ use Rattle.std.proofs.Common.{◌++◌, ◌∷◌, ◌∙◌, [], false, refl, a
 use Rattle.branch_tree.specs.View.{claim_of}
 use Rattle.tree_reading.specs.Said.{said_by}
 use Rattle.tree_rules.specs.Claim.{ClaimPasses, ClaimFails}
-use Rattle.head_rules.specs.Headed.{head_node, HeadPasses, LineIsFault, NodeIsFaultBy}
+use Rattle.tree_rules.specs.Headed.{head_node, HeadPasses, LineIsFault, NodeIsFaultBy}
 use Rattle.studio_rules.specs.Lines.{line}
 use Rattle.studio_rules.specs.RefusalWords.{claim_line, head_line, node_line}
 use Rattle.studio_rules.specs.Check.{CheckWork}

@@ -3,8 +3,8 @@ use Rattle.std.proofs.Common.{rules}
 use Rattle.std.proofs.Common.{arith}
 use Rattle.std.proofs.lemmas.Result.{err_from_is_err_and}
 use Rattle.problem_rules.specs.Each.{Each}
-use Rattle.head_rules.specs.Head as heads
-use Rattle.head_rules.specs.Known.{KnowsLine}
+use Rattle.tree_rules.specs.Head as heads
+use Rattle.tree_rules.specs.HeadKnown.{KnowsLine}
 use Rattle.branch_tree.specs.HeadView.{line_of, lines_of}
 use Rattle.branch_tree.specs.declared.line.HeadLine.{HeadLine}
 use Rattle.tree_text_rules.specs.Read.{front_taken}

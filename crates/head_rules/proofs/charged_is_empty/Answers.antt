@@ -1,5 +1,0 @@
-use Rattle.head_rules.proofs.ChargedLemmas.{charged_is_empty}
-use Rattle.head_rules.proofs.charged_is_empty.Goals as goal
-
-pub returns : goal.returns
-returns c = charged_is_empty
