@@ -1,57 +1,48 @@
-//! Unproved proposals: guesses at the basis of a node's least flows.
+//! Unproved proposals for a node: a basis with its sizes and multipliers, and a charge with covers.
 //!
-//! A guess is made by the dual simplex method with two-sided ranges, over rows of 61-bit numbers
-//! that are rounded when they grow. It is safe, it ends, and it takes no memory once it is opened;
-//! nothing else is promised. `scaled_flows`, or the bounds and sums of `flow_program`, judge every
-//! answer. So no result depends on a guess.
+//! Each proposal is safe, and each call ends; nothing else is promised. Exact code judges every
+//! answer: `charges` those for a charge, `scaled_flows` or the bounds and sums of `flow_program`
+//! the others. So no result depends on a proposal. A [`Guess`], a [`ShortSizes`] and a [`Solver`]
+//! take no memory once they are opened.
 //!
-//! [`Numbers`] has a problem in scaled numbers, made once: rates, sizes, balances and costs over
-//! divisors. [`Guess`] is a tableau that is kept from node to node. Its variables are sizes and
-//! balances. Every end is finite, so each basis is dual feasible once each variable outside it is
-//! at the end that its reduced cost needs. So the basis of the last node is a start for the next
-//! one.
+//! A [`Guess`] is made by the dual simplex method with two-sided ranges, over rows of 61-bit
+//! numbers that are rounded when they grow. [`Numbers`] has a problem in scaled numbers, made once:
+//! rates, sizes, balances and costs over divisors. The tableau is kept from node to node. Its
+//! variables are sizes and balances. Every end is finite, so each basis is dual feasible once each
+//! variable outside it is at the end that its reduced cost needs. So the basis of the last node is
+//! a start for the next one.
 //!
 //! A least basis has sizes with long numbers. [`Guess::look_inside`] looks for one whose rows keep
 //! a little off the ends of their ranges, and [`ShortSizes`] rounds its sizes: flows in short
 //! numbers that cost a little more than the least.
 //!
-//! Modules: `numbers` (what a problem and a node need), `ranges` (the ends, shortened), `rounding`
-//! (wide products and what is kept of them), `line` (the numbers of a row), `row` and `cost_row`,
-//! `choice` (which variable leaves the basis and which enters it), `guess` (the tableau),
-//! `short_sizes` (sizes that are rounded).
-//!
-//! Unproved proposals: multipliers and covers for the charge of a node.
-//!
-//! A proposal is found by the dual simplex method with two-sided ranges, in floating point, over a
-//! linear program: sizes of units, and for each free unit that owes a fixed cost whether it is
-//! built beyond the share of its capacity that it uses. Sets of units of which each structure has
-//! one become rows as soon as they are broken, and so do limits on what can be used of a material.
-//! It is safe, and it ends; nothing else is promised.
-//! `charges` judges every proposal exactly, so no result depends on one.
-//!
-//! The units of a cheap network are guessed too, by slopes that follow the sizes and by exchanges.
-//!
-//! Modules: `tableau` (rows, columns and turns), `program` (the program of a node), `breach` (sets
-//! that are broken), `knees` (what can be used of a material), `propose` (whole numbers for a
-//! proposal), `cheap` (a cheap network), `ready` (how large a unit is and how much is
-//! used of a material at most).
-//!
-//! Unproved proposals: sizes and multipliers of a basis that was guessed.
-//!
-//! A basis is solved in whole scaled numbers: its sizes are over one denominator, and its
+//! A [`Solver`] solves a basis in whole scaled numbers: its sizes are over one denominator, and its
 //! multipliers over one scale. Each material whose balance is at an end gives an equation in the
 //! basic sizes. Each basic unit gives one in the multipliers of these materials. Both systems are
 //! square. They are eliminated in whole numbers, an equation with the fewest unknowns first, so
-//! that chains are peeled off and only recycles cost more.
+//! that chains are peeled off and only recycles cost more. If a number leaves 128 bits, or the
+//! basis is none, the solver gives up.
 //!
-//! It is safe, it ends, and it takes no memory once [`Solver::open`] has made room; nothing else is
-//! promised. If a number leaves 128 bits, or the basis is none, the solver gives up.
-//! `scaled_flows`, or the bounds and sums of `flow_program`, judge every answer. So no result
-//! depends on it.
+//! A [`ChargeGuess`] finds multipliers and covers for a charge by the dual simplex method with
+//! two-sided ranges, in floating point, over a linear program: sizes of units, and for each free
+//! unit that owes a fixed cost whether it is built beyond the share of its capacity that it uses.
+//! Sets of units of which each structure has one become rows as soon as they are broken, and so do
+//! limits on what can be used of a material. The units of a cheap network are guessed too, by
+//! slopes that follow the sizes and by exchanges.
 //!
-//! Modules: `equation` (one equation in whole numbers), `system` (a square system and its
-//! elimination), `numbering` (the unknowns' places), `fractions` (values over one denominator),
-//! `solver` (the two systems of a basis).
+//! Modules of the guess of a basis: `numbers` (what a problem and a node need), `ranges` (the ends,
+//! shortened), `rounding` (wide products and what is kept of them), `line` (the numbers of a row),
+//! `row` and `cost_row`, `choice` (which variable leaves the basis and which enters it), `guess`
+//! (the tableau), `short_sizes` (sizes that are rounded).
+//!
+//! Modules of its solution: `equation` (one equation in whole numbers), `system` (a square system
+//! and its elimination), `numbering` (the unknowns' places), `fractions` (values over one
+//! denominator), `solver` (the two systems of a basis).
+//!
+//! Modules of a charge: `tableau` (rows, columns and turns), `program` (the program of a node),
+//! `breach` (sets that are broken), `knees` (what can be used of a material), `propose` (whole
+//! numbers for a proposal), `cheap` (a cheap network), `ready` (how large a unit is and how much is
+//! used of a material at most).
 #![tactic(auto)]
 
 mod breach;

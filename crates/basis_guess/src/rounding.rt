@@ -1,11 +1,12 @@
 //! Products of 64-bit numbers, and what is kept of them.
 //!
 //! No product of two 64-bit numbers can wrap: it is formed in 128 bits. All other sums, products
-//! and shifts of this crate are `wrapping_`, `saturating_` or `checked_` ones, and have room, with
-//! two exceptions. Amounts are at most 10^15 and the payout period is at most 100 years; a row has
-//! at most 128 numbers, of 61 bits, and ends have at most 58. The exceptions may lose leading bits:
-//! a size times a long factor (`Row::nearest_times`), and a cost row that takes a change by a long
-//! row (`CostRow::add_row`). Then the guess is a worse one, and no answer is wrong.
+//! and shifts for the guess of a basis are `wrapping_`, `saturating_` or `checked_` ones, and have
+//! room, with two exceptions. Amounts are at most 10^15 and the payout period is at most 100 years;
+//! a row has at most 128 numbers, of 61 bits, and ends have at most 58. The exceptions may lose
+//! leading bits: a size times a long factor (`Row::nearest_times`), and a cost row that takes a
+//! change by a long row (`CostRow::add_row`). Then the guess is a worse one, and no answer is
+//! wrong.
 
 /// A row's numbers have at most so many bits.
 pub(crate) const WIDEST: u32 = 61;

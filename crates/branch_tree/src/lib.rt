@@ -1,19 +1,17 @@
-//! Branch trees, claims and tails as values.
+//! Branch trees, their heads, claims and tails as values.
 //!
-//! A [`Tree`] is a list of nodes in preorder and, by its type, one whole tree. A [`Network`] has,
-//! by its type, one size for each unit. A [`Tail`] says at which node a search stopped. Contracts
-//! see them in the words of `tree_rules`: a tree as its list of nodes, a network as its record, and
-//! ends, claims and tails through `View`. Only [`Scaled::of`] takes memory. What is built is read
-//! by reference, or given back in its parts.
+//! A [`Tree`] is a list of nodes in preorder and, by its type, one whole tree. A [`Head`] is the
+//! lines that come before the first node: steps, sizes that a unit may have at most, units that are
+//! left out, and amounts of a material that are used at most. A [`Network`] has, by its type, one
+//! size for each unit. A [`Tail`] says at which node a search stopped.
+//!
+//! Contracts see them in the words of `tree_rules` and `head_rules`: a tree as its list of nodes, a
+//! network as its record, ends, claims and tails through `View`, and each [`HeadLine`] through
+//! `HeadView`. Only [`Scaled::of`] takes memory. What is built is read by reference, or given back
+//! in its parts.
 //!
 //! Modules: `multipliers`, `scaled`, `steps` and `columns` are lists with a model; `network`,
-//! `claim`, `end`, `node`, `tree` and `tail` have a type each.
-//!
-//! The head of a branch tree as a value.
-//!
-//! A [`Head`] is the lines that come before the first node: steps, sizes that a unit may have at
-//! most, units that are left out, and amounts of a material that are used at most. Contracts see it
-//! in the words of `head_rules`, each [`HeadLine`] through `View`. Nothing here takes memory.
+//! `claim`, `end`, `node`, `tree`, `head`, `line` (of a head) and `tail` have a type each.
 #![tactic(auto)]
 
 mod claim;

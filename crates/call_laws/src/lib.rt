@@ -1,24 +1,25 @@
-//! Laws over what two or three calls of the program print, one after another. What one prints is a
-//! file of the next.
+//! Laws over what several calls of the program print; searches that are sure to finish.
 //!
-//! The laws use the definitions of `studio_rules`, in the words of what each call says. The main
-//! ones are also over calls of `studio` with their shelves and sinks. `specs/` states them. Each is
-//! the contract of a function that does nothing: a proof that calls it may use the law after the
-//! call.
+//! What one call prints is a file of the next. The laws use the definitions of `studio_rules`, in
+//! the words of what each call says. The main ones are also over calls of `studio` with their
+//! shelves and sinks. `specs/` states them. Each is the contract of a function that does nothing: a
+//! proof that calls it may use the law after the call.
 //!
-//! Searches of plants without demands that are sure to finish.
+//! A search is sure to finish if the plant has no demands: nothing has to be made and no size
+//! earns. At each node of such a plant the simplex method has least flows before its first pivot,
+//! with all sizes 0, and none of its numbers overflows. `specs/NoDemands` says which plants these
+//! are, and `specs/Laws` what is true of them. `specs/Calls` says how a call ends that searches
+//! one.
 //!
-//! In such a plant nothing has to be made and no size earns. At each node of it the simplex method
-//! has least flows before its first pivot, with all sizes 0, and none of its numbers overflows.
+//! `specs/OneUnit` is a worked plant, and [`solve_one_unit`] a worked call, `solve` of this plant
+//! in memory. Its contract says that it ends with status 0, unless a read, an output or memory
+//! fails.
 //!
-//! `specs/NoDemands` says which plants these are, and `specs/Laws` what is true of them.
-//! `specs/Calls` says how a call ends that searches one. `specs/OneUnit` is a worked plant. Each
-//! law is the contract of a function without a body, which a proof elsewhere calls to have it.
-//!
-//! A worked call that is sure to finish. It is `solve` of a plant of one unit in memory. Its
-//! contract says that it ends with status 0, unless a read, an output or memory fails.
-//!
-//! Modules: `one_unit`, the shelf and the words; `call`, the call.
+//! Modules of laws over several calls: `costs` (claims of two proofs), `optimum` (`list`, `flows`,
+//! `solve` and `rank`), `edits` (`edit` and `undo`), `leaves`, `parts` and `orders` (searches in
+//! parts), `period_costs` (`periods`), `ranges` (`stable`), `texts` (canonical texts), and `calls`,
+//! for calls of `studio` on `periods` and `stable`. Modules of plants without demands: `laws`;
+//! `one_unit`, the shelf and the words; `call`, the worked call.
 #![tactic(auto)]
 
 mod call;

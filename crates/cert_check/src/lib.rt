@@ -1,47 +1,43 @@
 //! A tree is accepted exactly if it proves its claim, else its first fault comes.
 //!
-//! [`check_tree`] judges a claim and its tree. If it accepts, no clash-free solution structure
-//! undercuts the claim. Else its refusal names the claim, or the first node in preorder, that
-//! fails, and there the first cause of the table of causes. [`check_claim`] judges a claim alone,
-//! [`check_from`] also partial trees from any start. [`check_nodes`] judges the nodes alone, for
-//! callers that judge open leaves by further rules. The last two give the open leaves.
-//! [`check_headed`] judges a claim and a tree with a head. The checker
-//! trusts nobody: it shares with the search only the sets, the graph and the sums of flows, which
-//! have proofs of their own.
+//! [`check_tree`] judges a claim and its tree, and [`check_headed`] a claim and a tree with a head.
+//! If they accept, no clash-free solution structure undercuts the claim. Else the refusal names the
+//! claim, the line of the head, or the first node in preorder, that fails, and there the first
+//! cause of the table of causes. [`check_claim`] judges a claim alone, [`check_from`] also partial
+//! trees from any start. [`check_nodes`] judges the nodes alone, for callers that judge open leaves
+//! by further rules. The last two give the open leaves. The checker trusts nobody: it shares with
+//! the search only the sets, the graph and the sums of flows, which have proofs of their own.
 //!
-//! A walk keeps a list of the nodes that are left, and has no recursion. So a tree of any depth
-//! costs its steps, one judgement for each leaf, and a few numbers for each node.
-//!
-//! Modules: `claim` judges claims, `leaf` leaves; `subtrees` finds the ends of subtrees, `children`
-//! puts children on the stack; `visit` is one node, `walk` all, `open_leaf` what is still open;
-//! `check` and `headed` are the calls.
-//!
-//! The parts of a certificate, judged one by one, over problems and graphs alone.
-//!
-//! The parts are a network, a step at a node and the node that it leaves, the options of a branch,
-//! and each leaf. No judgement depends on how a tree is found. Each is exact. What passes is what
-//! the definitions of `tree_rules` let pass, and a refusal is the first line of their table that
-//! fails, with its cause. No call needs numbers that the problem has: whatever uses another number
-//! fails. No call takes memory.
-//!
-//! Modules: `sets` and `materials` are tests of sets and what a node needs; `steps` which steps are
-//! possible; `nodes` the nodes that steps and options leave, `options` whether given sets are all
-//! options of a material: they can be as many as 2^128, so their list is walked and never made;
-//! `either` branches in two at one unit; `network` and `leaves` judge claims and leaves, and
-//! `charge` what charges a node, with facts that are known of sizes.
-//!
-//! The head of a tree is judged line by line: what is known after it, or the first line that fails.
+//! The parts of a claim and its tree are judged one by one, over problems and graphs alone: a
+//! network, a step at a node and the node that it leaves, the options of a branch, and each leaf.
+//! No judgement depends on how a tree is found. Each is exact: what passes is what the definitions
+//! of `tree_rules` let pass, and a refusal is the first line of their table that fails, with its
+//! cause. No judgement needs numbers that the problem has: whatever uses another number fails.
 //!
 //! [`judge_head`] judges the lines of a head in order, from the node at which nothing is decided.
 //! It gives what is [`Known`] after them: a node, and facts of sizes and uses. If a line fails, it
 //! gives the first that does, counted from 0, and why. [`judge_line`] judges one line by what is
-//! known at its place, also for those who look for lines. No judgement depends on how the line was
-//! found: a charge is formed anew, a step is judged as in a tree, and what can be of use of a unit
-//! is computed. Each is exact, by the definitions of `head_rules`. No call takes memory.
+//! known at its place, also for those who look for lines. A charge is formed anew, a step is judged
+//! as in a tree, and what can be of use of a unit is computed. Each is exact, by the definitions of
+//! `head_rules`.
 //!
-//! Modules: `known`; `charged` forms the charge of a line, `sizes` tests the size of a cap, `uses`
-//! the amount of a use, `trim` computes what can be of use; `line` judges one line, and `head` all
-//! of them.
+//! No call that judges one part or a head takes memory. A walk over a tree keeps a list of the
+//! nodes that are left, and has no recursion. So a tree of any depth costs its steps, one judgement
+//! for each leaf, and a few numbers for each node.
+//!
+//! Modules of trees: `claim` judges claims, `leaf` leaves; `subtrees` finds the ends of subtrees,
+//! `children` puts children on the stack; `visit` is one node, `walk` all, `open_leaf` what is
+//! still open; `check` and `headed` are the calls.
+//!
+//! Modules of parts: `sets` and `materials` are tests of sets and what a node needs; `steps` which
+//! steps are possible; `nodes` the nodes that steps and options leave, `options` whether given sets
+//! are all options of a material: they can be as many as 2^128, so their list is walked and never
+//! made; `either` branches in two at one unit; `network` and `leaves` judge claims and leaves, and
+//! `charge` what charges a node, with facts that are known of sizes.
+//!
+//! Modules of heads: `known`; `charged` forms the charge of a line, `sizes` tests the size of a
+//! cap, `uses` the amount of a use, `trim` computes what can be of use; `line` judges one line, and
+//! `head` all of them.
 #![tactic(auto)]
 
 mod charge;

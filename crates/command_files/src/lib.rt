@@ -1,16 +1,12 @@
-//! The files of a call, read and judged.
+//! The files of a call, read and judged, and the text and status with which a command ends.
 //!
 //! [`problem_of`], [`plant_of`], [`edited_of`], [`plan_of`], [`tree_of`] and [`headed_of`] give
 //! what the named file stands for. If it gives nothing, they put the text that says why and give
 //! the status of the call. `Reading`, `Script`, `Plan`, `TreeFile` and `HeadedFile` of
 //! `studio_rules` say which text that is, and what a command on such files says.
 //!
-//! Modules: `file`, the bytes of a file; `problem_file`, `script_file`, `plan_file` and
-//! `tree_file`.
-//!
-//! How a command ends: with a status, and a text that is put line by line.
-//!
-//! `Ending` of `studio_rules` says which text may be written with a status, and on which output:
+//! A command ends with a status, and a text that is put line by line. `Ending` of `studio_rules`
+//! says which text may be written with a status, and on which output:
 //!
 //! - an answer on standard output;
 //! - the line that says why there is none, on standard error;
@@ -19,14 +15,14 @@
 //!
 //! The contract of each call that puts lines is in these words.
 //!
-//! Modules: `status`, the numbers of the statuses; `line`, lines of names; `outputs`, bytes on one
-//! of the outputs; `say`, how lines are put.
+//! The words of causes say why a claim, a line at the head of a tree, or a node is refused. They
+//! are exact: `RefusalWords` of `studio_rules` has the word of each cause, and the lines of what is
+//! refused. [`say_node`] and [`tell_node`] put the line of a node, [`say_head`] that of a line of a
+//! head.
 //!
-//! The words of causes and refused nodes are exact.
-//!
-//! They say why a claim, a line at the head of a tree, or a node is refused. `RefusalWords` of
-//! `studio_rules` has the word of each cause, and the lines of what is refused. `say_node` and
-//! `tell_node` put the line of a node, `say_head` that of a line of a head.
+//! Modules: `file`, the bytes of a file; `problem_file`, `script_file`, `plan_file` and
+//! `tree_file`; `status`, the numbers of the statuses; `line`, lines of names; `outputs`, bytes on
+//! one of the outputs; `say`, how lines are put; `words`, the words of causes.
 #![tactic(auto)]
 
 mod file;

@@ -1,4 +1,4 @@
-//! What an edit is, when a problem takes it, what it does, how it is undone.
+//! Edits: when a problem takes one, what it does, how it is undone, and the text of scripts.
 //!
 //! The definitions are in `specs/`. `Edit` has the sixteen edits and the scripts that they form,
 //! and `Formed` says when an edit is good whatever the problem. `Place` and `Numbering` have names
@@ -7,13 +7,12 @@
 //! one after another, the first fault among them, and the edits that lead back. `Migration` goes
 //! from yearly costs to investment costs.
 //!
-//! The text of edit scripts: its lines and faults, its script, how one is printed.
-//!
-//! The format is PNS_edits_v1. `specs/` states it: `Line` (lines, tokens, first words), `Fault`
-//! (what is wrong with a token, and which fault of a line is reported), `Term` (the sides of a new
-//! unit) and `Read` (`read_script`: a script, or the first fault with its line). `Printed` has the
-//! text of a script (`script_text`), and `Meaning` the first fault of a script that a problem does
-//! not take. `proofs/` reads and prints small scripts by computation.
+//! The text of a script has the format PNS_edits_v1. `Line` has its lines, tokens and first words,
+//! and `Term` the sides of a new unit. `ScriptFault` says what is wrong with a token, and which
+//! fault of a line is reported. `read_script` of `Read` gives a script, or the first fault of form
+//! with its line. `Printed` has the text of a script (`script_text`), and `Meaning` the first fault
+//! of a script that a problem does not take. `proofs/` reads and prints small scripts by
+//! computation.
 #![tactic(auto)]
 
 /// A kind of fault of an edit script. The variants are in the order of their numbers, 1 to 16.

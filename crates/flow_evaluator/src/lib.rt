@@ -1,4 +1,4 @@
-//! Multipliers prove a node's value, or refute the node; or its path overflows.
+//! Multipliers prove the value of a node or of a structure, or refute it; or its path overflows.
 //!
 //! A [`FlowEvaluator`] evaluates nodes for a search. At a first look a guess gives multipliers,
 //! which prove a cost that no relaxed flows undercut. When the node's worth is asked for, there are
@@ -11,20 +11,17 @@
 //!
 //! A charge of a node, which shuts an open leaf, is proposed in floating point and judged exactly.
 //!
-//! Modules: `evaluator` the evaluator; `told` its answers without a path; `answers` what the last
-//! basis of a path gives; `sums` the sums over what the bench keeps, which may overflow; `at_hand`
-//! a trial structure at a node; `tries` when its flows are tried; `charging` charges.
-//!
-//! A structure's least flows, or a refutation, or what overflows on its path.
-//!
 //! [`flows_of`] gives a [`StructureFlows`] for a solution structure: flows of least cost with
 //! multipliers that prove it, multipliers that refute all flows, or the place at which a number
-//! overflows. [`node_of`] is the node of a set of units.
+//! overflows. `LeastFlows` of `tree_rules` has what least flows are, and `specs/Answers` what
+//! `flows_of` promises. [`node_of`] is the node of a set of units. `specs/Laws` has the contracts
+//! of the functions of `laws`: a proof elsewhere calls one to have its law.
 //!
-//! `LeastFlows` of `tree_rules` has what least flows are, `specs/Answers` what [`flows_of`]
-//! promises. `specs/Laws` has the contracts of the functions of `laws`: a proof elsewhere calls one
-//! to have its law. Further modules: `nodes` the node of a set of units; `least` the call;
-//! `certified` the flows without a path; `answer` the answers.
+//! Modules of the evaluator: `evaluator`; `told` its answers without a path; `answers` what the
+//! last basis of a path gives; `sums` the sums over what the bench keeps, which may overflow;
+//! `at_hand` a trial structure at a node; `tries` when its flows are tried; `charging` charges.
+//! Modules of structures: `nodes` the node of a set of units; `least` the call; `certified` the
+//! flows without a path; `answer` the answers; `laws`.
 #![tactic(auto)]
 
 mod answer;

@@ -1,38 +1,36 @@
-//! No flows in a node's family cost less than its bound; a refuted node has none.
+//! Flows, bounds that none of them undercuts, refutations, and the path of the simplex method.
 //!
-//! This crate defines flows of a set of operating units and their cost, the relaxed flow program of
-//! a node, its bounds and its refutations. Its laws tie them, weak duality above all.
+//! The first definitions are of flows of a set of operating units and their cost, of the relaxed
+//! flow program of a node, its bounds and its refutations. Laws tie them, weak duality above all:
+//! no flows in a node's family cost less than its bound, and a refuted node has none. Each law is
+//! the contract of a function without a body. A proof elsewhere calls the function to use the law.
 //!
-//! In `specs/`: `Net`, a problem as functions of numbers; `Flows`, `Relaxed` and `Program`;
-//! `Steps`, `BoundSteps`, `CostSteps` and `FeasibleSteps`, the numbers that each sum forms on its
-//! way, and which is the first out of range. [`Column`] and [`Place`] name the place of a number of
-//! a simplex method. Each law is the contract of a function without a body. A proof elsewhere calls
-//! the function to use the law.
-//!
-//! No flows that fit what is known cost less than the charge.
-//!
+//! The next definitions are of charges: no flows that fit what is known cost less than the charge.
 //! The relaxed bound lets a free unit pay for its size instead of its fixed cost. A charge lets it
 //! owe the whole fixed cost or nothing, so it is stronger. For units to owe at all, a charge takes
 //! `Cover`s: sets of units of which each structure of the node has one. What is made of a material
 //! beyond all that can be used of it is worth nothing (`Knee`). If so much of a material is used,
-//! its use is worth something (`Demand`).
+//! its use is worth something (`Demand`). [`ChargeWhy`] is why a leaf with a charge is refused.
 //!
-//! The definitions are in `specs/`: `Facts` (what is known of sizes and uses), `Cover`, `Charge`,
-//! `ChargeSteps` (which number of the sum is the first out of range), `Leaf` (which leaves of a
-//! tree pass by a charge, and why one is refused, [`ChargeWhy`]) and `Laws`. Each law is the
-//! contract of a function without a body.
-//!
-//! The path of the dual simplex method, and which number overflows at its end.
-//!
-//! A basis fixes its tableau. Each row is the one combination of the equations in lowest terms with
-//! a positive entry at its column and 0 at the other columns of the basis. The path is a list of
+//! The other definitions are of the path on which the dual simplex method solves such a program. A
+//! basis fixes its tableau. Each row is the one combination of the equations in lowest terms with a
+//! positive entry at its column and 0 at the other columns of the basis. The path is a list of
 //! bases, each fixed by the one before. So these definitions need only bases and equations, and
-//! code that changes rows in place is proved to agree with them.
+//! code that changes rows in place is proved to agree with them. [`Column`] and [`Place`] name the
+//! place of a number of a simplex method, and so which number overflows at the end of a path.
 //!
-//! In `specs/`: `LinearProgram`, `Columns`, `Equations`, `Tableau`; `Vectors` with the order
-//! `Lexicographic`; `Pivots` and `Path`; `Start`, the first tableau; `Rank`, a number that rises
-//! along the path; `Multipliers` and `ReadFlows`, what is read off at the end; `Places`, when a
-//! number overflows; `Named` and `PastPlace`, the same by the numbers of the problem.
+//! In `specs/`, of flows: `Net`, a problem as functions of numbers; `Flows`, `Relaxed` and
+//! `Program`; `Steps`, `BoundSteps`, `CostSteps` and `FeasibleSteps`, the numbers that each sum
+//! forms on its way, and which is the first out of range; `Laws`.
+//!
+//! In `specs/`, of charges: `ChargeFacts`, what is known of sizes and uses; `Cover`; `Charge`;
+//! `ChargeSteps`, which number of the sum is the first out of range; `ChargeLeaf`, which leaves of
+//! a tree pass by a charge; `ChargeLaws`.
+//!
+//! In `specs/`, of the path: `LinearProgram`, `Columns`, `Equations`, `Tableau`; `Vectors` with the
+//! order `Lexicographic`; `Pivots` and `Path`; `Start`, the first tableau; `Rank`, a number that
+//! rises along the path; `Multipliers` and `ReadFlows`, what is read off at the end; `Places`, when
+//! a number overflows; `Named` and `PastPlace`, the same by the numbers of the problem.
 #![tactic(auto)]
 
 ghost use Rattle.flow_rules.specs.Laws.{RelaxedDuality, FlowsAreRelaxed, RelaxedCostsLess};

@@ -7,30 +7,25 @@
 //! What they prove is judged anew, so nothing depends on the guess. If anything fails, there is no
 //! answer.
 //!
-//! Modules: `room` puts caps up to the sizes of the known network, `inner` searches the copy,
-//! `numbers` judges whether the plant has the numbers of the lines, `headed` is the call.
-//!
-//! Unproved proposals: lines of a head.
-//!
-//! [`guess_head`] goes over the units and materials in a few rounds. If a unit that is taken in is
-//! charged the cost of a network, it is left out. Else the least size is looked for at which it is,
-//! and the unit is not larger than that; so it goes for the use of a material. Multipliers and sets
-//! are those of `charge_guess`, over the plant whose units have the sizes that are known by then.
-//! Each line is judged exactly before it is kept, by `head_check`. The proof says that the guess is
-//! safe and ends; nothing else is promised.
-//!
-//! If the first round hardly raises the cost of the program, there are no lines: then a head would
-//! not make the search shorter.
-//!
-//! Modules: `capped` (the plant with the sizes that are known), `evidence` (multipliers and sets),
-//! `steps` (what follows from units that are left out), `guess` (the rounds).
-//!
-//! A plant with smaller units, and its tree as one of the plant itself.
+//! [`guess_head`] makes unproved proposals of lines, in a few rounds over the units and materials.
+//! If a unit that is taken in is charged the cost of a network, it is left out. Else the least size
+//! is looked for at which it is, and the unit is not larger than that; so it goes for the use of a
+//! material. Multipliers and sets are those of `basis_guess`, over the plant whose units have the
+//! sizes that are known by then. Each line is judged exactly before it is kept, by `cert_check`.
+//! The proof says that the guess is safe and ends; nothing else is promised. If the first round
+//! hardly raises the cost of the program, there are no lines: then a head would not make the search
+//! shorter.
 //!
 //! [`capped`] copies a plant and puts the greatest size of each unit down to what is known of it. A
 //! search of the copy has the better bounds and knows nothing of why they hold. [`recharged`] makes
 //! its tree one whose leaves charge, so that the facts of a head can take the place of the smaller
-//! sizes. What holds of both is said by `capping_laws`.
+//! sizes. What holds of both is said by `tree_laws`.
+//!
+//! Modules: `headed` is the call; `room` puts caps up to the sizes of the known network, `inner`
+//! searches the copy, `numbers` judges whether the plant has the numbers of the lines; `guess` (the
+//! rounds), `capped` (the plant with the sizes that are known), `evidence` (multipliers and sets)
+//! and `steps` (what follows from units that are left out) guess a head; `plant` has the copy of a
+//! plant, and `tree` the tree whose leaves charge.
 #![tactic(auto)]
 
 mod capped;

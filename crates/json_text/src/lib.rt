@@ -1,27 +1,22 @@
-//! The exact facts of a network as one JSON object. They are those of one year.
+//! The exact facts of a network as one JSON object, tables of ranges, and pieces of JSON text.
 //!
-//! `Facts` of `json_rules` has its lines: those of the report, in its order, with the numbers of
-//! `report_amounts`. [`facts_of`] gives their bytes, and [`bare_of`] those of a claim without a
-//! network.
+//! The facts are those of one year. `Facts` of `report_rules` has the lines: those of the report,
+//! in its order, with the numbers of `report_amounts`. [`facts_of`] gives their bytes, and
+//! [`bare_of`] those of a claim without a network.
 //!
-//! Modules: `members`, values under their keys; `head`, `units`, `materials` and `foot`, the parts;
-//! `text`, the whole; `lower`, the lower bound and the gap; `ranking`, the networks of a ranking.
+//! `RangeTable` of `report_rules` has the grammar of the text that `stable FILE TREE` prints, and
+//! `Object` the lines of its JSON object. [`read_table`] gives the rows of such a text, or exactly
+//! its first fault, and [`table_json`] prints rows as JSON.
 //!
-//! Pieces of JSON text: strings, numbers, arrays and objects.
+//! The pieces are strings, numbers, arrays and objects, each a [`Json`]. `Json` and `Value` of
+//! `report_rules` have their bytes. A number is printed twice: in decimal with 17 digits, and
+//! exactly.
 //!
-//! `Json` and `Value` of `json_rules` have their bytes. A number is printed twice: in decimal with
-//! 17 digits, and exactly.
-//!
-//! Modules: `piece`, pieces and what they are made of; `digits`, a fraction rounded to 17 digits;
-//! `value`, its text; `lines`, pieces in lines of their own.
-//!
-//! Reads tables.
-//!
-//! They are tables of ranges. `Table` of `range_rules` has the grammar of the text that
-//! `stable FILE TREE` prints, and `Object` the lines of the JSON object. [`read_table`] gives the
-//! rows of a text, or exactly its first fault, and [`table_json`] prints rows as JSON.
-//!
-//! Modules: `words`, the words of a line; `row`, a line; `read`, the text; `object`, the JSON.
+//! Modules of facts: `members`, values under their keys; `head`, `units`, `materials` and `foot`,
+//! the parts; `text`, the whole; `lower`, the lower bound and the gap; `ranking`, the networks of a
+//! ranking. Modules of tables: `words`, the words of a line; `row`, a line; `read`, the text;
+//! `object`, the JSON. Modules of pieces: `piece`, pieces and what they are made of; `digits`, a
+//! fraction rounded to 17 digits; `value`, its text; `lines`, pieces in lines of their own.
 #![tactic(auto)]
 
 mod digits;

@@ -1,4 +1,4 @@
-//! What a search sees at a node: possible steps and ends that pass.
+//! What a search sees at a node: possible steps, ends that pass, and how to branch.
 //!
 //! [`look`] takes the steps that are possible at a node, and bounds what they leave. The bound is
 //! an [`Evaluator`]'s, and a search uses this trait alone, so that nodes can be bounded in more
@@ -7,19 +7,16 @@
 //! between which it lies, with multipliers; a network; a refutation; or the place at which a number
 //! overflows. An evaluator may also find a charge of the node, which shuts an open leaf.
 //!
-//! Modules: `evaluator` the trait and its answers; `looks` a look at a node; `children` a look at
-//! all children; `options` the options of a choice; `costs` costs compared; `workspace` what a
-//! search works with.
+//! [`choose`] says how an open leaf is branched: at a material, or in two at one unit. To keep the
+//! tree small, it splits a leaf at a unit that owes most of its fixed cost, by the sizes of the
+//! last basis. That rule is only a guide. [`choose`] promises that there is something to decide
+//! there ([`choices_decide`]), and that the children are two or three. It takes no memory.
 //!
-//! How an open leaf is branched: at a material, or in two at one unit.
-//!
-//! [`choose`] keeps the tree small: it splits a leaf at a unit that owes most of its fixed cost, by
-//! the sizes of the last basis. That rule is only a guide. [`choose`] promises that there is
-//! something to decide there ([`choices_decide`]), and that the children are two or three. No call
-//! takes memory.
-//!
-//! Modules: `choice` the rule; `dues` what units and materials owe; `candidates` the unit of the
-//! greatest score; `paths` units in use that lead to no product; `laws`.
+//! Modules of a look: `evaluator` the trait and its answers; `looks` a look at a node; `children` a
+//! look at all children; `options` the options of a choice; `costs` costs compared; `workspace`
+//! what a search works with. Modules of a choice: `choice` the rule; `dues` what units and
+//! materials owe; `candidates` the unit of the greatest score; `paths` units in use that lead to no
+//! product; `laws`.
 #![tactic(auto)]
 
 mod candidates;

@@ -1,6 +1,6 @@
 //! A program has one path, no basis twice; its end gives least flows or a refutation.
 //!
-//! These are laws of bases, tableaux and the path of the dual simplex method of `path_rules`. There
+//! These are laws of bases, tableaux and the path of the dual simplex method of `flow_rules`. There
 //! is no code: each law is the contract of a function without a body, and `specs/` states it. A
 //! proof elsewhere calls the function to use the law.
 //!

@@ -1,20 +1,17 @@
-//! A plant over several periods, expanded into one ordinary problem.
+//! Reads plans for several periods, expands them into one problem, and gives its designs, exactly.
 //!
-//! A plan is a value here. Contracts see plans and periods as the records of `plan_rules`, and say
-//! which problem it is with the definition there. Modules: `plan` (the values), `number` (names and
-//! terms), `materials`, `units`, and `expansion`.
+//! A plan is a value here, a [`Plan`] of [`Period`]s. [`read_plan`] gives the one plan for a
+//! problem that a text stands for, or exactly the text's first fault. [`expand`] gives the one
+//! ordinary problem into which a plant and its plan are expanded. [`fold`] gives the [`Design`]
+//! that a network of this problem stands for: the units that are built, with their capacities, and
+//! how they run in each period.
 //!
-//! A text gives its valid plan, or exactly its first fault.
+//! Contracts see plans, periods and designs as the records of `plan_rules`, and the definitions
+//! there say which plan, problem and design they are.
 //!
-//! `read_plan` gives the one plan for a problem that a text stands for, or the text's first fault.
-//! Modules: `line` (what one line says alone), `reading` (what the lines so far stand for) and
-//! `text` (all of it).
-//!
-//! The design that a network of an expanded problem stands for.
-//!
-//! It has the units that are built, with their capacities, and how they run in each period.
-//! Contracts see a design as the record of `design_rules`, and the definition there says which
-//! design it is. Modules: `design` (the values) and `folding`.
+//! Modules: `plan` (plans and periods); `line` (what one line says alone), `reading` (what the
+//! lines so far stand for) and `text` (all of it); `number` (names and terms), `materials`, `units`
+//! and `expansion` (the expanded problem); `design` and `folding`.
 #![tactic(auto)]
 
 mod design;

@@ -1,18 +1,14 @@
-//! The problem of a valid plan is valid, and plans have at most 256 periods.
+//! The problem of a valid plan is valid; its least networks are the least designs.
 //!
-//! These are laws of plans, over their definitions alone: the problem into which a valid plant and
-//! a plan for it are expanded is valid. `specs/Laws` states them. Each is the contract of a
-//! function that does nothing: a call gives the law to the caller's proof.
+//! These are laws of plans and of designs, over the definitions of `plan_rules`. The problem into
+//! which a valid plant and a plan for it are expanded is valid, and plans have at most 256 periods.
+//! The solution structures of an expanded problem are the families of solution structures of the
+//! plant, one for each period, with their union. Its networks are the designs of the plant over its
+//! periods, at the same cost. So a network that no other undercuts is a design that no design
+//! undercuts.
 //!
-//! Least networks of a plan's problem are its least designs.
-//!
-//! These are the laws of designs. The solution structures of an expanded problem are the families
-//! of solution structures of the plant, one for each period, with their union. Its networks are the
-//! designs of the plant over its periods, at the same cost. So a network that no other undercuts is
-//! a design that no design undercuts.
-//!
-//! `specs/Laws` states the laws, over the definitions of `plan_rules` and `design_rules`. Each is
-//! the contract of a function that does nothing; a call gives a proof its law.
+//! `specs/Laws` states the laws of plans, and `specs/DesignLaws` those of designs. Each is the
+//! contract of a function that does nothing; a call gives a proof its law.
 #![tactic(auto)]
 
 ghost use Rattle.plan_laws.specs.Laws.{ExpandedIsValid, PlansAreShort};

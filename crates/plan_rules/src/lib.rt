@@ -1,19 +1,15 @@
-//! Several periods: a plant that is built once and runs in each period at prices and bounds of its
-//! own.
+//! Plans for several periods: their text, the expanded problem, and designs of least cost.
 //!
-//! `specs/` states what a plan is (`Plan`), and its text PNS_plan_v1. `Line` has words and faults,
-//! `Read` the lines of a text, or its first fault, and `Meaning` the plan of those lines.
-//! `Expanded` is the ordinary problem into which a plant and its plan are expanded. `Design`, which
-//! does not mention that problem, says what a design of the plant over its periods is and costs.
+//! A plant is built once and runs in each period at prices and bounds of its own. The definitions
+//! are in `specs/`. `Plan` states what a plan is. Its text has the format PNS_plan_v1: `Line` has
+//! words and faults, `Read` the lines of a text, or its first fault of form, and `Meaning` the plan
+//! of those lines. `Expanded` is the ordinary problem into which a plant and its plan are expanded.
 //! `proofs/` reads small plans and expands a small plant by computation.
 //!
-//! Which design a network of an expanded problem stands for, and when a design is one of least
-//! cost.
-//!
-//! The definitions are in `specs/`, over those of `plan_rules`. `Folded` has a design as lists, and
-//! the design of a network. `Least` says when no design of the plant over its periods costs less.
-//! Designs and what they cost are defined in `Design` of `plan_rules`, which mentions only the
-//! plant and its periods.
+//! `Design` says what a design of the plant over its periods is and costs. It mentions only the
+//! plant and its periods, and not the expanded problem. `Folded` has a design as lists, and the
+//! design that a network of the expanded problem stands for. `Least` says when no design of the
+//! plant over its periods costs less.
 #![tactic(auto)]
 
 /// A kind of fault of a plan. The variants are in the order of their numbers, 1 to 12. The whole

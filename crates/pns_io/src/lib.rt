@@ -9,13 +9,17 @@
 //! `MemShelf` and `MemSink` are exact, and fail at the calls that are given to them. `PlainShelf`
 //! and `PlainSink` never fail. `FileShelf` has the files of the system and the standard input, and
 //! `OutSink` is the standard output or the standard error; their states say nothing but their
-//! counts. [`Outputs`] has the two sinks of a call.
+//! counts. [`Outputs`] has the two sinks of a call. Only [`read_all`] and a new `MemSink` take
+//! memory.
 //!
-//! How far a search is, for those who wait for it.
+//! Those who wait for a search see how far it is. The search asks its [`Watch`] once a turn whether
+//! it is to report that, as a [`Progress`]. Nothing that is found depends on the answer, and no
+//! contract speaks of it. [`Effort`] is how many nodes a search may take, and who watches it;
+//! [`NoWatch`] is nobody.
 //!
-//! A search asks its [`Watch`] once a turn whether it is to report how far it is. Nothing that is
-//! found depends on the answer, and no contract speaks of it. [`Effort`] is how many nodes a search
-//! may take, and who watches it; [`NoWatch`] is nobody.
+//! Modules: `shelf` and `sink`; `whole_file`, with `read_all`; `named_file`, files in memory by
+//! name; `mem_shelf`, `mem_sink`, `plain_shelf`, `plain_sink`, `file_shelf` and `out_sink`, the
+//! shelves and sinks; `outputs`. `Watch` and what goes with it are below.
 #![tactic(auto)]
 
 mod file_shelf;

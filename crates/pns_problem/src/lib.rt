@@ -1,25 +1,23 @@
-//! Exactly valid parts make a problem, and its text is exact.
+//! Exactly valid parts make a problem, and its text is exact; a number makes a large problem.
 //!
-//! A synthesis problem is valid by its type. `Problem::build` judges parts, and names their first
+//! A synthesis problem is valid by its type. [`Problem::build`] judges parts, and names their first
 //! fault with the item that has it. A problem that was built keeps its names by number and is read
 //! by reference. It takes another price or yearly cost in place, gives its parts back as a copy,
-//! and prints its one canonical text. Amounts are whole millionths of the file's unit.
+//! and prints its one canonical text. Amounts are whole millionths of the file's unit. Contracts
+//! see materials, units, exclusions, parts and problems as the records of `problem_rules`, and
+//! names as lists of bytes.
 //!
-//! Contracts see materials, units, exclusions, parts and problems as the records of
-//! `problem_rules`, and names as lists of bytes. Modules: `material`, `term`, `unit`, `exclusion`
-//! (the items, each with its tests), `name` and `name_table`, `parts`, `fault`, `judge` (the first
-//! fault), `problem`, and for its text `amount` and `canonical`.
+//! [`generate`] makes a problem from a number and a count of units, the same on each machine. Draws
+//! of a linear congruence give prices, inputs, rates, costs and capacities; everything else is
+//! regular. There are three raw materials R0, R1 and R2, then a chain of intermediates M0, M1 and
+//! so on, one for each three units, and the product P, of which a network makes 10. The units take
+//! the stages of the chain in turn. Contracts say which problem it is with `problem_rules`: `Draws`
+//! (the states) and `Generated` (the problem).
 //!
-//! Large valid problems, made from a number.
-//!
-//! The same number and count of units give the same problem on each machine. Draws of a linear
-//! congruence give prices, inputs, rates, costs and capacities; everything else is regular. There
-//! are three raw materials R0, R1 and R2, then a chain of intermediates M0, M1 and so on, one for
-//! each three units, and the product P, of which a network makes 10. The units take the stages of
-//! the chain in turn.
-//!
-//! Contracts say which problem it is with `problem_rules`: `Draws` (the states) and `Generated`
-//! (the problem). Modules: `draws`, `materials`, `units`, and `problem` with what is public.
+//! Modules: `material`, `term`, `unit` and `exclusion` (the items, each with its tests); `name` and
+//! `name_table`; `parts`, `fault` and `judge` (the first fault); `problem`; `amount` and
+//! `canonical` (its text); `draws`, `materials`, `units` and `generator_problem` (problems from a
+//! number).
 #![tactic(auto)]
 
 mod amount;

@@ -1,21 +1,20 @@
 //! A ranking is accepted exactly if it is ranked, else its first fault comes.
 //!
+//! A ranking is a [`RankText`]: its networks, best first, with the tree that proves that no other
+//! is better. The tree is an ordinary [`branch_tree::Tree`], in which a leaf that names a network
+//! is an open leaf. With the tree there is a [`Mark`] for each open leaf, in preorder. It says that
+//! the leaf is open, or which network it names and how. So the code that reads, prints or judges
+//! trees serves ranked trees too. Contracts see a `RankText` as the record of its parts. `Marked`
+//! of `rank_rules` says which ranking it is.
+//!
 //! The checker trusts nobody. [`check_rank`] names the first network, or the first node in
 //! preorder, that fails, and why. [`judge_networks`] judges the networks alone. The checker of
 //! branch trees walks the tree, and gives the open leaves before the first node that fails. Each of
 //! these is then judged by its mark.
 //!
-//! Modules: `networks` judges the list of networks, `leaf` a leaf that names one, `marks` the open
-//! leaves, and `check` all.
-//!
-//! Ranked trees as values: the networks, best first, with the tree that proves that no other is
-//! better.
-//!
-//! The tree is an ordinary [`branch_tree::Tree`], in which a leaf that names a network is an open
-//! leaf. With the tree there is a [`Mark`] for each open leaf, in preorder. It says that the leaf
-//! is open, or which network it names and how. So the code that reads, prints or judges trees
-//! serves ranked trees too. Contracts see a [`RankText`] as the record of its parts. `Marked` of
-//! `rank_rules` says which ranking it is.
+//! Modules: `mark` and `text`, the values; `networks` judges the list of networks, with their
+//! `order`; `leaf` judges a leaf that names one, `marks` the open leaves, and `check` all;
+//! `refusal`.
 #![tactic(auto)]
 
 mod check;

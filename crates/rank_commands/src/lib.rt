@@ -1,19 +1,17 @@
-//! The commands on the best networks and the tree that proves them: `rankcheck`.
+//! The commands `rank`, `alternatives` and `rankcheck`: the best networks and their proof.
 //!
-//! It reads the problem of a file and the ranking of another. Its contract says which text is
-//! printed with which status. In `studio_rules`, `Rankcheck` has what is printed, and `RankWords`
-//! the word of each cause for which a ranked tree is refused.
+//! [`rank`] prints as many of the best networks of a problem as are asked for, with the tree that
+//! proves it. [`alternatives`] leaves out those that are another one with something idle.
+//! [`rankcheck`] reads the problem of a file and the ranking of another, and prints whether the
+//! tree of the ranking proves it.
 //!
-//! Modules: `rank_file`, the ranking of a file; `judge`, whether the tree of a ranking proves it;
-//! `words`, why it does not.
+//! The contract of each says which text is printed with which status. In `studio_rules`, `Rank`,
+//! `Alternates` and `Rankcheck` have what is printed, and `RankWords` the word of each cause for
+//! which a ranked tree is refused.
 //!
-//! The commands `rank` and `alternatives`: the best networks of a problem.
-//!
-//! [`rank`] prints as many of them as are asked for, with the tree that proves it. [`alternatives`]
-//! leaves out those that are another one with something idle. `Rank` and `Alternates` of
-//! `studio_rules` say which lines are printed with which status.
-//!
-//! Modules: `ranking`, the text of what was found; `command` and `alternates`, the commands.
+//! Modules: `command` and `alternates`, the commands that search; `ranking`, the text of what was
+//! found; `rank_file`, the ranking of a file; `judge`, the command `rankcheck`; `words`, why a
+//! ranking is refused.
 #![tactic(auto)]
 
 mod alternates;

@@ -1,46 +1,37 @@
-//! Exact numbers of a network; that the total is units plus materials has no clause.
+//! Exact numbers and tables of a network; that the total is units plus materials has no clause.
 //!
-//! They are, for one year, the costs of its units, the flows and costs of its materials, and their
-//! sums, all before any rounding. In `report_rules`, `Amounts` has each as a fraction. A [`Number`]
-//! is a fraction in lowest terms, with numerator and denominator of at most 127 bits. If a number
-//! that has to be formed for it has more bits, it is none, which is printed as `past`; so is each
-//! sum over it. `Number` of `report_rules` says how numbers are formed and printed: with six digits
-//! if they have more, or as a share in per cent. The gap to a lower bound is rounded up.
+//! The numbers are, for one year, the costs of a network's units, the flows and costs of its
+//! materials, and their sums, all before any rounding. In `report_rules`, `Amounts` has each as a
+//! fraction. A [`Number`] is a fraction in lowest terms, with numerator and denominator of at most
+//! 127 bits. If a number that has to be formed for it has more bits, it is none, which is printed
+//! as `past`; so is each sum over it. `Number` of `report_rules` says how numbers are formed and
+//! printed: with six digits if they have more, or as a share in per cent. The gap to a lower bound
+//! is rounded up.
 //!
-//! Modules: `number`, such fractions; `amounts`, the numbers of units and their sums; `costs`,
-//! those of materials; `marginals`, what one more of a material costs or of a size saves; `gap`,
-//! the gap to a lower bound; `ranks` and `changes`, what a network costs more than the first of a
-//! ranking, and its units against those of the first.
-//!
-//! A fraction's nearest decimal, of given places or six digits, halves away from 0.
-//!
+//! A fraction is printed as its nearest decimal, of given places or six digits, halves away from 0.
 //! `Decimal` of `report_rules` has the text. A fraction is rounded at most once. With given places,
 //! a `~` comes before a decimal that is not the fraction itself. With six digits there is no `~`. A
 //! quotient to be printed is divided by the factors of its divisor one after another. So no product
 //! of them is formed. A lower bound is rounded down.
 //!
-//! Modules: `places`, digits after the point; `signed`, a rounded number with its sign; `quotient`;
-//! `six`, six digits; `down`, six digits of a number that is rounded down.
-//!
-//! A network as tables of comma-separated fields, which a spreadsheet opens.
-//!
 //! [`unit_table`] has the units with their sizes and fixed costs, [`material_table`] the materials
-//! with what is left over of each. Their bytes are those of `Table` in `report_rules`, as the crate
-//! `csv` writes them. All sums are those by which the flows of a network are judged, so no sum
-//! overflows that did not overflow there. The numbers of other texts on a network come from
-//! [`size_at`] and [`flow_of`] too, and its materials from [`materials_in`].
+//! with what is left over of each, as comma-separated fields, which a spreadsheet opens. Their
+//! bytes are those of `Table` in `report_rules`, as the crate `csv` writes them. All sums are those
+//! by which the flows of a network are judged, so no sum overflows that did not overflow there. The
+//! numbers of other texts on a network come from [`size_at`] and [`flow_of`] too, and its materials
+//! from [`materials_in`].
 //!
-//! Modules: `rows`, records by the writer of `csv`; `sizes` and `flows`, the numbers; `units` and
-//! `materials`, the tables.
+//! [`Marginals`] say what one more of each of a network's materials costs, and what one more of
+//! each size saves. They come from multipliers of least flows for its units. `Marginal` of
+//! `report_rules` has what they mean. [`marginals_of`] gives them, or says that a number overflows.
 //!
-//! A network's marginals, by least flows.
-//!
-//! They say what one more of each of its materials costs, and what one more of each size saves.
-//! They come from multipliers of least flows for its units. `Marginal` of `report_rules` has what
-//! they mean. [`marginals_of`] gives them, or says that a number overflows. The crates that print
-//! them do not know where they come from.
-//!
-//! Modules: `network`, the call.
+//! Modules of numbers: `number`, such fractions; `amounts`, the numbers of units and their sums;
+//! `costs`, those of materials; `sizes` and `flows`; `gap`, the gap to a lower bound; `ranks` and
+//! `changes`, what a network costs more than the first of a ranking, and its units against those of
+//! the first; `marginals`, what one more costs or saves, and `network`, which finds it. Modules of
+//! decimals: `places`, digits after the point; `signed`, a rounded number with its sign;
+//! `quotient`; `six`, six digits; `down`, six digits of a number that is rounded down. Modules of
+//! tables: `rows`, records by the writer of `csv`; `units` and `materials`, the tables.
 #![tactic(auto)]
 
 mod amounts;

@@ -1,24 +1,22 @@
-//! The report of a network as exact tables. They show its units, its materials and its money for
-//! one year.
+//! The report of a network as exact tables, and the bounds that clash if there is none.
 //!
-//! In `report_rules`, `Report` has the lines, with the numbers of `report_amounts`. `Aligned` has
-//! the lines of any table with aligned columns. [`report_of`] gives their bytes. `Ranked` has the
-//! table of a ranking, and [`ranking_of`] gives it with the report of the first network.
-//!
-//! Modules: `measures`, the units of measure of headings; `plant`, a problem with these; `row`,
-//! `column`, `line` and `table`, aligned tables; `cells`, more cells in a row; `limits`, whether a
-//! number is at a bound; `tables`, a table with an empty line after it; `units`, `materials` and
-//! `money`, the three tables; `foot`; `text`, the whole; `ranking`, the table of a ranking.
-//!
-//! The bounds that clash.
+//! The report shows the units of a network, its materials and its money for one year. In
+//! `report_rules`, `Report` has the lines, with the numbers of `report_amounts`. `Aligned` has the
+//! lines of any table with aligned columns. [`report_of`] gives their bytes. `Ranked` has the table
+//! of a ranking, and [`ranking_of`] gives it with the report of the first network.
 //!
 //! If a tree proves that no network meets the bounds, the multipliers of each of its refuted leaves
 //! use some of them. `Clash` of `report_rules` has the lines, and [`clashes_of`] gives their bytes.
 //! The checker gives the leaves of a copy of the tree in which all leaves are open, and so the node
 //! of each leaf.
 //!
-//! Modules: `opened`, such a copy; `leaves`, the refuted leaves; `left`, what multipliers leave of
-//! a cost; `bounds`, the lines of bounds; `text`, the whole.
+//! Modules of the report: `measures`, the units of measure of headings; `plant`, a problem with
+//! these; `row`, `column`, `line` and `table`, aligned tables; `cells`, more cells in a row;
+//! `limits`, whether a number is at a bound; `tables`, a table with an empty line after it;
+//! `units`, `materials` and `money`, the three tables; `foot`; `text`, the whole; `ranking`, the
+//! table of a ranking. Modules of what clashes: `opened`, the copy of the tree; `leaves`, the
+//! refuted leaves; `left`, what multipliers leave of a cost; `bounds`, the lines of bounds;
+//! `clash_text`, the whole.
 #![tactic(auto)]
 
 mod bounds;

@@ -1,31 +1,33 @@
-//! The tree of a search while it grows, and the branch tree that it makes.
+//! The tree of a search while it grows, the branch tree that it makes, and laws of turns.
 //!
 //! A search adds nodes in the order in which it meets them, with the children of a node in a row. A
 //! [`Cell`] is such a node, kept in a `Pool`. What has to hold of the cells is said of each cell by
 //! itself (`Fits`). [`nodes_in_preorder`] makes the branch tree, which then passes: no walk is a
 //! recursion, and no fact of the search relates two nodes.
 //!
+//! Nodes below a node have no cheaper relaxed flows. At a reduced node the units that are not left
+//! out form a solution structure. A material that is still to decide has two options or more, and
+//! so a lean tree has few nodes. `specs/SearchLaws` has these laws, over the definitions of
+//! `pns_rules`, `flow_rules` and `tree_rules`.
+//!
+//! A turn branches a cheapest leaf, or shuts leaves, and keeps what a search keeps. The tree of
+//! such a search is lean. It is accepted if no leaf is open, and spent if its budget does not last
+//! for the next branch. `specs/TurnLaws` has these laws: `Values` says what the value of a node is,
+//! `Kept` what a search keeps between two turns, and `Turns` what a turn does.
+//!
+//! Each law is the contract of a function that does nothing; a proof elsewhere calls it to have the
+//! law.
+//!
+//! Modules:
+//!
 //! - `cell`: `Cell`
 //! - `growth`: a leaf becomes a branch, and its children are added
 //! - `shut`: what an open leaf ends with in a tree
 //! - `walk`: the cells in preorder
 //! - `laws`: what holds of the tree if each cell fits
-//!
-//! Laws: children cost no less, and units left at a reduced node are a structure.
-//!
-//! Nodes below a node have no cheaper relaxed flows. At a reduced node the units that are not left
-//! out form a solution structure. A material that is still to decide has two options or more, and
-//! so a lean tree has few nodes. `specs/Laws` has the laws, over the definitions of `pns_rules`,
-//! `flow_rules` and `tree_rules`. Each law is the contract of a function that does nothing; a proof
-//! elsewhere calls it to have the law. Modules: `values`, `nodes` and `counts`.
-//!
-//! Branching a cheapest leaf, or shutting leaves, keeps what a search keeps.
-//!
-//! The tree of such a search is lean. It is accepted if no leaf is open, and spent if its budget
-//! does not last for the next branch. `specs/Laws` has the laws, over the cells of `search_tree`:
-//! `Values` says what the value of a node is, `Kept` what a search keeps between two turns, and
-//! `Turns` what a turn does. Each law is the contract of a function that does nothing; a proof
-//! elsewhere calls it to have the law. Modules: `turns` laws of turns, `trees` laws of the tree.
+//! - `values`, `nodes` and `counts`: laws of nodes
+//! - `turns`: laws of turns
+//! - `trees`: laws of the tree between turns
 #![tactic(auto)]
 
 mod cell;

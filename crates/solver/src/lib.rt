@@ -1,7 +1,6 @@
 //! All searches over the simplex method.
 //!
-//! `abb_search`, `rank_search` and `distinct_search` take any evaluator of nodes. Here that is
-//! `flow_evaluator`.
+//! `abb_search` and `rank_search` take any evaluator of nodes. Here that is `flow_evaluator`.
 //!
 //! [`search`] runs to the end, [`search_against`] looks for a network cheaper than a given one,
 //! [`search_watched`] reports how far it is, and a [`Search`] is taken turn by turn. A search that
@@ -11,7 +10,7 @@
 //!
 //! [`rank`] and [`rank_watched`] search for as many best networks as are asked for,
 //! [`alternatives_watched`] for the best plants that really differ. Their answers are those of
-//! `rank_search` and `distinct_search` (`Ranked`).
+//! `rank_search` (`Ranked`).
 //!
 //! Modules: `workspace` what the searches work with; `anew` the start with charges; `whole` the
 //! search for one network; `turns` the same turn by turn; `rankings` those for more than one.

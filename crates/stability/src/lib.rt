@@ -7,7 +7,7 @@
 //! Each value that it looks at costs one search against the network, in one copy of the problem. No
 //! search is needed between two values at which the network is optimal, since the difference of two
 //! costs is a straight line. None is needed on a side on which the network's cost rises as little
-//! as any structure's can. `stability_rules` and `specs/Refusal` have what is promised.
+//! as any structure's can. `Range` of `report_rules` and `specs/Refusal` have what is promised.
 //!
 //! Modules: `setting` the problem with another value in the spot; `case` a network and a spot;
 //! `desk` the problem with one value after the other; `costs` what flows cost; `probe` a search at

@@ -1,40 +1,27 @@
-//! The commands on the solution structures of a problem: `max`, `axioms` and `list`.
+//! The commands on a plant, its structures and its flows: what each prints, and with which status.
 //!
-//! Each reads the problem of a file. Its contract says which text is printed with which status.
-//! What each prints is in a file of `studio_rules`: `Max`, `Axioms` and `Listing`.
-//! `specs/ListingLaws` says that a listing may be printed in parts.
+//! - `max` prints the maximal structure, `axioms` whether named units are a solution structure, and
+//!   `list` the clash-free solution structures.
+//! - `lint` prints what looks odd in a plant.
+//! - `edit` applies a script, `undo` prints the script that leads back, `migrate` turns yearly
+//!   costs into investments, and `make` prints a problem out of numbers.
+//! - `flows` prints least flows of named units with multipliers that prove them, and `check`
+//!   whether a tree proves its claim.
 //!
-//! Modules: `max`, the maximal structure; `axioms`, whether named units are a solution structure;
-//! `list`, the clash-free solution structures.
+//! All but `make` read the problem of a file. The contract of each says which text is printed with
+//! which status. What it prints is in a file of `studio_rules`: `Max`, `Axioms`, `Listing`, `Lint`,
+//! `Edits`, `Migrate`, `Make`, `Flows` or `Check`. `Best` says what it means that a tree is
+//! accepted. `specs/ListingLaws` says that a listing may be printed in parts.
 //!
-//! The warnings of a plant as text: exactly those of `lint_rules`, in the order of its lines.
-//!
-//! [`lint_text`] goes once over the lines of a text that have a meaning (`line`), asks which item
+//! [`lint_text`] gives the warnings of a plant: exactly those of `report_rules`, in the order of
+//! its lines. It goes once over the lines of a text that have a meaning (`line`), asks which item
 //! of the problem a line is of (`item`), tries each kind of warning at it (`plant`, by the tests of
 //! `material`, `unit` and `exclusion`), and appends two lines for each that is due (`text`,
 //! `words`).
 //!
-//! The command `lint`: what looks odd in a plant.
-//!
-//! It reads the plant of a file. Its contract says which text is printed with which status; what it
-//! prints is in `Lint` of `studio_rules`, over `lint_rules`.
-//!
-//! The commands that change or make a problem: `edit`, `undo`, `migrate` and `make`.
-//!
-//! Each prints the text of a problem or of a script. Its contract says which text is printed with
-//! which status. What each prints is in `studio_rules`: `Edits`, `Migrate` and `Make`.
-//!
-//! Modules: `edits`, a script applied and undone; `migrate`, yearly costs turned into investments;
-//! `make`, a problem out of numbers.
-//!
-//! The commands on flows and what proves them: `flows` and `check`.
-//!
-//! Each reads the problem of a file. Its contract says which text is printed with which status. In
-//! `studio_rules`, `Flows` has what is printed of the flows of named units, and `Check` what is
-//! printed of a tree. `Best` says what it means that a tree is accepted.
-//!
-//! Modules: `flows`, least flows with multipliers that prove them; `check`, whether a tree proves
-//! its claim.
+//! Modules: `max`, `axioms`, `list`, `edits` (`edit` and `undo`), `migrate`, `make`, `flows` and
+//! `check`, the commands; `command`, the command `lint`; `line`, `item`, `plant`, `material`,
+//! `unit`, `exclusion`, `text` and `words`, its warnings.
 #![tactic(auto)]
 
 pub mod axioms;

@@ -1,4 +1,4 @@
-//! Each later clash-free structure comes once, in order.
+//! Each later clash-free structure comes once, in order; the maximal structure is exact.
 //!
 //! A listing may begin after any solution structure. A [`StructureList`] keeps the turns not yet
 //! taken (`stack`): at each turn at which a unit was left out, the position that takes it in. The
@@ -7,28 +7,28 @@
 //! test, and one test finds what is kept without it (`turns`). Without exclusions no decision is
 //! taken back on the way to a structure, which costs at most two tests for each unit of the maximal
 //! structure. With exclusions a partial decision is given up as soon as two of its units exclude
-//! each other. `token` has the words that stand for sets of units.
-//!
-//! The maximal structure of a graph, exactly.
-//!
-//! [`maximal`] first leaves out units that no solution structure can have, material by material,
-//! until a material of what is left has a maker exactly if it is not raw (`balance`). Then it keeps
-//! the units that lead to a product. If what is left has every product, it is the union of all
-//! solution structures, clash-free or not, and is one itself. Else there is none. [`viable`] says
-//! whether some solution structure takes some units in and leaves others out.
-//!
-//! From such a set, [`left_out`] finds what is left without one unit; it looks only at the
-//! materials that lose their last maker (`leaving`). Both count one step in the caller's [`Steps`],
-//! and [`without_unit`] does the same uncounted. No call takes memory.
-//!
-//! Structures are ordered as their traces are; the next decision is exact.
+//! each other.
 //!
 //! Decisions say which units make the needed materials, material by material and unit by unit. A
 //! [`Decided`] takes the materials in the order of a trace: the least needed one that is not done
 //! comes first. A [`Position`] goes on unit by unit: within a material the greatest number comes
 //! first. Of two structures that agree up to a [`Turn`], the one without its unit comes first. So
-//! [`compare_traces`] follows the turns to the first unit in which two structures differ. No call
-//! takes memory.
+//! [`compare_traces`] follows the turns to the first unit in which two structures differ.
+//!
+//! [`maximal`] gives the maximal structure. It first leaves out units that no solution structure
+//! can have, material by material, until a material of what is left has a maker exactly if it is
+//! not raw (`balance`). Then it keeps the units that lead to a product. If what is left has every
+//! product, it is the union of all solution structures, clash-free or not, and is one itself. Else
+//! there is none. [`viable`] says whether some solution structure takes some units in and leaves
+//! others out. From such a set, [`left_out`] finds what is left without one unit; it looks only at
+//! the materials that lose their last maker (`leaving`). Both count one step in the caller's
+//! [`Steps`], and [`without_unit`] does the same uncounted.
+//!
+//! Only [`print_token`] takes memory.
+//!
+//! Modules: `list`, `stack`, `search` and `turns` (a listing); `decided`, `position`, `turn` and
+//! `compare` (decisions and their order); `balance`, `union` and `leaving` (the maximal structure
+//! and the tests); `steps` (a count of tests); `token` (the words that stand for sets of units).
 #![tactic(auto)]
 
 mod balance;

@@ -6,9 +6,9 @@
 //! the bytes that the shelf has. Each status has its cause; only that memory runs out is left open.
 //! The definitions of all this are in `studio_rules`.
 //!
-//! `studio_words` reads the words. The commands are in crates of their own with `commands`,
-//! `searches` or `shows` in their names, over the files of `command_files`. Modules: `call`, which
-//! calls the commands; `laws`.
+//! `studio_words` reads the words. The commands are in `searches` and in crates of their own with
+//! `commands` in their names, over the files of `command_files`. Modules: `call`, which calls the
+//! commands; `laws`.
 #![tactic(auto)]
 
 mod call;

@@ -1,33 +1,30 @@
-//! The words of a call, and the command that they are.
+//! The words of a call and their command, the help pages, and the second lines of refusals.
 //!
 //! [`command_of`] gives a command exactly if the words have a form. `Command` of `studio_rules` has
 //! the forms, and the ranges of a command's numbers.
 //!
-//! Modules: `command`, the commands; `file_words`, words that are files; `merging`, the words of
-//! `merge`; `unit_names`, the word UNITS; `number`, numbers in words.
+//! Help is what the program says of itself: the commands on one screen, a page on each command and
+//! on the statuses, its version. Each page of a command is in `studio_rules` as lines, and in the
+//! code as bytes; the contracts say that they agree. The pages on formats and faults are one
+//! constant there, `TOPIC_PAGES`. `Pages` has the topics. A new command gets an entry in it, a line
+//! in `Overview` and a page in the file of its kind, and the same in the code. `tools/help write`
+//! then writes the manual page and the completions anew, and says what does not agree.
 //!
-//! What the program says of itself: the commands on one screen, a page on each command and on the
-//! statuses, its version.
+//! Second lines follow the first line of a refusal, for people: what was wrong, in which place, and
+//! how to mend it. [`Notes`] has the lines. Contracts promise their shape, `Seconds` of
+//! `studio_rules`: they are printable, after two blanks. Their wording has no clause, and no caller
+//! decides by it. If memory is refused, a note is left out, and the call goes on.
 //!
-//! Each page of a command is in `studio_rules` as lines, and in the code as bytes; the contracts
-//! say that they agree. The pages on formats and faults are one constant there, `TOPIC_PAGES`.
-//! `Pages` has the topics. A new command gets an entry in it, a line in `Overview` and a page in
-//! the file of its kind, and the same in the code. `tools/help write` then writes the manual page
-//! and the completions anew, and says what does not agree.
+//! Modules of words: `command`, the commands; `file_words`, words that are files; `merging`, the
+//! words of `merge`; `unit_names`, the word UNITS; `number`, numbers in words.
 //!
-//! Modules: `overview`; `pages`, the page on each topic; `structures`, `flows`, `reports`,
+//! Modules of help: `overview`; `pages`, the page on each topic; `structures`, `flows`, `reports`,
 //! `searches`, `ranks`, `parts`, `edits`, `plans`, `program`, the pages.
 //!
-//! Second lines, printable, after two blanks; their wording has no clause.
-//!
-//! They follow the first line of a refusal, for people: what was wrong, in which place, and how to
-//! mend it. [`Notes`] has the lines. Contracts promise their shape, `Seconds` of `studio_rules`. No
-//! caller decides by their wording. If memory is refused, a note is left out, and the call goes on.
-//!
-//! Modules: `notes`, the lines; `cut`, pieces of a text; `nearest`, the known word that is nearest
-//! to another; `form`, the form of a command and the first word that does not fit it; `call_words`,
-//! `faults` and `reasons`, what is said of words, of a text with a fault, and of the other
-//! refusals.
+//! Modules of second lines: `notes`, the lines; `cut`, pieces of a text; `nearest`, the known word
+//! that is nearest to another; `form`, the form of a command and the first word that does not fit
+//! it; `call_words`, `faults` and `reasons`, what is said of words, of a text with a fault, and of
+//! the other refusals.
 #![tactic(auto)]
 
 mod call_words;

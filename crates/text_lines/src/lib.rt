@@ -1,6 +1,6 @@
 //! Lines, names, terms and numbers are read exactly by the grammar.
 //!
-//! The grammar is that of `text_rules`, or of `script_rules` for what only the other texts have,
+//! The grammar is that of `text_rules`, or of `edit_rules` for what only the other texts have,
 //! and each call answers in its words. All that a call hands out borrows from the text.
 //!
 //! `lines` reads a text line by line, `line` gives what is before and after a mark in a line, and

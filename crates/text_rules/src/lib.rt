@@ -1,22 +1,20 @@
-//! The text of a plant: its lines and faults, its problem, its canonical text.
+//! The text of a plant: its faults, problem and canonical text; the states of shelves and sinks.
 //!
 //! The format is PNS_problem_v1. `specs/` states it from the bytes up: `Blanks`, `Amount`
-//! (numbers), `Line` (lines and sections), `Field` (names, items and sides of a line), `Fault`
-//! (faults of form), `Value` (the problem, and faults of meaning), `Printed` and `Canonical` (what
-//! is written). `read_text` of `Value` gives the problem of a text, or the first fault with its
-//! line. `proofs/` reads small texts by computation, at least one for each kind of fault. `Outside`
-//! says what is known of files and of an output.
+//! (numbers), `Line` (lines and sections), `Field` (names, items and sides of a line), `Term` (the
+//! terms of a side), `Fault` (faults of form), `Value` (the problem, and faults of meaning),
+//! `Printed` and `Canonical` (what is written). `read_text` of `Value` gives the problem of a text,
+//! or the first fault with its line. `proofs/` reads small texts by computation, at least one for
+//! each kind of fault.
 //!
 //! The whole text is first searched for a fault of form. Faults of meaning (`LowAboveHigh`,
 //! `UnknownMaterial`, `NoRates`, `NoProduct`, `UnknownUnit`) count only if there is no fault of
 //! form. In each group the fault of the first line is reported, and of the faults at one line the
 //! first in the order of [`TextKind`].
 //!
-//! The states of a shelf, a sink and two outputs.
-//!
-//! They are what the program knows of the world outside it. A shelf holds files by name, and a sink
-//! takes bytes; the state of each is one value. `specs/` has `State`. `Outside` of `text_rules`
-//! says when a count of faults has risen, and what a read gives of a file. The contracts of
+//! What the program knows of the world outside it is here too. A shelf holds files by name, and a
+//! sink takes bytes; the state of each is one value (`State`). `Outside` says when a count of
+//! faults has risen, what a read gives of a file, and what a sink has taken. The contracts of
 //! `pns_io` and of the commands speak of a state before a call and after it.
 #![tactic(auto)]
 

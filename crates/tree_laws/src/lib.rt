@@ -1,26 +1,13 @@
-//! An accepted tree proves its claim, a partial tree but for its open leaves.
+//! An accepted tree, with a head or not, proves its claim; a partial one but for open leaves.
 //!
 //! No clash-free solution structure undercuts an accepted claim, and what is claimed has flows.
 //! Other laws say how many nodes a lean tree has at most, and that a tree passes or has one first
 //! fault, never both. They are the same for each way to branch, since the families of the children
 //! split the family of their node.
 //!
-//! The lemmas in `proofs/` are over any leaves: `P` says which pass, and `F` for which cause one
-//! fails (`AreLeafRules`). The laws are in `specs/Laws`, over the definitions of `tree_rules`. Each
-//! is the contract of a function without a body. A proof elsewhere calls the function to use the
-//! law.
-//!
-//! An accepted tree with a head proves its claim, a partial one but for its open leaves.
-//!
 //! The lines of a head bound sizes and leave units out, and the tree is judged with what they say.
-//! What the head rules out costs no less than what is claimed. So no clash-free solution structure
-//! undercuts an accepted claim, also none that the head rules out. A tree without a head is one
-//! whose head has no lines.
-//!
-//! The laws are in `specs/Laws`, over the definitions of `head_rules`. Each is the contract of a
-//! function without a body. A proof elsewhere calls the function to use the law.
-//!
-//! What a tree for a plant with smaller units says of the plant itself.
+//! What the head rules out costs no less than what is claimed. So the claim is not undercut by a
+//! structure that the head rules out either. A tree without a head is one whose head has no lines.
 //!
 //! A capped plant is the plant but for the greatest sizes of units, and none is greater than it
 //! was. A node's relaxed flows of the capped plant are relaxed flows of the plant, and cost no more
@@ -28,8 +15,14 @@
 //! or has a bound, is made one that charges its node by the same multipliers: then the facts of a
 //! head can take the place of the smaller sizes.
 //!
-//! The definitions are in `specs/`: `Capped`, `Recharged` and `Laws`. Each law is the contract of a
-//! function without a body.
+//! Each law is the contract of a function without a body. A proof elsewhere calls the function to
+//! use the law. In `specs/`, `Laws` has the laws of trees, over the definitions of `tree_rules`,
+//! `HeadLaws` those of trees with a head, over `head_rules`, and `CappingLaws` those of capped
+//! plants; `Capped` and `Recharged` define what the last ones speak of. The lemmas in `proofs/` are
+//! over any leaves: `P` says which pass, and `F` for which cause one fails (`AreLeafRules`).
+//!
+//! Modules: `ways` (children), `leaves` (open ones), `accepted`, `lean`, `faults`; `capped` and
+//! `recharged` (capped plants). The laws of trees with a head are below.
 #![tactic(auto)]
 
 ghost use Rattle.tree_laws.specs.HeadLaws.{EmptyHeadProves, EmptyHeadFails, AcceptedByIsLeast};

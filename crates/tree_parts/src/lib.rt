@@ -2,35 +2,30 @@
 //!
 //! [`open_leaves`] judges a tree that may have open leaves. It gives these in preorder, each with
 //! the node that its steps leave, from which a search in parts goes on. [`is_sound`] decides
-//! whether a search may begin at a node. [`check_part`] judges what a run from such a node found,
-//! and [`merge`] puts it in the place of the open leaf. [`merge_all`] puts several parts back in
-//! turn.
-//!
-//! Modules: `sound`, `open`; `part`, what a run found; `copies` of nodes and networks; `merging`;
-//! `waiting`, parts that wait for their places; `splicing`, which puts them there in one pass; and
-//! `several`.
-//!
-//! A part in its leaf's place proves the cheaper claim; parts of different nodes have any order.
+//! whether a search may begin at a node. [`check_part`] judges what a run from such a node found, a
+//! [`Part`], and [`merge`] puts it in the place of the open leaf. [`merge_all`] puts several parts
+//! back in turn.
 //!
 //! The list of the open leaves has each of them with its node. A part in the place of an open leaf
-//! makes one whole tree, which proves the claim of both, and leaves the other leaves open.
+//! makes one whole tree, which proves the cheaper claim of the two, and leaves the other leaves
+//! open. Parts of different nodes may be put back in any order. `specs/Laws` and `specs/Order`
+//! state these laws, over the definitions of `tree_rules` and `tree_text_rules`.
 //!
-//! The laws are in `specs/Laws` and `specs/Order`, over the definitions of `tree_rules` and
-//! `part_rules`. Each is the contract of a function without a body. A proof elsewhere calls the
-//! function to use the law.
+//! The text PNS_part_v1 of a part has the node at which the part's run began, by the tokens of the
+//! units taken in and of those left out. After these it has what a tree text has after its first
+//! line. [`print_part`] writes the one text of a part. [`read_part`] gives the part that a text
+//! stands for, or its first fault. The text of a part reads back as the part, and what a text
+//! stands for has no other text. No text stands for two parts or has two first faults
+//! (`specs/PartLaws`). In `tree_text_rules`, `PartSpelling` has the text, and `PartRead` what a
+//! text stands for.
 //!
-//! The text PNS_part_v1 of a part.
+//! Each law is the contract of a function that does nothing. A proof elsewhere calls the function
+//! to use the law.
 //!
-//! It has the node at which the part's run began, by the tokens of the units taken in and of those
-//! left out. After these it has what a tree text has after its first line.
-//!
-//! [`print_part`] writes the one text of a part. [`read_part`] gives the part that a text stands
-//! for, or its first fault. The text of a part reads back as the part, and what a text stands for
-//! has no other text. No text stands for two parts or has two first faults. [`laws`] has these laws
-//! (`specs/Laws`) as contracts of functions that do nothing.
-//!
-//! In `part_rules`, `Spelling` has the text, and `Read` what a text stands for. Modules: `print`;
-//! `set`, the sets of units that tokens and lines stand for; `read`.
+//! Modules: `sound`, `open`; `part`, what a run found; `copies` of nodes and networks; `merging`;
+//! `waiting`, parts that wait for their places; `splicing`, which puts them there in one pass;
+//! `several`; `laws`. Modules of the text: `print`; `set`, the sets of units that tokens and lines
+//! stand for; `read`; `part_laws`.
 #![tactic(auto)]
 
 mod copies;

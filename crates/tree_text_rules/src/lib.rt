@@ -1,21 +1,19 @@
-//! The text PNS_tree_v1 of branch trees as definitions.
+//! The texts of branch trees and of their parts, and how a part is put back, as definitions.
 //!
-//! A text without a fault stands for a claim, a tree and a tail, and each of these has one text. In
-//! `specs/`: `Line` (lines, tokens, first words); `Spelling` (the lines of each value, and the
-//! whole text); `Token` (what a token stands for at its place); `LineRead` (what a line stands
-//! for); and `Read`. There `read_text` gives what a text stands for, or its first fault with its
-//! line, and other definitions do the same for parts of a text. `read_headed_text` reads a text in
-//! which the lines of a head may come before the first node; it is not used yet. `proofs/` reads
-//! and spells small texts by computation.
+//! The text of a tree has the format PNS_tree_v1. A text without a fault stands for a claim, a tree
+//! and a tail, and each of these has one text. In `specs/`: `Line` (lines, tokens, first words);
+//! `Spelling` (the lines of each value, and the whole text); `Token` (what a token stands for at
+//! its place); `LineRead` (what a line stands for); and `Read`. There `read_text` gives what a text
+//! stands for, or its first fault with its line, and other definitions do the same for parts of a
+//! text. `read_headed_text` reads a text in which the lines of a head may come before the first
+//! node. `proofs/` reads and spells small texts by computation.
 //!
-//! What the parts of a branch tree are.
-//!
-//! A part is a tree for the node of an open leaf, which is put in the leaf's place. The definitions
-//! are in `specs/`, over those of `tree_rules`. `OpenLeaves` has the open leaves of a tree in
-//! preorder, `Graft` the tree and the claim when a part is put back, and `Part` what a run from a
-//! node found. `Merge` and `Several` say what is answered if one part, or several, are put back.
-//! Over `tree_text_rules`, `Spelling` has the one text PNS_part_v1 of a part, and `Read` what a
-//! text stands for. Their laws are those of `part_laws`.
+//! A part is a tree for the node of an open leaf, which is put in the leaf's place. `OpenLeaves`
+//! has the open leaves of a tree in preorder, `Graft` the tree and the claim when a part is put
+//! back, and `Part` what a run from a node found. `Merge` and `Several` say what is answered if one
+//! part, or several, are put back; [`MergeFault`] is why one is not. `PartSpelling` has the one
+//! text PNS_part_v1 of a part, and `PartRead` what a text stands for. The laws of parts are in
+//! `tree_parts`.
 #![tactic(auto)]
 
 mod merge_fault;
