@@ -5,7 +5,7 @@
 //! left out, and amounts of a material that are used at most. A [`Network`] has, by its type, one
 //! size for each unit. A [`Tail`] says at which node a search stopped.
 //!
-//! Contracts see them in the words of `tree_rules` and `head_rules`: a tree as its list of nodes, a
+//! Contracts see them in the words of `tree_rules` and `tree_rules`: a tree as its list of nodes, a
 //! network as its record, ends, claims and tails through `View`, and each [`HeadLine`] through
 //! `HeadView`. Only [`Scaled::of`] takes memory. What is built is read by reference, or given back
 //! in its parts.

@@ -19,7 +19,7 @@
 //! gives the first that does, counted from 0, and why. [`judge_line`] judges one line by what is
 //! known at its place, also for those who look for lines. A charge is formed anew, a step is judged
 //! as in a tree, and what can be of use of a unit is computed. Each is exact, by the definitions of
-//! `head_rules`.
+//! `tree_rules`.
 //!
 //! No call that judges one part or a head takes memory. A walk over a tree keeps a list of the
 //! nodes that are left, and has no recursion. So a tree of any depth costs its steps, one judgement

@@ -1,7 +1,7 @@
 //! A charge is exact, or names the first overflow; covers are exact.
 //!
 //! A charge is a bound of a node that lets a free unit owe its whole fixed cost or nothing. Its
-//! definition, and the laws that make it a bound, are in `charge_rules`. [`charge_of`] gives the
+//! definition, and the laws that make it a bound, are in `flow_rules`. [`charge_of`] gives the
 //! charge for a [`Charge`]: multipliers, and covers. If a number on the way overflows, it returns
 //! the place of the first, as a `PastSum`. [`Facts`] are what is known of sizes and uses, and they
 //! may ask what follows if so much of a material is used, a [`Demand`]. A [`Cover`] is a set of

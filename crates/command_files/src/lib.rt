@@ -18,11 +18,11 @@
 //! The words of causes say why a claim, a line at the head of a tree, or a node is refused. They
 //! are exact: `RefusalWords` of `studio_rules` has the word of each cause, and the lines of what is
 //! refused. [`say_node`] and [`tell_node`] put the line of a node, [`say_head`] that of a line of a
-//! head.
+//! head. [`rank_why_word`] and [`network_line`] do so of a ranking, as `RankWords` has them.
 //!
 //! Modules: `file`, the bytes of a file; `problem_file`, `script_file`, `plan_file` and
 //! `tree_file`; `status`, the numbers of the statuses; `line`, lines of names; `outputs`, bytes on
-//! one of the outputs; `say`, how lines are put; `words`, the words of causes.
+//! one of the outputs; `say`, how lines are put; `words` and `rank_words`, the words of causes.
 #![tactic(auto)]
 
 mod file;
@@ -30,6 +30,7 @@ pub mod line;
 pub mod outputs;
 mod plan_file;
 mod problem_file;
+mod rank_words;
 pub mod say;
 mod script_file;
 mod status;
@@ -39,6 +40,7 @@ mod words;
 pub use file::bytes_of;
 pub use plan_file::plan_of;
 pub use problem_file::{plant_of, problem_of};
+pub use rank_words::{network_line, rank_why_word};
 pub use script_file::edited_of;
 pub use status::code_of;
 pub use tree_file::{headed_of, say_tree_fault, tree_kind_word, tree_of};

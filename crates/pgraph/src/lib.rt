@@ -9,7 +9,7 @@
 //!
 //! A [`Cover`] is a set of units of which each structure of a node has one, with the weight that a
 //! charge of the node gives it. [`Covers`] are those of one charge. Contracts see them in the words
-//! of `charge_rules`.
+//! of `flow_rules`.
 //!
 //! Only [`Graph::of`] takes memory.
 //!

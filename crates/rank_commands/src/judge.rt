@@ -10,8 +10,7 @@ ghost use Rattle.studio_rules.specs.Keeps.{Keeps};
 ghost use Rattle.studio_rules.specs.declared.status.Status.TheVariants.{Done, Refused};
 
 use crate::rank_file::rank_of;
-use crate::words::rank_why_word;
-use command_files::problem_of;
+use command_files::{network_line, problem_of, rank_why_word};
 use command_files::say::{say, say_memory};
 use pgraph::{Graph, Site};
 use pns_io::{Outputs, Shelf, Sink};
@@ -23,18 +22,6 @@ use rank_text::read_ranks_are_spelled;
 use rank_check::RankText;
 use std::alloc::{AllocError, Global};
 use studio_rules::Status;
-
-/// The line on a network that fails.
-pub fn network_line(alloc: Global, number: u32, why: RankWhy) -> Result<String, AllocError>
-    ensures { IfOk result (λ text. string_bytes text ≡ line (network_line number why)) }
-{
-    let mut text = String::from_str(alloc, "refused network ")?;
-    write!(text, "{number}")?;
-    text.push(' ')?;
-    text.push_str(rank_why_word(why))?;
-    text.push('\n')?;
-    Ok(text)
-}
 
 fn node_line(alloc: Global, node: u32, why: RankWhy) -> Result<String, AllocError>
     ensures { IfOk result (λ text. string_bytes text ≡ line (rank_node_line node why)) }

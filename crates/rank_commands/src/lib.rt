@@ -10,8 +10,7 @@
 //! which a ranked tree is refused.
 //!
 //! Modules: `command` and `alternates`, the commands that search; `ranking`, the text of what was
-//! found; `rank_file`, the ranking of a file; `judge`, the command `rankcheck`; `words`, why a
-//! ranking is refused.
+//! found; `rank_file`, the ranking of a file; `judge`, the command `rankcheck`.
 #![tactic(auto)]
 
 mod alternates;
@@ -19,9 +18,7 @@ mod command;
 mod judge;
 mod rank_file;
 mod ranking;
-mod words;
 
 pub use alternates::alternatives;
 pub use command::rank;
-pub use judge::{accepted_are_best, network_line, rankcheck};
-pub use words::rank_why_word;
+pub use judge::{accepted_are_best, rankcheck};

@@ -15,7 +15,7 @@ use json_text::{
     bound_member, count_member, first_gap_member, first_of, networks_member, text_member,
 };
 use pgraph::Site;
-use rank_commands::rank_why_word;
+use command_files::rank_why_word;
 use rank_check::RankText;
 use report_rules::{LowerBound, RankVerdict};
 use std::alloc::{AllocError, Global};

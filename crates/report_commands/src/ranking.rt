@@ -19,7 +19,7 @@ use studio_words::{Format, Notes, Source, refused};
 use pgraph::{Graph, Site};
 use pns_io::{Outputs, Sink};
 use pns_problem::Problem;
-use rank_commands::network_line;
+use command_files::network_line;
 use rank_rules::RankWhy;
 use rank_text::read_rank;
 use verdicts::{RankUnjudged, rank_verdict_of};

@@ -10,7 +10,7 @@ ghost use Rattle.studio_rules.specs.RankReport.{rank_first_line};
 use branch_tree::Network;
 use network_commands::{push_gap_behind, push_low_words};
 use pns_problem::Problem;
-use rank_commands::rank_why_word;
+use command_files::rank_why_word;
 use rank_rules::RankWhy;
 use rank_check::{Asked, RankText};
 use report_rules::{LowerBound, RankVerdict};

@@ -3,6 +3,5 @@ mod LintsMaximal
 pub mod ListingParts
 pub mod ListingStart
 pub mod Listings
-pub mod Maximal
 pub mod Named
 mod Texts

@@ -17,7 +17,7 @@
 //!
 //! Each law is the contract of a function without a body. A proof elsewhere calls the function to
 //! use the law. In `specs/`, `Laws` has the laws of trees, over the definitions of `tree_rules`,
-//! `HeadLaws` those of trees with a head, over `head_rules`, and `CappingLaws` those of capped
+//! `HeadLaws` those of trees with a head, over `tree_rules`, and `CappingLaws` those of capped
 //! plants; `Capped` and `Recharged` define what the last ones speak of. The lemmas in `proofs/` are
 //! over any leaves: `P` says which pass, and `F` for which cause one fails (`AreLeafRules`).
 //!

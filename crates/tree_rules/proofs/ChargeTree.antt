@@ -1,6 +1,6 @@
 -- The example with U3 in or out (`EitherTree`) in three nodes in place of seven, each leaf by a
 -- charge. With the sizes that are found at a head it is one node: that is worked out in
--- `head_rules`.
+-- `tree_rules`.
 --
 -- If U3 is in, C and P are at 2. The row of P gives 2 * 20 = 40, U3 owes its 20 and U4 its 5. A
 -- size of U1 costs 2 + 1 and earns 2, and one of U2 costs 4 and earns 2: at size 0 they owe 10 and

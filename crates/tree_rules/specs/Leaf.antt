@@ -2,7 +2,7 @@
 -- multipliers, the claim and d are judged, then the numbers of the sum, then the comparison.
 --
 -- A leaf that charges its node charges with the problem's own numbers. Its rules are those of
--- `charge_rules`: what it hands in has to pass there, for the cost that is claimed here.
+-- `flow_rules`: what it hands in has to pass there, for the cost that is claimed here.
 use Rattle.std.specs.Prelude.{◌≡◌, ℕ, ℤ, pos, ◌≤ℤ◌, Bool, true, List, length, Option}
 use Rattle.std.specs.Prelude.{Some}
 use Rattle.std.specs.Prelude.{None}

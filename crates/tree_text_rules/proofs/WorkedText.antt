@@ -206,7 +206,7 @@ no_head : IsHeadedTextOf charges_text
 unfolding digits front_taken nodes_taken word_named
 no_head = (refl, refl)
 
--- the same tree as one node after a head: with trims alone, as `head_rules` has it worked out,
+-- the same tree as one node after a head: with trims alone, as `tree_rules` has it worked out,
 -- and with each form of a line
 abbrev trims : List HeadLine
 trims = step (sole 5 3) ∷ trim 3 ∷ trim 0 ∷ trim 1 ∷ trim 2 ∷ []

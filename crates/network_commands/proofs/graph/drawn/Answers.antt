@@ -2,7 +2,7 @@ use Rattle.std.proofs.Common.{option_map}
 use Rattle.number_sets.specs.Sets.{has}
 use Rattle.pns_rules.specs.Shape.{shape_of}
 use Rattle.pgraph.specs.Tables.{shape}
-use Rattle.structure_commands.proofs.Maximal.{maximal_from, none_from}
+use Rattle.studio_rules.proofs.Maximal.{maximal_from, none_from}
 use Rattle.network_commands.proofs.GraphLines.{graph_told, empty_told}
 use Rattle.network_commands.proofs.graph.drawn.Goals as goal
 

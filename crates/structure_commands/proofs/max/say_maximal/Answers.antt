@@ -9,7 +9,7 @@ use Rattle.studio_rules.specs.Ending.{Tells}
 use Rattle.studio_rules.specs.declared.status.Status.{Status}
 use Rattle.studio_rules.specs.declared.status.Status.TheVariants.{Done}
 use Rattle.command_files.proofs.Ending.{Ends-map, only_in, only_or_memory_in, two_lines}
-use Rattle.structure_commands.proofs.Maximal.{maximal_from, none_from}
+use Rattle.studio_rules.proofs.Maximal.{maximal_from, none_from}
 use Rattle.structure_commands.proofs.max.say_maximal.Goals as goal
 
 pub returns-in-Some : goal.returns-in-Some
